@@ -1,0 +1,10 @@
+pub mod Integer
+pub mod IntegerLaws
+pub mod Ring
+pub mod Bits
+pub mod Below
+pub mod BelowLaws
+pub mod Words
+pub mod WordsLaws
+pub mod Nearest
+pub mod NearestLaws
