@@ -1,0 +1,92 @@
+-- Document 01, "Numbers returned": the table, and what each answer returns. Assumes nothing.
+use Prim.Native.Nat.{ℕ}
+use lib.IntN.{ℤ, pos}
+use Rattle.rulebook.specs.declared.PriceAnswer.{PriceAnswer}
+use Rattle.rulebook.specs.declared.PriceAnswer.the-variants.{Priced, PriceRefused}
+use Rattle.rulebook.specs.declared.ShareAnswer.{ShareAnswer}
+use Rattle.rulebook.specs.declared.ShareAnswer.the-variants.{Shared, ShareRefused, OutputTooShort}
+use Rattle.rulebook.specs.declared.TrancheAnswer.{TrancheAnswer}
+use Rattle.rulebook.specs.declared.TrancheAnswer.the-variants.{Split, TrancheRefused}
+
+-- ---- The table
+
+abbrev pub accepted : ℕ
+accepted = 0
+
+-- opening, share, tranche or price parameter, or a list's length, outside its range; MEP and IEQ lists of unequal length
+abbrev pub outsideRange : ℕ
+outsideRange = 1
+
+-- opening: words fewer than the size
+abbrev pub wordsTooFew : ℕ
+wordsTooFew = 2
+
+-- submit, close: not well formed
+abbrev pub notWellFormed : ℕ
+notWellFormed = 3
+
+-- field or count not whole
+abbrev pub fieldNotWhole : ℕ
+fieldNotWhole = 4
+
+-- account, count or value of a file out of range
+abbrev pub fieldOutOfRange : ℕ
+fieldOutOfRange = 5
+
+-- day not open, or above 36,524
+abbrev pub dayNotOpen : ℕ
+dayNotOpen = 6
+
+-- row repeated in its section
+abbrev pub rowRepeated : ℕ
+rowRepeated = 7
+
+-- bytes after section 4
+abbrev pub bytesAfterEnd : ℕ
+bytesAfterEnd = 8
+
+-- C is 36,525
+abbrev pub bookFinished : ℕ
+bookFinished = 9
+
+abbrev pub outputTooShort : ℕ
+outputTooShort = 10
+
+abbrev pub datumAbsent : ℕ
+datumAbsent = 11
+
+-- no such date or month in 2000 to 2099, or day above 36,524
+abbrev pub noSuchDate : ℕ
+noSuchDate = 12
+
+-- holiday list not strictly ascending in 0 to 36,524
+abbrev pub badHolidays : ℕ
+badHolidays = 13
+
+-- calendar result past 36,524
+abbrev pub pastLastDay : ℕ
+pastLastDay = 14
+
+-- ---- The calls on no book: number and figures; refused, every figure is 0
+
+pub record PriceReturned : Type 0 where
+  pub number : ℕ
+  pub price : ℤ
+
+abbrev pub priceReturned : PriceAnswer → PriceReturned
+priceReturned (Priced v) = record { number = accepted; price = v }
+priceReturned PriceRefused = record { number = outsideRange; price = pos 0 }
+
+abbrev pub shareNumber : ShareAnswer → ℕ
+shareNumber Shared = accepted
+shareNumber ShareRefused = outsideRange
+shareNumber OutputTooShort = outputTooShort
+
+pub record TrancheReturned : Type 0 where
+  pub number : ℕ
+  pub tranche1 : ℤ
+  pub tranche2 : ℤ
+
+abbrev pub trancheReturned : TrancheAnswer → TrancheReturned
+trancheReturned (Split t u) = record { number = accepted; tranche1 = t; tranche2 = u }
+trancheReturned TrancheRefused = record { number = outsideRange; tranche1 = pos 0; tranche2 = pos 0 }
