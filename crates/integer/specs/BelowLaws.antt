@@ -9,13 +9,14 @@ use native.Mathlib.Numerals.{add-one}
 use native.Mathlib.Omega.{arith}
 use borrow.Author.Tests.{ltb-true, ltb-false}
 use lib.Dec.{ltb}
-use lib.IntN.{ℤ, pos, natAbs, _+ℤ_, _*ℤ_}
+use lib.IntN.{ℤ, pos, natAbs, _+ℤ_, _-ℤ_, _*ℤ_}
+use lib.Signed.{_≤ℤ_}
 use lib.ListN.{length, getD}
 use lib.Seq.{ext-getD}
 use Rattle.integer.specs.declared.Found.{Found}
 use Rattle.integer.specs.declared.Found.the-variants.{At, Nothing}
 use Rattle.integer.specs.Below.{fold, sumℕ, sumℤ, all, any, count, orElse, first, turns, tabulate}
-use Rattle.integer.specs.IntegerLaws.{abs-add}
+use Rattle.integer.specs.IntegerLaws.{abs-add, parts-le, le-parts, add-parts}
 use Rattle.integer.specs.Ring.{as-diff, diffs, ring}
 
 -- ---- Cases
@@ -75,6 +76,34 @@ unfolding fold
 sumℤ-add zero f g = refl
 sumℤ-add (suc n) f g =
     rw (← sumℤ-add n f g, as-diff (sumℤ n f), as-diff (sumℤ n g), as-diff (f n), as-diff (g n)) (simp diffs (omega ring))
+
+pub sumℤ-mono : (n : ℕ) (f g : ℕ → ℤ) → ((i : ℕ) → i < n → f i ≤ℤ g i) → sumℤ n f ≤ℤ sumℤ n g
+unfolding fold
+sumℤ-mono zero f g h = parts-le (omega arith)
+sumℤ-mono (suc n) f g h =
+    let x = le-parts (sumℤ-mono n f g (λ i l. h i (omega arith))) in
+    let y = le-parts (h n (omega arith)) in
+    parts-le (omega (arith, add-parts (sumℤ n f) (f n), add-parts (sumℤ n g) (g n)))
+
+-- a sum of c times f less g
+pub sumℤ-linear : (n : ℕ) (c : ℤ) (f g : ℕ → ℤ) → sumℤ n (λ i. c *ℤ f i -ℤ g i) ≡ c *ℤ sumℤ n f -ℤ sumℤ n g
+unfolding fold
+sumℤ-linear zero c f g = rw (as-diff c) (simp diffs (omega ring))
+sumℤ-linear (suc n) c f g =
+    rw (sumℤ-linear n c f g, as-diff c, as-diff (sumℤ n f), as-diff (sumℤ n g), as-diff (f n), as-diff (g n)) (simp diffs (omega ring))
+
+-- one factor over all summands
+pub sumℤ-scale : (n : ℕ) (c : ℤ) (w : ℕ → ℕ) → pos (sumℕ n w) *ℤ c ≡ sumℤ n (λ i. c *ℤ pos (w i))
+unfolding fold
+sumℤ-scale zero c w = rw (as-diff c) (simp diffs (omega ring))
+sumℤ-scale (suc n) c w =
+    let e = sumℤ-scale n c w in
+    rw (← e, as-diff c) (simp diffs (omega ring))
+
+pub sumℤ-const : (n : ℕ) (c : ℤ) → pos n *ℤ c ≡ sumℤ n (λ i. c)
+unfolding fold
+sumℤ-const zero c = rw (as-diff c) (simp diffs (omega ring))
+sumℤ-const (suc n) c = let e = sumℤ-const n c in rw (← e, as-diff c) (simp diffs (omega ring))
 
 -- ---- all, any
 

@@ -4,7 +4,7 @@ use mathlib.Core.Path.{_≡_, refl, sym, ap, _∙_, subst}
 use mathlib.Core.Bool.{Bool, true, false, cond}
 use Prim.Native.Nat.{ℕ, zero, suc, _+_, _*_, _-_, _≤_, _<_, _^_, min}
 use native.Mathlib.Omega.{arith}
-use native.Mathlib.Nat.{le-refl, le-trans, le-of-eq, mul-le-mul, lt-of-le-of-lt}
+use native.Mathlib.Nat.{le-refl, le-trans, le-of-eq, mul-le-mul, mul-add, mul-comm, lt-of-le-of-lt}
 use borrow.Author.Tests.{ltb-true, ltb-false, leb-true, leb-false}
 use lib.Dec.{T, ltb, leb, ltb→lt, le→leb, lt→ltb}
 use lib.IntN.{ℤ, pos, negsuc, negℤ, natAbs, subℕ, _+ℤ_, _-ℤ_, _*ℤ_}
@@ -151,6 +151,23 @@ mul-parts (pos a) (pos b) = omega arith
 mul-parts (pos a) (negsuc b) = omega (arith, neg-parts (pos (a * suc b)))
 mul-parts (negsuc a) (pos b) = omega (arith, neg-parts (pos (suc a * b)))
 mul-parts (negsuc a) (negsuc b) = omega arith
+
+-- a factor that is not below zero keeps the order
+pub mul-mono : (a b : ℤ) (w : ℕ) → a ≤ℤ b → (a *ℤ pos w) ≤ℤ (b *ℤ pos w)
+mul-mono a b w h =
+    let k : w * (positive a + negative b) ≤ w * (positive b + negative a) = mul-le-mul (le-refl w) (le-parts h) in
+    parts-le
+    (omega (
+      arith,
+      mul-parts a (pos w),
+      mul-parts b (pos w),
+      mul-add w (positive a) (negative b),
+      mul-add w (positive b) (negative a),
+      mul-comm w (positive a),
+      mul-comm w (negative a),
+      mul-comm w (positive b),
+      mul-comm w (negative b),
+    ))
 
 -- ---- Sizes
 

@@ -6,7 +6,8 @@ use native.Mathlib.Nat.{le-refl, mul-le-mul, mul-add, mul-zero, div-add-mod, mod
 use native.Mathlib.Omega.{arith}
 use lib.IntN.{ℤ, pos, negsuc, natAbs, _-ℤ_, _*ℤ_}
 use Rattle.integer.specs.Integer.{positive, negative, withSign, minus}
-use Rattle.integer.specs.IntegerLaws.{parts, parts-eq, sub-parts, neg-parts, abs-neg}
+use lib.Signed.{_≤ℤ_}
+use Rattle.integer.specs.IntegerLaws.{parts, parts-eq, parts-le, le-parts, sub-parts, neg-parts, abs-neg}
 use Rattle.integer.specs.Nearest.{nearest, IsNearest}
 use Rattle.integer.specs.BelowLaws.{lt-or-le}
 
@@ -55,6 +56,15 @@ nearest-is (negsuc n) d h =
     let p2 = parts a in
     record { within = omega arith; tie = λ e. omega arith }
 
+-- the multiples by d of two numbers, the first below the second, are d or more apart
+multiples-apart : (d : ℕ) (r s : ℤ) → positive r + negative s < positive s + negative r
+    → positive (pos d *ℤ r) + negative (pos d *ℤ s) + d ≤ positive (pos d *ℤ s) + negative (pos d *ℤ r)
+multiples-apart d r s l =
+    let u = scaled d r in
+    let v = scaled d s in
+    let m : d * (positive r + negative s + 1) ≤ d * (positive s + negative r) = mul-le-mul (le-refl d) (omega arith) in
+    omega (arith, mul-add d (positive r + negative s) 1, mul-add d (positive r) (negative s), mul-add d (positive s) (negative r))
+
 -- two multiples of d, a below b, that lie just half of d on each side of z = zp - zn: one of them is nearer to zero than z
 apart : (d ap an bp bn zp zn : ℕ) → 0 < d → 2 * (bp + zn) ≡ 2 * (zp + bn) + d → 2 * (zp + an) ≡ 2 * (ap + zn) + d
     → min ap an ≡ 0 → min bp bn ≡ 0 → zp + zn ≤ ap + an → zp + zn ≤ bp + bn → ((d ≤ bp) × (bn ≡ 0)) ⊎ ((d ≤ an) × (ap ≡ 0)) → ⊥
@@ -69,8 +79,7 @@ not-below z d r s h x y l =
     let u = scaled d r in
     let v = scaled d s in
     let m : d * (positive r + negative s + 1) ≤ d * (positive s + negative r) = mul-le-mul (le-refl d) (omega arith) in
-    let far : positive a + negative b + d ≤ positive b + negative a =
-    omega (arith, mul-add d (positive r + negative s) 1, mul-add d (positive r) (negative s), mul-add d (positive s) (negative r)) in
+    let far = multiples-apart d r s l in
     let da = sub-parts a z in
     let db = sub-parts b z in
     let wa = x .within in
@@ -99,6 +108,24 @@ nearest-unique z d r s h x y =
     ⊎-elim (λ l. absurd (not-below z d r s h x y l))
     (λ l. ⊎-elim (λ k. absurd (not-below z d s r h y x k)) (λ k. parts-eq r s (omega arith)) (lt-or-le (positive s + negative r) (positive r + negative s)))
     (lt-or-le (positive r + negative s) (positive s + negative r))
+
+-- ---- Bounds: what lies between d times two whole numbers is rounded to one between them
+
+pub nearest-ge : (z : ℤ) (d : ℕ) (l : ℤ) → 0 < d → (pos d *ℤ l) ≤ℤ z → l ≤ℤ nearest z d
+nearest-ge z d l h k =
+    let r : ℤ = nearest z d in
+    let w = nearest-is z d h .within in
+    let e = le-parts k in
+    ⊎-elim (λ m. absurd (omega (arith, multiples-apart d r l m, sub-parts (pos d *ℤ r) z, parts (pos d *ℤ r -ℤ z) .abs))) (λ m. parts-le m)
+    (lt-or-le (positive r + negative l) (positive l + negative r))
+
+pub nearest-le : (z : ℤ) (d : ℕ) (u : ℤ) → 0 < d → z ≤ℤ (pos d *ℤ u) → nearest z d ≤ℤ u
+nearest-le z d u h k =
+    let r : ℤ = nearest z d in
+    let w = nearest-is z d h .within in
+    let e = le-parts k in
+    ⊎-elim (λ m. absurd (omega (arith, multiples-apart d u r m, sub-parts (pos d *ℤ r) z, parts (pos d *ℤ r -ℤ z) .abs))) (λ m. parts-le m)
+    (lt-or-le (positive u + negative r) (positive r + negative u))
 
 -- ---- The sign cases at the tie
 

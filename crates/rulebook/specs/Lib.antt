@@ -1,2 +1,11 @@
 pub mod Units
+pub mod ReferencePrice
+pub mod Shares
+pub mod Tranches
+pub mod DayAmount
 pub mod Numbers
+pub mod Calls
+pub mod ReferencePriceLaws
+pub mod SharesLaws
+pub mod TranchesLaws
+pub mod DayAmountLaws

@@ -73,9 +73,15 @@ pub record PriceReturned : Type 0 where
   pub number : ℕ
   pub price : ℤ
 
+abbrev pub priceAccepted : ℤ → PriceReturned
+priceAccepted v = record { number = accepted; price = v }
+
+abbrev pub priceRefused : PriceReturned
+priceRefused = record { number = outsideRange; price = pos 0 }
+
 abbrev pub priceReturned : PriceAnswer → PriceReturned
-priceReturned (Priced v) = record { number = accepted; price = v }
-priceReturned PriceRefused = record { number = outsideRange; price = pos 0 }
+priceReturned (Priced v) = priceAccepted v
+priceReturned PriceRefused = priceRefused
 
 abbrev pub shareNumber : ShareAnswer → ℕ
 shareNumber Shared = accepted
@@ -84,9 +90,15 @@ shareNumber OutputTooShort = outputTooShort
 
 pub record TrancheReturned : Type 0 where
   pub number : ℕ
-  pub tranche1 : ℤ
-  pub tranche2 : ℤ
+  pub first : ℤ
+  pub second : ℤ
+
+abbrev pub trancheAccepted : ℤ → ℤ → TrancheReturned
+trancheAccepted t u = record { number = accepted; first = t; second = u }
+
+abbrev pub trancheRefused : TrancheReturned
+trancheRefused = record { number = outsideRange; first = pos 0; second = pos 0 }
 
 abbrev pub trancheReturned : TrancheAnswer → TrancheReturned
-trancheReturned (Split t u) = record { number = accepted; tranche1 = t; tranche2 = u }
-trancheReturned TrancheRefused = record { number = outsideRange; tranche1 = pos 0; tranche2 = pos 0 }
+trancheReturned (Split t u) = trancheAccepted t u
+trancheReturned TrancheRefused = trancheRefused

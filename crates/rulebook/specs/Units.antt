@@ -1,17 +1,23 @@
 -- Document 01, "Units and ranges": days, intervals, the range of each kind of value, and "nearest". Assumes nothing.
 use mathlib.Core.Bool.{Bool, _&&_}
-use Prim.Native.Nat.{ℕ}
+use Prim.Native.Nat.{ℕ, _-_}
 use lib.IntN.{ℤ, pos}
 use lib.Signed.{leZ}
-use Rattle.integer.specs.Integer.{minus}
+use Rattle.integer.specs.Integer.{minus, positive}
 use Rattle.rulebook.specs.declared.Kind.{Kind}
 use Rattle.rulebook.specs.declared.Kind.the-variants.{Quantity, Injection, Load, Price}
-
 -- the nearest whole number to z / d, a tie going away from zero; `IsNearest` is the property that determines it
 unfoldable pub use Rattle.integer.specs.Nearest.{nearest}
-
 -- max(z, 0)
 pub use Rattle.integer.specs.Integer.{positive}
+
+-- a word read as a quantity; none that was accepted is below zero
+abbrev pub asQuantity : ℤ → ℕ
+asQuantity z = positive z
+
+-- max(a − b, 0)
+abbrev pub lessOrZero : ℕ → ℕ → ℕ
+lessOrZero a b = a - b
 
 -- ---- Days and intervals
 

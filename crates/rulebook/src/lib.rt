@@ -8,6 +8,14 @@ pub enum Kind {
     Price,
 }
 
+// An opening's arguments: N accounts, lag L, horizon H, first day F.
+pub struct Terms {
+    pub accounts: usize,
+    pub lag: usize,
+    pub horizon: usize,
+    pub first: usize,
+}
+
 // What the reference price call answers: V, or a list's length or a value outside its range.
 pub enum PriceAnswer {
     Priced(i64),

@@ -1,0 +1,64 @@
+-- What the calls on no book return, and the words that they leave: reference price, shares, tranches. Assumes nothing.
+use mathlib.Core.Bool.{Bool, cond, _&&_}
+use mathlib.Core.List.{List}
+use Prim.Native.Nat.{ℕ}
+use lib.Dec.{leb, eqb}
+use lib.IntN.{ℤ, pos}
+use lib.ListN.{length}
+use Rattle.integer.specs.Integer.{minus}
+use Rattle.integer.specs.Below.{all}
+use Rattle.integer.specs.Words.{word, filled}
+use Rattle.rulebook.specs.declared.Kind.the-variants.{Quantity, Injection, Price}
+use Rattle.rulebook.specs.declared.Kind.{Kind}
+use Rattle.rulebook.specs.Units.{inRange, between, asQuantity}
+use Rattle.rulebook.specs.ReferencePrice.{mostFacilities, referencePrice}
+use Rattle.rulebook.specs.Shares.{mostAccounts, leastResidual, mostResidual, share}
+use Rattle.rulebook.specs.Tranches.{tranche1, tranche2}
+use Rattle.rulebook.specs.Numbers.{accepted, outsideRange, outputTooShort, PriceReturned, priceAccepted, priceRefused, TrancheReturned, trancheAccepted, trancheRefused}
+
+-- every word of a list is in the range of its kind
+unfoldable pub allInRange : Kind → List ℤ → Bool
+allInRange kind xs = all (length xs) (λ i. inRange kind (word xs i))
+
+-- ---- Reference price: the lists of MEP and IEQ
+
+unfoldable pub priceInput : List ℤ → List ℤ → Bool
+priceInput mep ieq =
+    (leb 1 (length mep) && leb (length mep) mostFacilities) && (eqb (length ieq) (length mep) && (allInRange Price mep && allInRange Injection ieq))
+
+unfoldable pub priceCall : List ℤ → List ℤ → PriceReturned
+priceCall mep ieq =
+    cond (priceInput mep ieq) (priceAccepted (referencePrice (length mep) (word mep) (word ieq))) priceRefused
+
+-- ---- Shares: R, the accounts' UEGQ, the lent output
+
+unfoldable pub shareInput : ℤ → List ℤ → Bool
+shareInput r uegq =
+    between (minus leastResidual) (pos mostResidual) r && ((leb 1 (length uegq) && leb (length uegq) mostAccounts) && allInRange Quantity uegq)
+
+-- one word an account
+unfoldable pub shareWord : ℤ → List ℤ → ℕ → ℤ
+shareWord r uegq a = pos (share r (length uegq) (λ b. asQuantity (word uegq b)) a)
+
+-- the number, and the output's words after
+pub record ShareReturned : Type 0 where
+  pub number : ℕ
+  pub output : List ℤ
+
+unfoldable pub shareCall : ℤ → List ℤ → List ℤ → ShareReturned
+shareCall r uegq output =
+    cond (shareInput r uegq)
+    (cond (leb (length uegq) (length output)) (record { number = accepted; output = filled (length uegq) (shareWord r uegq) output })
+    (record { number = outputTooShort; output = output }))
+    (record { number = outsideRange; output = output })
+
+-- ---- Tranches: RVQ, BVQ, MQ
+
+unfoldable pub trancheInput : ℤ → ℤ → ℤ → Bool
+trancheInput rvq bvq mq = inRange Quantity rvq && (inRange Quantity bvq && inRange Quantity mq)
+
+unfoldable pub trancheCall : ℤ → ℤ → ℤ → TrancheReturned
+trancheCall rvq bvq mq =
+    cond (trancheInput rvq bvq mq)
+    (trancheAccepted (pos (tranche1 (asQuantity rvq) (asQuantity bvq) (asQuantity mq))) (pos (tranche2 (asQuantity rvq) (asQuantity bvq) (asQuantity mq))))
+    trancheRefused

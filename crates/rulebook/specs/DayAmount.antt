@@ -1,0 +1,99 @@
+-- Document 01, "Day amount": the data by name, and the formula over them. Assumes nothing.
+use mathlib.Core.Bool.{Bool, cond}
+use Prim.Native.Nat.{ℕ, _+_, _-_}
+use lib.Dec.{leb}
+use lib.IntN.{ℤ, pos, negℤ, _+ℤ_, _-ℤ_, _*ℤ_}
+use Rattle.integer.specs.Below.{sumℕ, sumℤ}
+use Rattle.rulebook.specs.declared.Terms.{Terms}
+use Rattle.rulebook.specs.Units.{intervals, nearest, thousandthsPerCent}
+use Rattle.rulebook.specs.ReferencePrice.{referencePrice}
+use Rattle.rulebook.specs.Shares.{share}
+use Rattle.rulebook.specs.Tranches.{tranche1, tranche2}
+
+-- ---- Data
+
+-- the data of one account, day and interval; absent data and unused pairs are zero
+pub record AccountData : Type 0 where
+  -- base contract, and tender t of 0 to 2: kWh, cents per MWh
+  pub bvq : ℕ
+  pub bvp : ℤ
+  pub tvq : ℕ → ℕ
+  pub tvp : ℕ → ℤ
+  -- how many facilities, and facility f's price and metered injection
+  pub facilities : ℕ
+  pub mep : ℕ → ℤ
+  pub ieq : ℕ → ℤ
+  -- spare generation, the most that the base contract could have given, and the prices of the two tranches
+  pub uegq : ℕ
+  pub mq : ℕ
+  pub rvp1 : ℤ
+  pub rvp2 : ℤ
+
+pub record SettlementData : Type 0 where
+  -- by account, day, interval
+  pub account : ℕ → ℕ → ℕ → AccountData
+  -- NCC load by day, interval
+  pub load : ℕ → ℕ → ℕ
+
+-- ---- One interval
+
+abbrev pub tenders : ℕ
+tenders = 3
+
+module _ (x : AccountData) where
+  -- V
+  unfoldable pub referencePriceOf : ℤ
+  referencePriceOf = referencePrice (x .facilities) (x .mep) (x .ieq)
+
+  -- BVQ and all TVQ
+  unfoldable pub vestedQuantity : ℕ
+  vestedQuantity = x .bvq + sumℕ tenders (x .tvq)
+
+  -- (BVP − V) × BVQ + Σ (TVP − V) × TVQ, in thousandths of a cent
+  unfoldable pub vestingAmount : ℤ
+  vestingAmount = (x .bvp -ℤ referencePriceOf) *ℤ pos (x .bvq) +ℤ sumℤ tenders (λ t. (x .tvp t -ℤ referencePriceOf) *ℤ pos (x .tvq t))
+
+-- n accounts' data of an interval with this NCC load
+module _ (load n : ℕ) (x : ℕ → AccountData) where
+  -- R = NCC load minus all accounts' BVQ and TVQ
+  unfoldable pub residualLoad : ℤ
+  residualLoad = pos load -ℤ pos (sumℕ n (λ b. vestedQuantity (x b)))
+
+  -- account a's share
+  unfoldable pub rvq : ℕ → ℕ
+  rvq a = share residualLoad n (λ b. x b .uegq) a
+
+  -- (RVP1 − V) × tranche 1 + (RVP2 − V) × tranche 2, in thousandths of a cent
+  unfoldable pub residualAmount : ℕ → ℤ
+  residualAmount a =
+      (x a .rvp1 -ℤ referencePriceOf (x a)) *ℤ pos (tranche1 (rvq a) (x a .bvq) (x a .mq))
+      +ℤ (x a .rvp2 -ℤ referencePriceOf (x a)) *ℤ pos (tranche2 (rvq a) (x a .bvq) (x a .mq))
+
+-- ---- The day
+
+module _ (o : Terms) where
+  -- the close of D settles a residual day: r = D − L is not before F
+  unfoldable pub residualDue : ℕ → Bool
+  residualDue D = leb (o .first + o .lag) D
+
+  -- r
+  abbrev pub residualDay : ℕ → ℕ
+  residualDay D = D - o .lag
+
+  module _ (x : SettlementData) (a D : ℕ) where
+    -- account a's amount for closing day D at interval i, in thousandths of a cent: vesting of D, residual of r with V of r
+    unfoldable pub intervalAmount : ℕ → ℤ
+    intervalAmount i =
+        vestingAmount (x .account a D i)
+        +ℤ cond (residualDue D) (residualAmount (x .load (residualDay D) i) (o .accounts) (λ b. x .account b (residualDay D) i) a) (pos 0)
+
+    unfoldable pub exactAmount : ℤ
+    exactAmount = sumℤ intervals intervalAmount
+
+    -- the posted amount, in cents: demand 3's formula amount
+    unfoldable pub postedAmount : ℤ
+    postedAmount = nearest exactAmount thousandthsPerCent
+
+  -- the MSSL gets minus the sum of the posted amounts
+  unfoldable pub msslAmount : SettlementData → ℕ → ℤ
+  msslAmount x D = negℤ (sumℤ (o .accounts) (λ a. postedAmount x a D))
