@@ -29,5 +29,5 @@ module _ (o : Terms) (x : SettlementData) (D : ℕ) where
       let f : ℕ → ℤ = λ a. postedAmount o x a D in
       let g : ℕ → ℤ = λ a. exactAmount o x a D in
       let e : pos 1000 *ℤ negℤ (sumℤ n f) -ℤ negℤ (sumℤ n g) ≡ negℤ (pos 1000 *ℤ sumℤ n f -ℤ sumℤ n g) =
-          rw (as-diff (sumℤ n f), as-diff (sumℤ n g)) (simp diffs (omega ring)) in
+      rw (as-diff (sumℤ n f), as-diff (sumℤ n g)) (simp diffs (omega ring)) in
       rw (e, abs-neg, ← sumℤ-linear n (pos 1000) f g) (abs-sumℤ n 500 (λ a. pos 1000 *ℤ f a -ℤ g a) (λ a l. posted-within a))

@@ -5,6 +5,8 @@ pub mod Tranches
 pub mod DayAmount
 pub mod Numbers
 pub mod Calls
+pub mod Figures
+pub mod WorkedDay
 pub mod ReferencePriceLaws
 pub mod SharesLaws
 pub mod TranchesLaws
