@@ -38,6 +38,10 @@ pub fold-suc {ℓ} : {A : Type ℓ} (op : A → A → A) (e : A) (n : ℕ) (f : 
 unfolding fold
 fold-suc op e n f = rw add-one
 
+-- one more turn of a loop that joins
+pub fold-step {ℓ} : {A : Type ℓ} (op : A → A → A) (e : A) (n : ℕ) (f : ℕ → A) {a b : A} → a ≡ fold op e n f → b ≡ f n → op a b ≡ fold op e (n + 1) f
+fold-step op e n f x y = rw (x, y, fold-suc op e n f)
+
 pub fold-cong {ℓ} : {A : Type ℓ} (op : A → A → A) (e : A) (n : ℕ) (f g : ℕ → A) → ((i : ℕ) → i < n → f i ≡ g i) → fold op e n f ≡ fold op e n g
 unfolding fold
 fold-cong op e zero f g h = refl
@@ -123,16 +127,16 @@ all-fails (suc n) p i l t =
     (λ h. let e : i ≡ n = omega arith in rw (← e, t) (and-false (all i p)))
     (lt-or-le i n)
 
-both-true : (a b : Bool) → (a && b) ≡ true → (a ≡ true) × (b ≡ true)
-both-true true b e = (refl, e)
-both-true false b e = let z : _≡_ {A = ℕ} 0 1 = cc in absurd (omega arith)
+pub and-true : (a b : Bool) → (a && b) ≡ true → (a ≡ true) × (b ≡ true)
+and-true true b e = (refl, e)
+and-true false b e = let z : _≡_ {A = ℕ} 0 1 = cc in absurd (omega arith)
 
 -- what passed everywhere passed at each
 pub all-at : (n : ℕ) (p : ℕ → Bool) → all n p ≡ true → (i : ℕ) → i < n → p i ≡ true
 unfolding fold
 all-at zero p h i l = absurd (not-suc-le-zero l)
 all-at (suc n) p h i l =
-    let b = both-true (all n p) (p n) h in
+    let b = and-true (all n p) (p n) h in
     ⊎-elim (λ k. all-at n p (b .0) i k) (λ k. let e : i ≡ n = omega arith in rw e (b .1)) (lt-or-le i n)
 
 pub all-of : (n : ℕ) (p : ℕ → Bool) → ((i : ℕ) → i < n → p i ≡ true) → all n p ≡ true

@@ -1,14 +1,41 @@
-// Integers and loops: the laws that every proof above leans on stand in specs/. Here are the types that searches share, and rounding.
+// Integers and loops: the laws that every proof above leans on stand in specs/. Here are the types that searches share, single lent words,
+// and rounding.
 ghost use mathlib.Core.Path.{_≡_};
 ghost use Prim.Native.Nat.{_+_, _*_, _/_, _^_, _≤_, _<_};
-ghost use lib.IntN.{natAbs};
+ghost use lib.IntN.{pos, natAbs};
+ghost use lib.ListN.{length, set};
 ghost use Rattle.integer.specs.Integer.{withSign};
 ghost use Rattle.integer.specs.Nearest.{nearest};
+ghost use Rattle.integer.specs.Words.{word};
 
 // What a search answers: the index that it found, or nothing.
 pub enum Found {
     At(usize),
     Nothing,
+}
+
+// One lent word, read.
+pub fn word_at(words: &[i64], i: usize) -> i64
+    requires { ⌜ i < length (now words) ⌝ }
+    ensures { λ r. ⌜ r ≡ word (now (words .entry)) i ⌝ }
+{
+    words[i]
+}
+
+// One lent word, written.
+pub fn put_word(words: &mut [i64], i: usize, z: i64)
+    requires { ⌜ i < length (now words) ⌝ }
+    ensures { λ _. ⌜ now (words .exit) ≡ set (now (words .entry)) i z ⌝ }
+{
+    words[i] = z;
+}
+
+// An unsigned number as a signed one.
+pub fn signed(n: u64) -> i64
+    requires { ⌜ n < 2 ^ 63 ⌝ }
+    ensures { λ r. ⌜ r ≡ pos n ⌝ }
+{
+    n as i64
 }
 
 // The magnitude of z.

@@ -7,6 +7,7 @@ pub mod Numbers
 pub mod Calls
 pub mod Figures
 pub mod WorkedDay
+pub mod UnitsLaws
 pub mod ReferencePriceLaws
 pub mod SharesLaws
 pub mod TranchesLaws

@@ -1,0 +1,15 @@
+-- `signed` meets its contract: a number below 2 ^ 63 has the same bits.
+use borrow.Author.Needs.{needs}
+use mir.Syntax.{w64}
+use mir.ValLaws.{toZ-pos}
+use Rattle.integer.proofs.signed.Statement.{statement}
+use Rattle.integer.proofs.signed.Tie as tie
+
+cast-result : tie.Need-cast-result
+cast-result c = search needs
+
+returns : tie.Need-returns
+returns c = toZ-pos w64 (c .args .n) (c .pre)
+
+pub signed-spec : {M : Type 1} → statement M
+signed-spec = tie.close (tie.spec cast-result returns)

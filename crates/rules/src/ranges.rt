@@ -1,0 +1,45 @@
+// Document 01, "Units and ranges": is a value in the range of its kind?
+use integer::word_at;
+use rulebook::Kind;
+ghost use mathlib.Core.Path.{_≡_};
+ghost use mathlib.Core.Bool.{true};
+ghost use Prim.Native.Nat.{_≤_};
+ghost use Rattle.rulebook.specs.declared.Kind.the-variants.{Quantity};
+ghost use Rattle.rulebook.specs.Units.{between, inRange, asQuantity, mostQuantity};
+ghost use Rattle.rulebook.specs.Calls.{allInRange};
+
+pub fn is_between(low: i64, high: i64, z: i64) -> bool
+    ensures { λ r. ⌜ r ≡ between low high z ⌝ }
+{
+    if low <= z { z <= high } else { false }
+}
+
+pub fn in_range(kind: Kind, z: i64) -> bool
+    ensures { λ r. ⌜ r ≡ inRange kind z ⌝ }
+{
+    match kind {
+        Kind::Quantity => is_between(0, 10000000, z),
+        Kind::Injection => is_between(-10000000, 10000000, z),
+        Kind::Load => is_between(0, 1000000000, z),
+        Kind::Price => is_between(-1000000, 1000000, z),
+    }
+}
+
+// Every word of the list is in the range of its kind.
+pub fn all_in_range(kind: Kind, xs: &[i64]) -> bool
+    ensures { λ r. ⌜ r ≡ allInRange kind (now (xs .entry)) ⌝ }
+{
+    let mut ok = true;
+    for i in 0..xs.len() {
+        ok = ok & in_range(kind, word_at(xs, i));
+    }
+    ok
+}
+
+// A word that is in the range of a quantity, as an unsigned number.
+pub fn as_quantity(z: i64) -> u64
+    requires { ⌜ inRange Quantity z ≡ true ⌝ }
+    ensures { λ r. ⌜ (r ≡ asQuantity z) × (r ≤ mostQuantity) ⌝ }
+{
+    z as u64
+}
