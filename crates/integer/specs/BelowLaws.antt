@@ -2,7 +2,7 @@
 use mathlib.Core.Path.{_≡_, refl, sym, ap, _∙_}
 use mathlib.Core.Bool.{Bool, true, false, cond, _&&_, _||_, and-false}
 use mathlib.Core.Logic.{_⊎_, inl, inr, ⊎-elim}
-use mathlib.Core.List.{List, [], _∷_}
+use mathlib.Core.List.{List, [], _∷_, _++_}
 use Prim.Native.Nat.{ℕ, zero, suc, _+_, _*_, _≤_, _<_}
 use native.Mathlib.Nat.{not-suc-le-zero, le-of-suc-le-suc, suc-mul, mul-add, mul-zero, add-zero, add-suc, zero-mul}
 use native.Mathlib.Numerals.{add-one}
@@ -15,7 +15,7 @@ use lib.ListN.{length, getD}
 use lib.Seq.{ext-getD}
 use Rattle.integer.specs.declared.Found.{Found}
 use Rattle.integer.specs.declared.Found.the-variants.{At, Nothing}
-use Rattle.integer.specs.Below.{fold, sumℕ, sumℤ, all, any, count, orElse, first, turns, tabulate}
+use Rattle.integer.specs.Below.{fold, sumℕ, sumℤ, all, any, count, orElse, first, turns, tabulate, Each}
 use Rattle.integer.specs.IntegerLaws.{abs-add, parts-le, le-parts, add-parts}
 use Rattle.integer.specs.Ring.{as-diff, diffs, ring}
 
@@ -160,15 +160,23 @@ first-stops (suc n) f i x l h t =
     (λ b. let e : i ≡ n = omega arith in rw (← e, h, t))
     (lt-or-le i n)
 
-orElse-at : (o y : Found) (x : ℕ) → orElse o y ≡ At x → (o ≡ At x) ⊎ ((o ≡ Nothing) × (y ≡ At x))
+-- what one search after another found
+pub orElse-at : (o y : Found) (x : ℕ) → orElse o y ≡ At x → (o ≡ At x) ⊎ ((o ≡ Nothing) × (y ≡ At x))
 unfolding orElse
 orElse-at (At i) y x e = inl e
 orElse-at Nothing y x e = inr (refl, e)
 
-orElse-nothing : (o y : Found) → orElse o y ≡ Nothing → (o ≡ Nothing) × (y ≡ Nothing)
+pub orElse-nothing : (o y : Found) → orElse o y ≡ Nothing → (o ≡ Nothing) × (y ≡ Nothing)
 unfolding orElse
 orElse-nothing (At i) y e = absurd (let z : _≡_ {A = ℕ} 0 1 = cc in omega arith)
 orElse-nothing Nothing y e = (refl, e)
+
+pub nothing-orElse : (o y : Found) → o ≡ Nothing → y ≡ Nothing → orElse o y ≡ Nothing
+unfolding orElse
+nothing-orElse o y e f = rw e f
+
+pub first-cong : (n : ℕ) (f g : ℕ → Found) → ((i : ℕ) → i < n → f i ≡ g i) → first n f ≡ first n g
+first-cong = fold-cong orElse Nothing
 
 -- where nothing was found no turn found any, and the converse
 pub first-nothing : (n : ℕ) (f : ℕ → Found) → first n f ≡ Nothing → (i : ℕ) → i < n → f i ≡ Nothing
@@ -191,6 +199,16 @@ first-at (suc n) f x e =
     ⊎-elim (λ h. let r = first-at n f x h in (r .0, omega (arith, r .1), r .2, r .3))
     (λ h. (n, omega arith, h .1, first-nothing n f (h .0)))
     (orElse-at (first n f) (f n) x e)
+
+-- a search in which turn 0 finds something wherever any does
+pub first-front : (n : ℕ) (f : ℕ → Found) → (f 0 ≡ Nothing → (i : ℕ) → i < suc n → f i ≡ Nothing) → first (suc n) f ≡ f 0
+unfolding fold orElse
+first-front zero f h = refl
+first-front (suc n) f h = ap (λ (x : Found). orElse x (f (suc n))) (first-front n f (λ e i l. h e i (omega arith))) ∙ go (f 0) refl
+  where
+    go : (x : Found) → f 0 ≡ x → orElse x (f (suc n)) ≡ x
+    go Nothing e = h e (suc n) (omega arith)
+    go (At v) e = refl
 
 -- ---- turns
 
@@ -240,3 +258,14 @@ tabulate-of d xs n f l h =
 
 pub tabulate-each {ℓ} : {A : Type ℓ} (d : A) {xs : List A} {n : ℕ} {f : ℕ → A} → xs ≡ tabulate n f → (length xs ≡ n) × ((k : ℕ) → k < n → getD xs k d ≡ f k)
 tabulate-each d {n = n} {f = f} e = (ap length e ∙ length-tabulate n f, (λ k b. ap (λ l. getD l k d) e ∙ getD-tabulate n f k d b))
+
+-- ---- Each
+
+pub each-tabulate {ℓ} : {A : Type ℓ} (P : A → Type 0) (n : ℕ) (f : ℕ → A) → ((i : ℕ) → i < n → P (f i)) → Each P (tabulate n f)
+unfolding tabulate
+each-tabulate P zero f h = tt
+each-tabulate P (suc n) f h = (h 0 (omega arith), each-tabulate P n (λ k. f (suc k)) (λ i l. h (suc i) (omega arith)))
+
+pub each-append {ℓ} : {A : Type ℓ} (P : A → Type 0) (xs ys : List A) → Each P xs → Each P ys → Each P (xs ++ ys)
+each-append P [] ys p q = q
+each-append P (x ∷ xs) ys p q = (p .0, each-append P xs ys (p .1) q)

@@ -1,6 +1,14 @@
 -- Document 01, "Numbers returned": the table, and what each answer returns. Assumes nothing.
 use Prim.Native.Nat.{ℕ}
 use lib.IntN.{ℤ, pos}
+use Rattle.rulebook.specs.declared.Why.{Why}
+use Rattle.rulebook.specs.declared.Why.the-variants.{NotWhole, OutOfRange, DayNotOpen, Repeated, Excess}
+use Rattle.rulebook.specs.declared.OpenAnswer.{OpenAnswer}
+use Rattle.rulebook.specs.declared.OpenAnswer.the-variants.{Opened, BadTerms, TooShort}
+use Rattle.rulebook.specs.declared.SubmitAnswer.{SubmitAnswer}
+use Rattle.rulebook.specs.declared.SubmitAnswer.the-variants.{Taken, IllFormed, FileRefused}
+use Rattle.rulebook.specs.declared.CloseAnswer.{CloseAnswer}
+use Rattle.rulebook.specs.declared.CloseAnswer.the-variants.{Closed, BookIllFormed, Finished, NoRoom, DatumMissing}
 use Rattle.rulebook.specs.declared.PriceAnswer.{PriceAnswer}
 use Rattle.rulebook.specs.declared.PriceAnswer.the-variants.{Priced, PriceRefused}
 use Rattle.rulebook.specs.declared.ShareAnswer.{ShareAnswer}
@@ -66,6 +74,42 @@ badHolidays = 13
 -- calendar result past 36,524
 abbrev pub pastLastDay : ℕ
 pastLastDay = 14
+
+-- ---- Open, submit, close: number, position of a refusal, an accepted close's day and residual count
+
+pub record Answer : Type 0 where
+  pub number : ℕ
+  pub position : ℕ
+  pub day : ℕ
+  pub count : ℕ
+
+-- every other figure is 0
+abbrev pub numbered : ℕ → ℕ → Answer
+numbered n p = record { number = n; position = p; day = 0; count = 0 }
+
+abbrev pub whyNumber : Why → ℕ
+whyNumber NotWhole = fieldNotWhole
+whyNumber OutOfRange = fieldOutOfRange
+whyNumber DayNotOpen = dayNotOpen
+whyNumber Repeated = rowRepeated
+whyNumber Excess = bytesAfterEnd
+
+abbrev pub ofOpen : OpenAnswer → Answer
+ofOpen Opened = numbered accepted 0
+ofOpen BadTerms = numbered outsideRange 0
+ofOpen TooShort = numbered wordsTooFew 0
+
+abbrev pub ofSubmit : SubmitAnswer → Answer
+ofSubmit Taken = numbered accepted 0
+ofSubmit IllFormed = numbered notWellFormed 0
+ofSubmit (FileRefused why at) = numbered (whyNumber why) at
+
+abbrev pub ofClose : CloseAnswer → Answer
+ofClose (Closed day count) = record { number = accepted; position = 0; day = day; count = count }
+ofClose BookIllFormed = numbered notWellFormed 0
+ofClose Finished = numbered bookFinished 0
+ofClose NoRoom = numbered outputTooShort 0
+ofClose (DatumMissing at) = numbered datumAbsent at
 
 -- ---- The calls on no book: number and figures; refused, every figure is 0
 

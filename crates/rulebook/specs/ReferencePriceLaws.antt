@@ -1,20 +1,25 @@
 -- V lies between the least and the greatest MEP of its facilities: whatever bounds these bounds V. Assumes nothing.
-use mathlib.Core.Path.{_≡_, refl, sym, subst}
-use mathlib.Core.Bool.{Bool, true, false, cond}
+use mathlib.Core.Path.{_≡_, refl}
 use mathlib.Core.Logic.{⊎-elim}
-use Prim.Native.Nat.{ℕ, _≤_, _<_}
+use mathlib.Core.Bool.{Bool, true, false, cond}
+use Prim.Native.Nat.{ℕ, _+_, _*_, _/_, _≤_, _<_}
+use native.Mathlib.Nat.{div-zero}
 use native.Mathlib.Omega.{arith}
 use borrow.Author.Tests.{eqb-false}
 use lib.Dec.{eqb}
 use lib.IntN.{ℤ, pos, natAbs, _*ℤ_}
 use lib.Signed.{_≤ℤ_}
 use Rattle.integer.specs.Integer.{minus}
-use Rattle.integer.specs.IntegerLaws.{int, parts, le-parts, mul-mono}
-use Rattle.integer.specs.Below.{sumℤ}
+use Rattle.integer.specs.IntegerLaws.{int, parts, mul-mono}
+use Rattle.integer.specs.Below.{fold, sumℤ}
 use Rattle.integer.specs.BelowLaws.{sumℕ-cong, sumℤ-cong, sumℤ-mono, sumℤ-scale, sumℤ-const, lt-or-le}
-use Rattle.integer.specs.NearestLaws.{nearest-ge, nearest-le}
+use Rattle.integer.specs.NearestLaws.{nearest-abs, nearest-ge, nearest-le}
 use Rattle.rulebook.specs.Units.{nearest, mostPrice}
 use Rattle.rulebook.specs.ReferencePrice.{weight, totalWeight, weightedSum, average, referencePrice}
+
+none-size : (mep ieq : ℕ → ℤ) → natAbs (referencePrice 0 mep ieq) ≤ mostPrice
+unfolding referencePrice average fold
+none-size mep ieq = rw nearest-abs (let e : (2 * 0 + 0) / (2 * 0) ≡ 0 = div-zero (2 * 0 + 0) in rw e (omega arith))
 
 module _ (n : ℕ) (mep ieq : ℕ → ℤ) where
   -- every MEP is from low to high
@@ -53,6 +58,10 @@ module _ (n : ℕ) (mep ieq : ℕ → ℤ) where
   price-within some h =
       let b = price-between (minus mostPrice) (pos mostPrice) (λ f l. let p = parts (mep f) in let q = h f l in (omega int, omega int)) some in
       omega (int, b .0, b .1, parts (referencePrice n mep ieq))
+
+  -- and so is the zero that no facility gives
+  pub price-size : ((f : ℕ) → f < n → natAbs (mep f) ≤ mostPrice) → natAbs (referencePrice n mep ieq) ≤ mostPrice
+  price-size h = ⊎-elim (λ l. price-within l h) (λ l. let e : n ≡ 0 = omega arith in rw e (none-size mep ieq)) (lt-or-le 0 n)
 
 -- V of as many facilities with the same MEP and IEQ is the same
 pub price-cong : (n : ℕ) (mep mep′ ieq ieq′ : ℕ → ℤ) → ((f : ℕ) → f < n → mep f ≡ mep′ f) → ((f : ℕ) → f < n → ieq f ≡ ieq′ f)

@@ -16,6 +16,51 @@ pub struct Terms {
     pub first: usize,
 }
 
+// The four sections of a submission file.
+pub enum Section {
+    Vesting,
+    Meter,
+    Residual,
+    Ncc,
+}
+
+// Why a file is refused: numbers 4 to 8.
+pub enum Why {
+    NotWhole,
+    OutOfRange,
+    DayNotOpen,
+    Repeated,
+    Excess,
+}
+
+// What the judge says of a file; a refusal with its position.
+pub enum Verdict {
+    Accepted,
+    Refused(Why, usize),
+}
+
+// What open, submit and close answer.
+pub enum OpenAnswer {
+    Opened,
+    BadTerms,
+    TooShort,
+}
+
+pub enum SubmitAnswer {
+    Taken,
+    IllFormed,
+    FileRefused(Why, usize),
+}
+
+// A close's day and residual count, or why it is refused; a missing datum with its flag's index.
+pub enum CloseAnswer {
+    Closed(usize, usize),
+    BookIllFormed,
+    Finished,
+    NoRoom,
+    DatumMissing(usize),
+}
+
 // What the reference price call answers: V, or a list's length or a value outside its range.
 pub enum PriceAnswer {
     Priced(i64),

@@ -1,0 +1,103 @@
+-- Demand 3's companion: on every run, each call's whole answer, and what it leaves of statement and book, told from the history. Assumes nothing.
+use mathlib.Core.Path.{_≡_}
+use mathlib.Core.Logic.{_≢_}
+use mathlib.Core.Bool.{cond}
+use mathlib.Core.List.{List}
+use mathlib.Core.Option.{Option, none, some}
+use Prim.Native.Nat.{ℕ, _+_, _*_, _≤_, _<_}
+use lib.IntN.{ℤ, negℤ}
+use lib.Dec.{ltb}
+use lib.ListN.{length}
+use Rattle.integer.specs.declared.Found.{Found}
+use Rattle.integer.specs.declared.Found.the-variants.{At, Nothing}
+use Rattle.integer.specs.Below.{sumℤ, first, orElse}
+use Rattle.integer.specs.Words.{word}
+use Rattle.rulebook.specs.declared.Section.{Section}
+use Rattle.rulebook.specs.declared.Section.the-variants.{Vesting, Meter, Residual, Ncc}
+use Rattle.rulebook.specs.declared.Terms.{Terms}
+use Rattle.rulebook.specs.declared.Verdict.{Verdict}
+use Rattle.rulebook.specs.declared.Verdict.the-variants.{Accepted, Refused}
+use Rattle.rulebook.specs.declared.OpenAnswer.{OpenAnswer}
+use Rattle.rulebook.specs.Units.{lastDay, intervals}
+use Rattle.rulebook.specs.DayAmount.{residualDue, residualDay}
+use Rattle.rulebook.specs.Layout.{size, flagWord}
+use Rattle.rulebook.specs.File.{Row}
+use Rattle.rulebook.specs.Judging.{judged}
+use Rattle.rulebook.specs.Numbers.{Answer, numbered, whyNumber, accepted, notWellFormed, bookFinished, outputTooShort, datumAbsent, ofOpen, ofSubmit, ofClose}
+use Rattle.rulebook.specs.History.{Event, closingDay, inForce, formulaAmount}
+use Rattle.rulebook.specs.Promises.{OpenPromise, Run, begun, thenSubmit, thenClose}
+
+-- ---- A submission: what the judge says at C = F + k
+
+abbrev pub verdictTold : Verdict → Answer
+verdictTold Accepted = numbered accepted 0
+verdictTold (Refused why at) = numbered (whyNumber why) at
+
+abbrev pub submitTold : Terms → List Event → List ℕ → Answer
+submitTold o past file = verdictTold (judged o (closingDay o past) file)
+
+-- ---- A close: 9 when no day is left, else 10 without room, else 11 when a needed row is missing, else 0 with day and count
+
+-- a row that is not in force lacks all its flags, the first of them in interval 0
+abbrev pub flagLacking : Option Row → ℕ → Found
+flagLacking none at = At at
+flagLacking (some r) at = Nothing
+
+module _ (o : Terms) (past : List Event) where
+  abbrev pub lacking : Section → ℕ → ℕ → Found
+  lacking s a d = flagLacking (inForce past s a d) (flagWord o s a d 0)
+
+  -- accounts ascending, vesting then meter of D; then NCC of r, then residual of r by account
+  unfoldable pub firstLacking : Found
+  firstLacking =
+      orElse (first (o .accounts) (λ a. orElse (lacking Vesting a (closingDay o past)) (lacking Meter a (closingDay o past))))
+      (cond (residualDue o (closingDay o past))
+      (orElse (lacking Ncc 0 (residualDay o (closingDay o past))) (first (o .accounts) (λ a. lacking Residual a (residualDay o (closingDay o past))))) Nothing)
+
+  abbrev pub searchTold : Found → Answer
+  searchTold (At at) = numbered datumAbsent at
+  searchTold Nothing = record { number = accepted; position = 0; day = closingDay o past; count = cond (residualDue o (closingDay o past)) (intervals * o .accounts) 0 }
+
+  unfoldable pub closeTold : List ℤ → Answer
+  closeTold statement =
+      cond (ltb lastDay (closingDay o past)) (numbered bookFinished 0)
+      (cond (ltb (length statement) (o .accounts + 1)) (numbered outputTooShort 0)
+      (searchTold firstLacking))
+
+-- ---- What each call leaves
+
+-- words from n on, and how many words there are
+pub record KeptFrom (n : ℕ) (before after : List ℤ) : Type 0 where
+  pub long : length after ≡ length before
+  pub words : (m : ℕ) → n ≤ m → word after m ≡ word before m
+
+pub record SubmitTells (o : Terms) (past : List Event) (before : List ℤ) (file : List ℕ) (answer : Answer) (after : List ℤ) : Type 0 where
+  pub answered : answer ≡ submitTold o past file
+  pub wellFormed : answer .number ≢ notWellFormed
+  pub refused : answer .number ≢ accepted → after ≡ before
+  pub beyond : KeptFrom (size o) before after
+
+pub record CloseTells (o : Terms) (past : List Event) (before statement : List ℤ) (answer : Answer) (after written : List ℤ) : Type 0 where
+  pub answered : answer ≡ closeTold o past statement
+  pub wellFormed : answer .number ≢ notWellFormed
+  pub refused : answer .number ≢ accepted → (after ≡ before) × (written ≡ statement)
+  -- an accepted close's statement: the formula amounts, then the MSSL's, minus their sum
+  pub amounts : answer .number ≡ accepted → (a : ℕ) → a < o .accounts → word written a ≡ formulaAmount o past a
+  pub mssl : answer .number ≡ accepted → word written (o .accounts) ≡ negℤ (sumℤ (o .accounts) (formulaAmount o past))
+  pub beyond : KeptFrom (size o) before after
+  pub statementBeyond : KeptFrom (o .accounts + 1) statement written
+
+-- ---- The statement
+
+-- of each call of a run
+abbrev pub EachTold : Terms → {start : List ℤ} {past : List Event} {book : List ℤ} → Run start past book → Type 0
+EachTold o begun = Unit {0}
+EachTold o (thenSubmit {past = past} {before = before} {after = after} {file = file} {answer = answer} run promise) =
+    SubmitTells o past before file (ofSubmit answer) after × EachTold o run
+EachTold o (thenClose {past = past} {before = before} {after = after} {statement = statement} {written = written} {answer = answer} run promise) =
+    CloseTells o past before statement (ofClose answer) after written × EachTold o run
+
+-- for every accepted opening, and every run of calls on the book that it left
+abbrev pub CompanionHolds : Type 0
+CompanionHolds = (o : Terms) (lent start : List ℤ) (answer : OpenAnswer) → OpenPromise o lent answer start → ofOpen answer .number ≡ accepted
+    → (past : List Event) (book : List ℤ) (run : Run start past book) → KeptFrom (size o) lent start × EachTold o run

@@ -1,0 +1,153 @@
+-- Document 01's ranges, sizes and layouts, in figures computed from the definitions. Assumes nothing.
+use mathlib.Core.Path.{_≡_, refl}
+use mathlib.Core.Bool.{Bool, true, false}
+use mathlib.Core.List.{List, [], _∷_, _++_}
+use Prim.Native.Nat.{ℕ}
+use lib.IntN.{ℤ, pos, _+ℤ_, _-ℤ_}
+use lib.ListN.{replicate, getD}
+use Rattle.integer.specs.Integer.{minus}
+use Rattle.integer.specs.Below.{fold, turns, tabulate}
+use Rattle.rulebook.specs.declared.Section.{Section}
+use Rattle.rulebook.specs.declared.Section.the-variants.{Vesting, Meter, Residual, Ncc}
+use Rattle.rulebook.specs.declared.Terms.{Terms}
+use Rattle.rulebook.specs.Sections.{valueInRange}
+use Rattle.rulebook.specs.Layout.{size, base, ring, intervalSize, slot, intervalWord, rowWord, flagWord}
+use Rattle.rulebook.specs.WellFormed.{rowFits, rowBlank, rowCounts, numberFits, headerFits}
+use Rattle.rulebook.specs.File.{num, signed32, valueAt, rowEnd, rowPos, sectionEnd, sectionRows, fileRows}
+use Rattle.rulebook.specs.Judging.{rest}
+
+-- ---- Sizes
+
+-- N = 2, L = H = 1, F = 9,497
+abbrev pub two : Terms
+two = record { accounts = 2; lag = 1; horizon = 1; first = 9497 }
+
+abbrev pub one : Terms
+one = record { accounts = 1; lag = 1; horizon = 1; first = 9497 }
+
+pub size-two : size two ≡ 5072
+unfolding size base ring intervalSize
+size-two = refl
+
+pub flag-two : flagWord two Vesting 0 9497 0 ≡ 84
+unfolding rowWord intervalWord base ring intervalSize slot
+flag-two = refl
+
+pub flag-one : flagWord one Vesting 0 9497 0 ≡ 76
+unfolding rowWord intervalWord base ring intervalSize slot
+flag-one = refl
+
+abbrev pub zeros : ℕ → List ℕ
+zeros n = replicate n 0
+
+-- ---- Ranges: value k of a section's interval is from low to high, both included, and no further
+
+abbrev from : Section → ℕ → ℤ → ℤ → Type 0
+from s k low high = (valueInRange s k low ≡ true) × (valueInRange s k (low -ℤ pos 1) ≡ false) × (valueInRange s k high ≡ true) × (valueInRange s k (high +ℤ pos 1) ≡ false)
+
+pub record Ranges : Type 0 where
+  pub bvq : from Vesting 0 (pos 0) (pos 10000000)
+  pub bvp : from Vesting 1 (minus 1000000) (pos 1000000)
+  pub tvq : from Vesting 6 (pos 0) (pos 10000000)
+  pub tvp : from Vesting 7 (minus 1000000) (pos 1000000)
+  pub mep : from Meter 0 (minus 1000000) (pos 1000000)
+  pub ieq : from Meter 1 (minus 10000000) (pos 10000000)
+  pub uegq : from Residual 0 (pos 0) (pos 10000000)
+  pub mq : from Residual 1 (pos 0) (pos 10000000)
+  pub rvp1 : from Residual 2 (minus 1000000) (pos 1000000)
+  pub rvp2 : from Residual 3 (minus 1000000) (pos 1000000)
+  pub load : from Ncc 0 (pos 0) (pos 1000000000)
+
+pub ranges : Ranges
+ranges = record {
+  bvq = (refl, refl, refl, refl);
+  bvp = (refl, refl, refl, refl);
+  tvq = (refl, refl, refl, refl);
+  tvp = (refl, refl, refl, refl);
+  mep = (refl, refl, refl, refl);
+  ieq = (refl, refl, refl, refl);
+  uegq = (refl, refl, refl, refl);
+  mq = (refl, refl, refl, refl);
+  rvp1 = (refl, refl, refl, refl);
+  rvp2 = (refl, refl, refl, refl);
+  load = (refl, refl, refl, refl);
+}
+
+-- ---- Values and row-examples
+
+pub minus-one : valueAt (255 ∷ 255 ∷ 255 ∷ 255 ∷ []) 0 ≡ minus 1
+unfolding valueAt signed32 num
+minus-one = refl
+
+-- an NCC row of 48 loads: 258, then zeros
+pub rows-read : fileRows (zeros 6 ++ (1 ∷ 0 ∷ 0x19 ∷ 0x25 ∷ 2 ∷ 1 ∷ zeros 190)) ≡ record { section = Ncc; account = 0; day = 9497; count = 0; numbers = pos 258 ∷ replicate 47 (pos 0) } ∷ []
+unfolding fileRows sectionRows tabulate num rowEnd rowPos sectionEnd turns valueAt signed32
+rows-read = refl
+
+-- ---- Well formed
+
+-- the words of a row at an interval, zeros after
+abbrev words : List ℤ → ℕ → ℤ
+words l n = getD l n (pos 0)
+
+pub record RowExamples : Type 0 where
+  pub absent : rowFits Vesting (words []) ≡ true
+  pub noTranche : rowFits Vesting (words (pos 1 ∷ pos 400 ∷ pos 15000 ∷ [])) ≡ true
+  pub twoTranches : rowFits Vesting (words (pos 3 ∷ pos 400 ∷ pos 15000 ∷ pos 1 ∷ minus 2 ∷ pos 3 ∷ pos 4 ∷ [])) ≡ true
+  pub unusedPair : rowFits Vesting (words (pos 2 ∷ pos 400 ∷ pos 15000 ∷ pos 1 ∷ minus 2 ∷ pos 3 ∷ pos 4 ∷ [])) ≡ false
+  pub absentData : rowFits Vesting (words (pos 0 ∷ pos 400 ∷ [])) ≡ false
+  pub threeTranches : rowFits Vesting (words (pos 4 ∷ [])) ≡ true
+  pub fourTranches : rowFits Vesting (words (pos 5 ∷ [])) ≡ false
+  pub fourFacilities : rowFits Meter (words (pos 4 ∷ [])) ≡ true
+  pub fiveFacilities : rowFits Meter (words (pos 5 ∷ [])) ≡ false
+  pub residualTwice : rowFits Residual (words (pos 2 ∷ [])) ≡ false
+  pub loadThere : rowFits Ncc (words (pos 550 ∷ pos 1 ∷ [])) ≡ true
+  pub loadAbsent : rowFits Ncc (words (pos 550 ∷ pos 0 ∷ [])) ≡ false
+
+pub row-examples : RowExamples
+unfolding rowFits rowBlank rowCounts numberFits fold
+row-examples = record {
+  absent = refl;
+  noTranche = refl;
+  twoTranches = refl;
+  unusedPair = refl;
+  absentData = refl;
+  threeTranches = refl;
+  fourTranches = refl;
+  fourFacilities = refl;
+  fiveFacilities = refl;
+  residualTwice = refl;
+  loadThere = refl;
+  loadAbsent = refl;
+}
+
+-- a header, N, L, H, F, C and the words after
+abbrev headed : ℤ → ℤ → ℤ → ℤ → ℤ → ℤ → List ℤ → Bool
+headed m n l h f c rest = headerFits two (m ∷ n ∷ l ∷ h ∷ f ∷ c ∷ rest)
+
+pub record Headers : Type 0 where
+  pub fine : headed (pos 395) (pos 32) (pos 75) (pos 92) (pos 9497) (pos 36525) (minus 7 ∷ []) ≡ true
+  pub wrongMark : headed (pos 394) (pos 2) (pos 1) (pos 1) (pos 9497) (pos 9497) [] ≡ false
+  pub noAccount : headed (pos 395) (pos 0) (pos 1) (pos 1) (pos 9497) (pos 9497) [] ≡ false
+  pub manyAccounts : headed (pos 395) (pos 33) (pos 1) (pos 1) (pos 9497) (pos 9497) [] ≡ false
+  pub longLag : headed (pos 395) (pos 2) (pos 76) (pos 1) (pos 9497) (pos 9497) [] ≡ false
+  pub longHorizon : headed (pos 395) (pos 2) (pos 1) (pos 93) (pos 9497) (pos 9497) [] ≡ false
+  pub earlyFirst : headed (pos 395) (pos 2) (pos 1) (pos 1) (pos 9496) (pos 9497) [] ≡ false
+  pub beforeFirst : headed (pos 395) (pos 2) (pos 1) (pos 1) (pos 9498) (pos 9497) [] ≡ false
+  pub pastLast : headed (pos 395) (pos 2) (pos 1) (pos 1) (pos 9497) (pos 36526) [] ≡ false
+  pub spareUsed : headed (pos 395) (pos 2) (pos 1) (pos 1) (pos 9497) (pos 9497) (pos 0 ∷ pos 1 ∷ []) ≡ false
+
+pub headers : Headers
+unfolding headerFits fold
+headers = record {
+  fine = refl;
+  wrongMark = refl;
+  noAccount = refl;
+  manyAccounts = refl;
+  longLag = refl;
+  longHorizon = refl;
+  earlyFirst = refl;
+  beforeFirst = refl;
+  pastLast = refl;
+  spareUsed = refl;
+}

@@ -1,0 +1,172 @@
+-- Document 01, "A submission file": its form, read off the bytes alone: where each row stands, and what it says. Assumes nothing.
+use mathlib.Core.Bool.{cond}
+use mathlib.Core.List.{List, _++_}
+use Prim.Native.Nat.{ℕ, zero, suc, _+_, _*_}
+use lib.Dec.{ltb}
+use lib.IntN.{ℤ, pos, subℕ}
+use lib.ListN.{getD}
+use Rattle.integer.specs.Below.{turns, tabulate}
+use Rattle.integer.specs.Words.{word}
+use Rattle.rulebook.specs.declared.Section.{Section}
+use Rattle.rulebook.specs.declared.Section.the-variants.{Vesting, Meter, Residual, Ncc}
+use Rattle.rulebook.specs.Units.{intervals}
+use Rattle.rulebook.specs.Sections.{perInterval, sameSection}
+
+-- ---- Fields
+
+-- the number that n bytes spell, the lowest first; a field of no bytes is 0
+unfoldable pub num : ℕ → List ℕ → ℕ → ℕ
+num zero s at = 0
+num (suc n) s at = getD s at 0 + 256 * num n s (at + 1)
+
+-- n below 2 ^ 32, read in two's complement: n, or n less 2 ^ 32 from 2 ^ 31 on
+unfoldable pub signed32 : ℕ → ℤ
+signed32 n = cond (ltb n 2147483648) (pos n) (subℕ n 4294967296)
+
+-- a value: four bytes
+unfoldable pub valueAt : List ℕ → ℕ → ℤ
+valueAt s at = signed32 (num 4 s at)
+
+-- ---- A row: account, day, count, values (Sections). A field that a section lacks has no bytes.
+--            account   day   count   each value
+--   vesting  1         2     1       4
+--   meter    1         2     1       4
+--   residual 1         2     none    4
+--   NCC      none      2     none    4
+abbrev pub accountBytes : Section → ℕ
+accountBytes Vesting = 1
+accountBytes Meter = 1
+accountBytes Residual = 1
+accountBytes Ncc = 0
+
+abbrev pub countBytes : Section → ℕ
+countBytes Vesting = 1
+countBytes Meter = 1
+countBytes Residual = 0
+countBytes Ncc = 0
+
+-- ---- Where a row's fields stand, the row at `at`, and what they say
+
+abbrev pub dayPos : Section → ℕ → ℕ
+dayPos sec at = at + accountBytes sec
+
+abbrev pub countPos : Section → ℕ → ℕ
+countPos sec at = dayPos sec at + 2
+
+abbrev pub valuesPos : Section → ℕ → ℕ
+valuesPos sec at = countPos sec at + countBytes sec
+
+abbrev pub accountAt : Section → List ℕ → ℕ → ℕ
+accountAt sec s at = num (accountBytes sec) s at
+
+abbrev pub dayAt : Section → List ℕ → ℕ → ℕ
+dayAt sec s at = num 2 s (dayPos sec at)
+
+abbrev pub countAt : Section → List ℕ → ℕ → ℕ
+countAt sec s at = num (countBytes sec) s (countPos sec at)
+
+-- how many values the row has
+abbrev pub valuesIn : Section → List ℕ → ℕ → ℕ
+valuesIn sec s at = intervals * perInterval sec (countAt sec s at)
+
+unfoldable pub rowEnd : Section → List ℕ → ℕ → ℕ
+rowEnd sec s at = valuesPos sec at + 4 * valuesIn sec s at
+
+-- ---- Sections
+
+-- where row i of a section stands whose first row is at `first`
+unfoldable pub rowPos : Section → List ℕ → ℕ → ℕ → ℕ
+rowPos sec s first i = turns i (λ _ at. rowEnd sec s at) first
+
+-- a section at `at`: the count of its rows in 2 bytes, then the rows
+abbrev pub rowsIn : List ℕ → ℕ → ℕ
+rowsIn s at = num 2 s at
+
+unfoldable pub sectionEnd : Section → List ℕ → ℕ → ℕ
+sectionEnd sec s at = rowPos sec s (at + 2) (rowsIn s at)
+
+-- where the four sections start, and where the last ends
+abbrev pub meterPos : List ℕ → ℕ
+meterPos s = sectionEnd Vesting s 0
+
+abbrev pub residualPos : List ℕ → ℕ
+residualPos s = sectionEnd Meter s (meterPos s)
+
+abbrev pub nccPos : List ℕ → ℕ
+nccPos s = sectionEnd Residual s (residualPos s)
+
+abbrev pub endPos : List ℕ → ℕ
+endPos s = sectionEnd Ncc s (nccPos s)
+
+-- ---- RowsInForce
+
+-- what a row names, and its values, interval after interval
+pub record Row : Type 0 where
+  pub section : Section
+  pub account : ℕ
+  pub day : ℕ
+  pub count : ℕ
+  pub numbers : List ℤ
+
+abbrev pub rowAt : Section → List ℕ → ℕ → Row
+rowAt sec s at = record {
+  section = sec;
+  account = accountAt sec s at;
+  day = dayAt sec s at;
+  count = countAt sec s at;
+  numbers = tabulate (valuesIn sec s at) (λ k. valueAt s (valuesPos sec at + 4 * k));
+}
+
+unfoldable pub sectionRows : Section → List ℕ → ℕ → List Row
+sectionRows sec s at = tabulate (rowsIn s at) (λ i. rowAt sec s (rowPos sec s (at + 2) i))
+
+-- the rows of a file, in file order
+unfoldable pub fileRows : List ℕ → List Row
+fileRows s = sectionRows Vesting s 0 ++ (sectionRows Meter s (meterPos s) ++ (sectionRows Residual s (residualPos s) ++ sectionRows Ncc s (nccPos s)))
+
+-- number k of a row at interval i; zero where it has no such number
+unfoldable pub numberOf : Row → ℕ → ℕ → ℤ
+numberOf row i k = cond (ltb k (perInterval (row .section) (row .count)))
+    (word (row .numbers) (i * perInterval (row .section) (row .count) + k)) (pos 0)
+
+-- ---- Figures of a row, by document 01's names
+
+-- tender t of 0 to 2, facility f of 0 to 3
+pub data Figure : Type 0 where
+  BVQ BVP : Figure
+  TVQ TVP : ℕ → Figure
+  MEP IEQ : ℕ → Figure
+  UEGQ MQ RVP1 RVP2 : Figure
+  NccLoad : Figure
+
+-- whose rows have it
+abbrev pub figureSection : Figure → Section
+figureSection BVQ = Vesting
+figureSection BVP = Vesting
+figureSection (TVQ t) = Vesting
+figureSection (TVP t) = Vesting
+figureSection (MEP f) = Meter
+figureSection (IEQ f) = Meter
+figureSection UEGQ = Residual
+figureSection MQ = Residual
+figureSection RVP1 = Residual
+figureSection RVP2 = Residual
+figureSection NccLoad = Ncc
+
+-- which of its interval's numbers it is
+abbrev pub figurePlace : Figure → ℕ
+figurePlace BVQ = 0
+figurePlace BVP = 1
+figurePlace (TVQ t) = 2 + 2 * t
+figurePlace (TVP t) = 3 + 2 * t
+figurePlace (MEP f) = 2 * f
+figurePlace (IEQ f) = 1 + 2 * f
+figurePlace UEGQ = 0
+figurePlace MQ = 1
+figurePlace RVP1 = 2
+figurePlace RVP2 = 3
+figurePlace NccLoad = 0
+
+-- a row's figure at interval i; zero where the row has no such figure
+unfoldable pub figureOf : Row → ℕ → Figure → ℤ
+figureOf row i g = cond (sameSection (row .section) (figureSection g)) (numberOf row i (figurePlace g)) (pos 0)

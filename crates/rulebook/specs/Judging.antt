@@ -1,0 +1,117 @@
+-- Document 01, "A submission file": how it is judged, its fields in file order, the first refusal standing. Assumes nothing.
+use mathlib.Core.Bool.{Bool, true, false, not, _&&_, _||_}
+use mathlib.Core.List.{List}
+use Prim.Native.Nat.{ℕ, zero, suc, _+_, _*_, _-_, min, max}
+use lib.Dec.{eqb, leb}
+use lib.ListN.{length}
+use Rattle.rulebook.specs.declared.Section.{Section}
+use Rattle.rulebook.specs.declared.Section.the-variants.{Vesting, Meter, Residual, Ncc}
+use Rattle.rulebook.specs.declared.Terms.{Terms}
+use Rattle.rulebook.specs.declared.Why.{Why}
+use Rattle.rulebook.specs.declared.Why.the-variants.{NotWhole, OutOfRange, DayNotOpen, Repeated, Excess}
+use Rattle.rulebook.specs.declared.Verdict.{Verdict}
+use Rattle.rulebook.specs.declared.Verdict.the-variants.{Accepted, Refused}
+use Rattle.rulebook.specs.Units.{lastDay, inRange}
+use Rattle.rulebook.specs.Sections.{leastCount, mostCount, kindOf}
+use Rattle.rulebook.specs.File.{num, accountBytes, countBytes, dayPos, countPos, valuesPos, accountAt, dayAt, valuesIn, valueAt, rowPos, rowsIn, meterPos, residualPos, nccPos, endPos}
+
+-- ---- Checks in order
+
+-- accepted where the test holds, else refused so
+abbrev pub require : Bool → Why → ℕ → Verdict
+require true w at = Accepted
+require false w at = Refused w at
+
+-- one check after another: the first refusal stands
+infixr 5 _andThen_
+abbrev pub _andThen_ : Verdict → Verdict → Verdict
+Accepted andThen y = y
+(Refused w at) andThen y = Refused w at
+
+-- checks 0 to n - 1
+unfoldable pub upTo : ℕ → (ℕ → Verdict) → Verdict
+upTo zero f = Accepted
+upTo (suc n) f = upTo n f andThen f n
+
+-- ---- Open days: from C, or for residual and NCC rows from max(F, C − L), to C + H − 1, none past the last
+
+module _ (o : Terms) (C : ℕ) where
+  abbrev pub openFrom : Section → ℕ
+  openFrom Vesting = C
+  openFrom Meter = C
+  openFrom Residual = max (o .first) (C - o .lag)
+  openFrom Ncc = max (o .first) (C - o .lag)
+
+  abbrev pub openTo : ℕ
+  openTo = min (C + o .horizon - 1) lastDay
+
+-- ---- Fields
+
+-- 4: the n bytes at `at` are not all there
+abbrev pub whole : ℕ → List ℕ → ℕ → Verdict
+whole n s at = require (leb (at + n) (length s)) NotWhole at
+
+-- a field of n bytes at `at`: whole, and from low to high, else refused for `why`
+unfoldable pub fieldIn : ℕ → ℕ → ℕ → Why → List ℕ → ℕ → Verdict
+fieldIn n low high why s at =
+    whole n s at
+    andThen require (leb low (num n s at)) why at
+    andThen require (leb (num n s at) high) why at
+
+-- value k of a row whose values start at `from`: whole, in range
+unfoldable pub value : Section → List ℕ → ℕ → ℕ → Verdict
+value sec s from k =
+    whole 4 s (from + 4 * k)
+    andThen require (inRange (kindOf sec k) (valueAt s (from + 4 * k))) OutOfRange (from + 4 * k)
+
+-- ---- A row, of n accounts and days from low to high
+
+-- account and day of the row at `at`
+unfoldable pub key : ℕ → ℕ → ℕ → Section → List ℕ → ℕ → Verdict
+key n low high sec s at =
+    fieldIn (accountBytes sec) 0 (n - 1) OutOfRange s at
+    andThen fieldIn 2 low high DayNotOpen s (dayPos sec at)
+
+-- some row before row i of the section has account a and day d
+unfoldable pub given : Section → List ℕ → ℕ → ℕ → ℕ → ℕ → Bool
+given sec s first zero a d = false
+given sec s first (suc i) a d =
+    given sec s first i a d || (eqb (accountAt sec s (rowPos sec s first i)) a && eqb (dayAt sec s (rowPos sec s first i)) d)
+
+-- the rest of the row at `at`: count, then the values
+unfoldable pub rest : Section → List ℕ → ℕ → Verdict
+rest sec s at =
+    fieldIn (countBytes sec) (leastCount sec) (mostCount sec) OutOfRange s (countPos sec at)
+    andThen upTo (valuesIn sec s at) (value sec s (valuesPos sec at))
+
+-- the row at `at`, where `again` says that its account and day were given before
+unfoldable pub rowAfter : ℕ → ℕ → ℕ → Section → List ℕ → ℕ → Bool → Verdict
+rowAfter n low high sec s at again =
+    key n low high sec s at
+    andThen require (not again) Repeated (dayPos sec at)
+    andThen rest sec s at
+
+-- row i of a section whose first row is at `first`
+unfoldable pub judgedRow : ℕ → ℕ → ℕ → Section → List ℕ → ℕ → ℕ → Verdict
+judgedRow n low high sec s first i =
+    rowAfter n low high sec s (rowPos sec s first i)
+    (given sec s first i (accountAt sec s (rowPos sec s first i)) (dayAt sec s (rowPos sec s first i)))
+
+-- ---- Sections and file
+
+-- the section at `at`: its count whole, then its rows
+unfoldable pub judgedSection : ℕ → ℕ → ℕ → Section → List ℕ → ℕ → Verdict
+judgedSection n low high sec s at = whole 2 s at andThen upTo (rowsIn s at) (judgedRow n low high sec s (at + 2))
+
+-- under the book's terms and C, the next day to close
+abbrev pub bookSection : Terms → ℕ → Section → List ℕ → ℕ → Verdict
+bookSection o C sec s at = judgedSection (o .accounts) (openFrom o C sec) (openTo o C) sec s at
+
+-- the four sections, and no byte after them
+unfoldable pub judged : Terms → ℕ → List ℕ → Verdict
+judged o C s =
+    bookSection o C Vesting s 0
+    andThen bookSection o C Meter s (meterPos s)
+    andThen bookSection o C Residual s (residualPos s)
+    andThen bookSection o C Ncc s (nccPos s)
+    andThen require (leb (length s) (endPos s)) Excess (endPos s)

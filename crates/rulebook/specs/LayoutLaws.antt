@@ -1,0 +1,121 @@
+-- Where words stand: no two words of the book have one index, and no two days of a window of L + H days one slot. Assumes nothing.
+use mathlib.Core.Path.{_≡_, refl, sym, ap, _∙_}
+use Prim.Native.Nat.{ℕ, zero, _+_, _-_, _*_, _/_, _%_, _≤_, _<_}
+use native.Mathlib.Nat.{div-add-mod', mul-comm, add-left-cancel, mod-lt}
+use native.Mathlib.Omega.{arith}
+use lib.Arith.{digits-div, digits-mod, digits-lt}
+use Rattle.rulebook.specs.declared.Section.{Section}
+use Rattle.rulebook.specs.declared.Section.the-variants.{Vesting, Meter, Residual, Ncc}
+use Rattle.rulebook.specs.declared.Terms.{Terms}
+use Rattle.rulebook.specs.Sections.{accountsOf}
+use Rattle.rulebook.specs.Layout.{width, place, intervalSize, ring, base, size, slot, intervalWord, rowWord}
+
+-- two digits of a number are its own
+pub quotient : (q q′ : ℕ) {m r r′ : ℕ} → r < m → r′ < m → q * m + r ≡ q′ * m + r′ → q ≡ q′
+quotient q q′ {m} {r} {r′} h h′ e = sym (digits-div q h) ∙ ap (λ (x : ℕ). x / m) e ∙ digits-div q′ h′
+
+pub remainder : (q q′ : ℕ) {m r r′ : ℕ} → r < m → r′ < m → q * m + r ≡ q′ * m + r′ → r ≡ r′
+remainder q q′ {m} {r} {r′} h h′ e = sym (digits-mod q h) ∙ ap (λ (x : ℕ). x % m) e ∙ digits-mod q′ h′
+
+-- two days of a window of p days share no slot
+pub window-apart : (n : ℕ) {p u u′ : ℕ} → u < p → u′ < p → (n + u) % p ≡ (n + u′) % p → u ≡ u′
+window-apart n {p} {u} {u′} h h′ e =
+    let c = div-add-mod' (n + u) p in
+    let c′ = div-add-mod' (n + u′) p in
+    let x : (n + u′) / p * p + u ≡ (n + u) / p * p + u′ = omega arith in
+    remainder ((n + u′) / p) ((n + u) / p) h h′ x
+
+-- ---- inside an interval
+pub record SameRow (s : Section) (a j : ℕ) (s′ : Section) (a′ j′ : ℕ) : Type 0 where
+  pub section : s ≡ s′
+  pub account : a ≡ a′
+  pub word : j ≡ j′
+
+pub data Either (A B : Type 0) : Type 0 where
+  left : A → Either A B
+  right : B → Either A B
+
+pub account-words-apart : (a a′ k k′ : ℕ) → k < 24 → k′ < 24 → 24 * a + k ≡ 24 * a′ + k′ → (a ≡ a′) × (k ≡ k′)
+account-words-apart a a′ k k′ h h′ e =
+    let x : a * 24 + k ≡ a′ * 24 + k′ = omega arith in
+    (quotient a a′ h h′ x, remainder a a′ h h′ x)
+
+apart : {X : Type 0} (a a′ k k′ : ℕ) → k < 24 → k′ < 24 → 24 * a + k ≡ 24 * a′ + k′ → (k ≡ k′ → ⊥) → X
+apart a a′ k k′ h h′ e f = absurd (f (account-words-apart a a′ k k′ h h′ e .1))
+
+pub row-words-apart : (n : ℕ) (s s′ : Section) (a a′ j j′ : ℕ) → a < accountsOf s n → a′ < accountsOf s′ n → j < width s → j′ < width s′
+    → place s a j ≡ place s′ a′ j′ → SameRow s a j s′ a′ j′
+row-words-apart n Vesting Vesting a a′ j j′ b b′ h h′ e = let x = account-words-apart a a′ j j′ (omega arith) (omega arith) (omega arith) in record { section = refl; account = x .0; word = x .1 }
+row-words-apart n Vesting Meter a a′ j j′ b b′ h h′ e = apart a a′ j (9 + j′) (omega arith) (omega arith) (omega arith) (λ c. omega arith)
+row-words-apart n Vesting Residual a a′ j j′ b b′ h h′ e = apart a a′ j (18 + j′) (omega arith) (omega arith) (omega arith) (λ c. omega arith)
+row-words-apart n Vesting Ncc a a′ j j′ b b′ h h′ e = absurd (omega arith)
+row-words-apart n Meter Vesting a a′ j j′ b b′ h h′ e = apart a a′ (9 + j) j′ (omega arith) (omega arith) (omega arith) (λ c. omega arith)
+row-words-apart n Meter Meter a a′ j j′ b b′ h h′ e = let x = account-words-apart a a′ j j′ (omega arith) (omega arith) (omega arith) in record { section = refl; account = x .0; word = x .1 }
+row-words-apart n Meter Residual a a′ j j′ b b′ h h′ e = apart a a′ (9 + j) (18 + j′) (omega arith) (omega arith) (omega arith) (λ c. omega arith)
+row-words-apart n Meter Ncc a a′ j j′ b b′ h h′ e = absurd (omega arith)
+row-words-apart n Residual Vesting a a′ j j′ b b′ h h′ e = apart a a′ (18 + j) j′ (omega arith) (omega arith) (omega arith) (λ c. omega arith)
+row-words-apart n Residual Meter a a′ j j′ b b′ h h′ e = apart a a′ (18 + j) (9 + j′) (omega arith) (omega arith) (omega arith) (λ c. omega arith)
+row-words-apart n Residual Residual a a′ j j′ b b′ h h′ e = let x = account-words-apart a a′ j j′ (omega arith) (omega arith) (omega arith) in record { section = refl; account = x .0; word = x .1 }
+row-words-apart n Residual Ncc a a′ j j′ b b′ h h′ e = absurd (omega arith)
+row-words-apart n Ncc Vesting a a′ j j′ b b′ h h′ e = absurd (omega arith)
+row-words-apart n Ncc Meter a a′ j j′ b b′ h h′ e = absurd (omega arith)
+row-words-apart n Ncc Residual a a′ j j′ b b′ h h′ e = absurd (omega arith)
+row-words-apart n Ncc Ncc a a′ j j′ b b′ h h′ e = record { section = refl; account = omega arith; word = omega arith }
+
+-- a row's words are the interval's
+pub row-inside : (n : ℕ) (s : Section) (a j : ℕ) → a < accountsOf s n → j < width s → place s a j < 4 + 24 * n
+row-inside n Vesting a j h k = omega arith
+row-inside n Meter a j h k = omega arith
+row-inside n Residual a j h k = omega arith
+row-inside n Ncc a j h k = omega arith
+
+module _ (o : Terms) where
+  -- two words of intervals with one index are the same word
+  pub interval-apart : (t t′ : ℕ) {i i′ m m′ : ℕ} → i < 48 → i′ < 48 → m < intervalSize o → m′ < intervalSize o
+      → intervalWord o t i m ≡ intervalWord o t′ i′ m′ → (t ≡ t′) × (i ≡ i′) × (m ≡ m′)
+  unfolding intervalWord
+  interval-apart t t′ {i} {i′} {m} {m′} hi hi′ hm hm′ e =
+      let x : (t * 48 + i) * intervalSize o + m ≡ (t′ * 48 + i′) * intervalSize o + m′ = add-left-cancel (base o) e in
+      let y : t * 48 + i ≡ t′ * 48 + i′ = quotient (t * 48 + i) (t′ * 48 + i′) hm hm′ x in
+      (quotient t t′ hi hi′ y, remainder t t′ hi hi′ y, remainder (t * 48 + i) (t′ * 48 + i′) hm hm′ x)
+
+  -- every word of an interval is a word of the book
+  pub interval-inside : {t i m : ℕ} → t < ring o → i < 48 → m < intervalSize o → intervalWord o t i m < size o
+  unfolding intervalWord size
+  interval-inside {t} {i} {m} ht hi hm =
+      let x : t * 48 + i < ring o * 48 = digits-lt ht hi in
+      let y : (t * 48 + i) * intervalSize o + m < ring o * 48 * intervalSize o = digits-lt x hm in
+      omega (arith, ap (λ (k : ℕ). k * intervalSize o) (mul-comm (ring o) 48))
+
+  pub slot-inside : (d : ℕ) → zero < ring o → slot o d < ring o
+  unfolding slot
+  slot-inside d h = mod-lt (d - o .first) h
+
+  pub record SameWord (s : Section) (a d i j : ℕ) (s′ : Section) (a′ d′ i′ j′ : ℕ) : Type 0 where
+    pub slots : slot o d ≡ slot o d′
+    pub interval : i ≡ i′
+    pub row : SameRow s a j s′ a′ j′
+
+  -- two words of rows with one index are the same word of the same row
+  pub rows-apart : (s s′ : Section) (a a′ d d′ i i′ j j′ : ℕ) → a < accountsOf s (o .accounts) → a′ < accountsOf s′ (o .accounts)
+      → i < 48 → i′ < 48 → j < width s → j′ < width s′ → rowWord o s a d i j ≡ rowWord o s′ a′ d′ i′ j′ → SameWord s a d i j s′ a′ d′ i′ j′
+  unfolding rowWord intervalSize
+  rows-apart s s′ a a′ d d′ i i′ j j′ ha ha′ hi hi′ hj hj′ e =
+      let x = interval-apart (slot o d) (slot o d′) hi hi′ (row-inside (o .accounts) s a j ha hj) (row-inside (o .accounts) s′ a′ j′ ha′ hj′) e in
+      record { slots = x .0; interval = x .1; row = row-words-apart (o .accounts) s s′ a a′ j j′ ha ha′ hj hj′ (x .2) }
+
+  -- the window: days of the book from C − L to C + H − 1, with k = C − F closed
+  pub record InWindow (k d : ℕ) : Type 0 where
+    pub begun : o .first ≤ d
+    pub kept : o .first + k ≤ d + o .lag
+    pub ahead : d < o .first + k + o .horizon
+
+  -- two days of the window share no slot
+  pub days-apart : (k d d′ : ℕ) → InWindow k d → InWindow k d′ → slot o d ≡ slot o d′ → d ≡ d′
+  unfolding slot ring
+  days-apart k d d′ h h′ e =
+      let n : ℕ = k - o .lag in
+      let x : n + (d - o .first - n) ≡ d - o .first = omega arith in
+      let x′ : n + (d′ - o .first - n) ≡ d′ - o .first = omega arith in
+      let u = window-apart n {p = o .lag + o .horizon} {u = d - o .first - n} {u′ = d′ - o .first - n} (omega arith) (omega arith) (rw (x, x′) e) in
+      omega arith

@@ -1,0 +1,239 @@
+-- A book's words hold a ledger: closed days, figures and balances. Storing a file's rows keeps it so. Assumes nothing.
+use mathlib.Core.Path.{_≡_, refl, sym, ap, _∙_, subst}
+use mathlib.Core.Bool.{Bool, true, false, cond, _&&_}
+use mathlib.Core.List.{List, [], _∷_}
+use mathlib.Core.Option.{Option, none, some}
+use Prim.Native.Nat.{ℕ, zero, _+_, _-_, _*_, _≤_, _<_}
+use native.Mathlib.Nat.{zero-add}
+use native.Mathlib.Omega.{arith}
+use lib.IntN.{ℤ, pos}
+use lib.Dec.{T, eqb→eq, eqb-refl}
+use lib.ListN.{length}
+use Rattle.integer.specs.Below.{Each}
+use Rattle.integer.specs.Words.{word}
+use Rattle.rulebook.specs.declared.Section.{Section}
+use Rattle.rulebook.specs.declared.Section.the-variants.{Vesting, Meter, Residual, Ncc}
+use Rattle.rulebook.specs.declared.Terms.{Terms}
+use Rattle.rulebook.specs.Sections.{accountsOf, sameSection}
+use Rattle.rulebook.specs.Layout.{Entries, width, place, intervalSize, ring, base, size, slot, intervalWord, rowWord, windowSlot}
+use Rattle.rulebook.specs.File.{Row}
+use Rattle.rulebook.specs.Submit.{entry, rowStored, rowsStored}
+use Rattle.rulebook.specs.History.{isFor, RowsInForce}
+use Rattle.rulebook.specs.LayoutLaws.{rows-apart, InWindow, days-apart, window-apart, interval-apart, row-inside, account-words-apart}
+use Rattle.rulebook.specs.WordLaws.{row-out, row-in, length-rowStored}
+
+-- the words of an interval that belong to no row
+pub data Padding (n : ℕ) : ℕ → Type 0 where
+  third : Padding n 2
+  fourth : Padding n 3
+  cell : (a : ℕ) → a < n → Padding n (27 + 24 * a)
+
+-- a book told apart from its words: closed days, what stands in each row, and balances in cents
+pub record Ledger : Type 0 where
+  pub closed : ℕ
+  pub entries : Entries
+  pub balance : ℕ → ℤ
+  pub mssl : ℤ
+
+-- the words w hold the ledger b
+pub record Holds (o : Terms) (b : Ledger) (w : List ℤ) : Type 0 where
+  pub long : size o ≤ length w
+  pub mark : word w 0 ≡ pos 395
+  pub accounts : word w 1 ≡ pos (o .accounts)
+  pub lag : word w 2 ≡ pos (o .lag)
+  pub horizon : word w 3 ≡ pos (o .horizon)
+  pub first : word w 4 ≡ pos (o .first)
+  pub next : word w 5 ≡ pos (o .first + b .closed)
+  pub mssl : word w 6 ≡ b .mssl
+  pub spare : (n : ℕ) → n < 57 → word w (7 + n) ≡ pos 0
+  pub balances : (a : ℕ) → a < o .accounts → word w (64 + 8 * a) ≡ b .balance a
+  pub spares : (a j : ℕ) → a < o .accounts → j < 7 → word w (65 + 8 * a + j) ≡ pos 0
+  -- a day of the window: each word of each row
+  pub held : (s : Section) (a d i j : ℕ) → InWindow o (b .closed) d → a < accountsOf s (o .accounts) → i < 48 → j < width s
+      → word w (rowWord o s a d i j) ≡ b .entries s a d i j
+  -- the slots of no day yet, while fewer than L days are closed
+  pub early : (u i m : ℕ) → b .closed + u < o .lag → i < 48 → m < intervalSize o → word w (intervalWord o (windowSlot o (b .closed) u) i m) ≡ pos 0
+  pub padding : (t i m : ℕ) → t < ring o → i < 48 → Padding (o .accounts) m → word w (intervalWord o t i m) ≡ pos 0
+
+-- figures that agree, and balances that agree for the book's accounts
+pub held-same : {o : Terms} {b c : Ledger} {w : List ℤ} → b .closed ≡ c .closed → ((s : Section) (a d i j : ℕ) → b .entries s a d i j ≡ c .entries s a d i j)
+    → ((a : ℕ) → a < o .accounts → b .balance a ≡ c .balance a) → b .mssl ≡ c .mssl → Holds o b w → Holds o c w
+held-same {o} {b} {c} {w} k f e m h = record {
+  long = h .long;
+  mark = h .mark;
+  accounts = h .accounts;
+  lag = h .lag;
+  horizon = h .horizon;
+  first = h .first;
+  next = h .next ∙ ap (λ (x : ℕ). pos (o .first + x)) k;
+  mssl = h .mssl ∙ m;
+  spare = h .spare;
+  balances = λ a x. h .balances a x ∙ e a x;
+  spares = h .spares;
+  held = λ s a d i j x ha hi hj. h .held s a d i j (subst (λ (y : ℕ). InWindow o y d) (sym k) x) ha hi hj ∙ f s a d i j;
+  early = subst (λ (y : ℕ). (u i m : ℕ) → y + u < o .lag → i < 48 → m < intervalSize o → word w (intervalWord o (windowSlot o y u) i m) ≡ pos 0) k (h .early);
+  padding = h .padding;
+}
+
+-- ---- a row's key
+
+same-section : (s t : Section) → T (sameSection s t) → s ≡ t
+same-section Vesting Vesting h = refl
+same-section Vesting Meter h = absurd h
+same-section Vesting Residual h = absurd h
+same-section Vesting Ncc h = absurd h
+same-section Meter Vesting h = absurd h
+same-section Meter Meter h = refl
+same-section Meter Residual h = absurd h
+same-section Meter Ncc h = absurd h
+same-section Residual Vesting h = absurd h
+same-section Residual Meter h = absurd h
+same-section Residual Residual h = refl
+same-section Residual Ncc h = absurd h
+same-section Ncc Vesting h = absurd h
+same-section Ncc Meter h = absurd h
+same-section Ncc Residual h = absurd h
+same-section Ncc Ncc h = refl
+
+pub section-self : (s : Section) → T (sameSection s s)
+section-self Vesting = tt
+section-self Meter = tt
+section-self Residual = tt
+section-self Ncc = tt
+
+pub and-left : (a b : Bool) → T (a && b) → T a
+and-left true b t = tt
+and-left false b t = t
+
+pub and-right : (a b : Bool) → T (a && b) → T b
+and-right true b t = t
+and-right false b t = absurd t
+
+pub and-both : (a b : Bool) → T a → T b → T (a && b)
+and-both true b t u = u
+and-both false b t u = t
+
+pub record IsFor (s : Section) (a d : ℕ) (row : Row) : Type 0 where
+  pub section : row .section ≡ s
+  pub account : row .account ≡ a
+  pub day : row .day ≡ d
+
+pub is-for : (s : Section) (a d : ℕ) (row : Row) → T (isFor s a d row) → IsFor s a d row
+is-for s a d row h = record {
+  section = same-section (row .section) s (search (and-left, and-right));
+  account = eqb→eq (row .account) a (search (and-left, and-right));
+  day = eqb→eq (row .day) d (search (and-left, and-right));
+}
+
+pub for-itself : {s : Section} {a d : ℕ} (row : Row) → IsFor s a d row → T (isFor s a d row)
+for-itself {s} {a} {d} row h = rw (← (h .section), ← (h .account), ← (h .day)) (search (and-both, section-self, eqb-refl))
+
+-- what stands in a row's words; a row that is not there is all zeros
+abbrev pub entryOf : Option Row → ℕ → ℕ → ℤ
+entryOf none i j = pos 0
+entryOf (some r) i j = entry r i j
+
+abbrev pub entriesIn : RowsInForce → Entries
+entriesIn rows s a d i j = entryOf (rows s a d) i j
+
+-- entries with a row, or a file's rows, over them
+abbrev pub replaced : Row → Entries → Entries
+replaced row g s a d i j = cond (isFor s a d row) (entry row i j) (g s a d i j)
+
+unfoldable pub overlaid : List Row → Entries → Entries
+overlaid [] g = g
+overlaid (r ∷ rs) g = overlaid rs (replaced r g)
+
+abbrev pub filed : Row → Ledger → Ledger
+filed r b = record { closed = b .closed; entries = replaced r (b .entries); balance = b .balance; mssl = b .mssl }
+
+abbrev pub submittedTo : List Row → Ledger → Ledger
+submittedTo rs b = record { closed = b .closed; entries = overlaid rs (b .entries); balance = b .balance; mssl = b .mssl }
+
+-- no row's word is padding, below the intervals, or in the slot of no day
+row-padding : (n : ℕ) (s : Section) (a j m : ℕ) → a < accountsOf s n → j < width s → Padding n m → m ≡ place s a j → ⊥
+row-padding n Vesting a j m ha hj third e = omega arith
+row-padding n Meter a j m ha hj third e = omega arith
+row-padding n Residual a j m ha hj third e = omega arith
+row-padding n Ncc a j m ha hj third e = omega arith
+row-padding n Vesting a j m ha hj fourth e = omega arith
+row-padding n Meter a j m ha hj fourth e = omega arith
+row-padding n Residual a j m ha hj fourth e = omega arith
+row-padding n Ncc a j m ha hj fourth e = omega arith
+row-padding n Vesting a j m ha hj (cell b hb) e = let x = account-words-apart b a 23 j (omega arith) (omega arith) (omega arith) in omega arith
+row-padding n Meter a j m ha hj (cell b hb) e = let x = account-words-apart b a 23 (9 + j) (omega arith) (omega arith) (omega arith) in omega arith
+row-padding n Residual a j m ha hj (cell b hb) e = let x = account-words-apart b a 23 (18 + j) (omega arith) (omega arith) (omega arith) in omega arith
+row-padding n Ncc a j m ha hj (cell b hb) e = omega arith
+
+pub padding-inside : (n m : ℕ) → Padding n m → m < 4 + 24 * n
+padding-inside n m third = omega arith
+padding-inside n m fourth = omega arith
+padding-inside n m (cell a ha) = omega arith
+
+pub padding-fits : (o : Terms) (m : ℕ) → Padding (o .accounts) m → m < intervalSize o
+unfolding intervalSize
+padding-fits o m h = padding-inside (o .accounts) m h
+
+module _ (o : Terms) (p : zero < ring o) where
+  below-rows : (s : Section) (a d i j : ℕ) (n : ℕ) → n < base o → n ≡ rowWord o s a d i j → ⊥
+  unfolding rowWord intervalWord
+  below-rows s a d i j n h e = omega arith
+
+  early-apart : (k u d : ℕ) → k + u < o .lag → InWindow o k d → windowSlot o k u ≡ slot o d → ⊥
+  unfolding slot ring windowSlot
+  early-apart k u d h hd e =
+      let x = window-apart 0 {p = o .lag + o .horizon} {u = k + u + o .horizon} {u′ = d - o .first} (omega arith) (omega arith) (simp zero-add e) in
+      omega arith
+
+  module _ (b : Ledger) (row : Row) (day : InWindow o (b .closed) (row .day)) (account : row .account < accountsOf (row .section) (o .accounts)) where
+    front : (w : List ℤ) (n : ℕ) → n < base o → word (rowStored o row 48 w) n ≡ word w n
+    front w n x = row-out o row 48 w n (λ i j hi hj e. below-rows (row .section) (row .account) (row .day) i j n x e)
+
+    elsewhere : (w : List ℤ) (t i m : ℕ) → i < 48 → m < intervalSize o
+        → ((j : ℕ) → j < width (row .section) → t ≡ slot o (row .day) → m ≡ place (row .section) (row .account) j → ⊥)
+        → word (rowStored o row 48 w) (intervalWord o t i m) ≡ word w (intervalWord o t i m)
+    unfolding rowWord intervalSize
+    elsewhere w t i m hi hm f = row-out o row 48 w (intervalWord o t i m) (λ i′ j hi′ hj e.
+        let y = interval-apart o t (slot o (row .day)) hi hi′ hm (row-inside (o .accounts) (row .section) (row .account) j account hj) e in f j hj (y .0) (y .2))
+
+    decide : (w : List ℤ) → Holds o b w → (s : Section) (a d i j : ℕ) → InWindow o (b .closed) d → a < accountsOf s (o .accounts) → i < 48 → j < width s
+        → (y : Bool) → isFor s a d row ≡ y → word (rowStored o row 48 w) (rowWord o s a d i j) ≡ cond y (entry row i j) (b .entries s a d i j)
+    decide w h s a d i j x ha hi hj true e =
+        let f = is-for s a d row (subst T (sym e) tt) in
+        rw (← (f .section), ← (f .account), ← (f .day)) (row-in o row p account 48 w (omega arith) (h .long) i j hi (subst (λ (y : Section). j < width y) (sym (f .section)) hj))
+    decide w h s a d i j x ha hi hj false e =
+        row-out o row 48 w (rowWord o s a d i j) (λ i′ j′ hi′ hj′ c.
+        let y = rows-apart o s (row .section) a (row .account) d (row .day) i i′ j j′ ha account hi hi′ hj hj′ c in
+        subst T e (for-itself row (record { section = sym (y .row .section); account = sym (y .row .account); day = sym (days-apart o (b .closed) d (row .day) x day (y .slots)) })))
+        ∙ h .held s a d i j x ha hi hj
+
+    -- one row stored
+    pub row-held : (w : List ℤ) → Holds o b w → Holds o (filed row b) (rowStored o row 48 w)
+    unfolding base
+    row-held w h = record {
+      long = omega (arith, length-rowStored o row 48 w, h .long);
+      mark = front w 0 (omega arith) ∙ h .mark;
+      accounts = front w 1 (omega arith) ∙ h .accounts;
+      lag = front w 2 (omega arith) ∙ h .lag;
+      horizon = front w 3 (omega arith) ∙ h .horizon;
+      first = front w 4 (omega arith) ∙ h .first;
+      next = front w 5 (omega arith) ∙ h .next;
+      mssl = front w 6 (omega arith) ∙ h .mssl;
+      spare = λ n x. front w (7 + n) (omega arith) ∙ h .spare n x;
+      balances = λ a x. front w (64 + 8 * a) (omega arith) ∙ h .balances a x;
+      spares = λ a j x y. front w (65 + 8 * a + j) (omega arith) ∙ h .spares a j x y;
+      held = λ s a d i j x ha hi hj. decide w h s a d i j x ha hi hj (isFor s a d row) refl;
+      early = λ u i m x hi hm. elsewhere w _ i m hi hm (λ j hj e f. early-apart (b .closed) u (row .day) x day e) ∙ h .early u i m x hi hm;
+      padding = λ t i m ht hi hm. elsewhere w t i m hi (padding-fits o m hm)
+          (λ j hj e f. row-padding (o .accounts) (row .section) (row .account) j m account hj hm f) ∙ h .padding t i m ht hi hm;
+    }
+
+pub record Storable (o : Terms) (k : ℕ) (row : Row) : Type 0 where
+  pub day : InWindow o k (row .day)
+  pub account : row .account < accountsOf (row .section) (o .accounts)
+
+module _ (o : Terms) (p : zero < ring o) where
+  pub rows-held : (rs : List Row) (b : Ledger) (w : List ℤ) → Each (Storable o (b .closed)) rs → Holds o b w → Holds o (submittedTo rs b) (rowsStored o rs w)
+  unfolding rowsStored overlaid
+  rows-held [] b w x h = h
+  rows-held (r ∷ rs) b w x h = rows-held rs (filed r b) (rowStored o r 48 w) (x .1) (row-held o p b r (x .0 .day) (x .0 .account) w h)

@@ -1,0 +1,57 @@
+-- Document 01, "A submission file" and "The book": what a row of each section holds. Assumes nothing.
+use mathlib.Core.Bool.{Bool, true, false, cond}
+use Prim.Native.Nat.{ℕ, _+_, _*_, _%_}
+use lib.Dec.{eqb, ltb}
+use lib.IntN.{ℤ}
+use Rattle.rulebook.specs.declared.Section.{Section}
+use Rattle.rulebook.specs.declared.Section.the-variants.{Vesting, Meter, Residual, Ncc}
+use Rattle.rulebook.specs.declared.Kind.{Kind}
+use Rattle.rulebook.specs.declared.Kind.the-variants.{Quantity, Price, Injection, Load}
+use Rattle.rulebook.specs.Units.{inRange}
+
+--            count                  its values of an interval
+--   vesting  0 to 3 tranches        BVQ, BVP, then TVQ, TVP pairs
+--   meter    1 to 4 facilities      MEP, IEQ pairs
+--   residual none                   UEGQ, MQ, RVP1, RVP2
+--   NCC      none                   load
+abbrev pub leastCount : Section → ℕ
+leastCount Vesting = 0
+leastCount Meter = 1
+leastCount Residual = 0
+leastCount Ncc = 0
+
+abbrev pub mostCount : Section → ℕ
+mostCount Vesting = 3
+mostCount Meter = 4
+mostCount Residual = 0
+mostCount Ncc = 0
+
+abbrev pub perInterval : Section → ℕ → ℕ
+perInterval Vesting n = 2 + 2 * n
+perInterval Meter n = 2 * n
+perInterval Residual n = 4
+perInterval Ncc n = 1
+
+-- what value k of an interval, or of a row, is
+abbrev pub kindOf : Section → ℕ → Kind
+kindOf Vesting k = cond (eqb (k % 2) 0) Quantity Price
+kindOf Meter k = cond (eqb (k % 2) 0) Price Injection
+kindOf Residual k = cond (ltb (k % 4) 2) Quantity Price
+kindOf Ncc k = Load
+
+-- value k of an interval is in range
+abbrev pub valueInRange : Section → ℕ → ℤ → Bool
+valueInRange s k z = inRange (kindOf s k) z
+
+abbrev pub sameSection : Section → Section → Bool
+sameSection Vesting t = elim t [ Vesting ↦ true | Meter ↦ false | Residual ↦ false | Ncc ↦ false ]
+sameSection Meter t = elim t [ Vesting ↦ false | Meter ↦ true | Residual ↦ false | Ncc ↦ false ]
+sameSection Residual t = elim t [ Vesting ↦ false | Meter ↦ false | Residual ↦ true | Ncc ↦ false ]
+sameSection Ncc t = elim t [ Vesting ↦ false | Meter ↦ false | Residual ↦ false | Ncc ↦ true ]
+
+-- section 4 has one row a day, kept as account 0's
+abbrev pub accountsOf : Section → ℕ → ℕ
+accountsOf Vesting n = n
+accountsOf Meter n = n
+accountsOf Residual n = n
+accountsOf Ncc n = 1

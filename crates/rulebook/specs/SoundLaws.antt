@@ -1,0 +1,95 @@
+-- What is true of the rows of an accepted file. Assumes nothing.
+use mathlib.Core.Path.{_≡_, refl, sym, ap, _∙_, subst}
+use mathlib.Core.Bool.{true, cond}
+use mathlib.Core.List.{List}
+use Prim.Native.Nat.{ℕ, _+_, _-_, _*_, _%_, _≤_, _<_}
+use native.Mathlib.Nat.{mul-assoc, mul-comm}
+use native.Mathlib.Omega.{arith}
+use lib.IntN.{pos}
+use lib.Dec.{T, eqb, ltb}
+use lib.Arith.{digits-lt}
+use Rattle.integer.specs.Below.{tabulate, Each}
+use Rattle.integer.specs.BelowLaws.{getD-tabulate, each-tabulate, each-append}
+use Rattle.integer.specs.Words.{word}
+use Rattle.rulebook.specs.declared.Section.{Section}
+use Rattle.rulebook.specs.declared.Section.the-variants.{Vesting, Meter, Residual, Ncc}
+use Rattle.rulebook.specs.declared.Kind.{Kind}
+use Rattle.rulebook.specs.declared.Kind.the-variants.{Quantity, Price, Injection}
+use Rattle.rulebook.specs.declared.Terms.{Terms}
+use Rattle.rulebook.specs.declared.Verdict.the-variants.{Accepted}
+use Rattle.rulebook.specs.Units.{inRange}
+use Rattle.rulebook.specs.Sections.{accountsOf, leastCount, mostCount, perInterval, kindOf, valueInRange}
+use Rattle.rulebook.specs.File.{Row, rowAt, sectionRows, fileRows, num, valuesPos, valuesIn, countAt, accountAt, valueAt, rowPos, rowsIn, meterPos, residualPos, nccPos}
+use Rattle.rulebook.specs.Judging.{openFrom, openTo, bookSection, judged}
+use Rattle.rulebook.specs.JudgingLaws.{Fine, section-row, sections}
+
+-- a row's count and numbers are in range
+pub record Ranged (row : Row) : Type 0 where
+  pub least : leastCount (row .section) ≤ row .count
+  pub most : row .count ≤ mostCount (row .section)
+  pub numbers : (i k : ℕ) → i < 48 → k < perInterval (row .section) (row .count)
+      → T (valueInRange (row .section) k (word (row .numbers) (i * perInterval (row .section) (row .count) + k)))
+
+-- what is true of a row of an accepted file, with C the next day to close
+pub record Sound (o : Terms) (C : ℕ) (row : Row) : Type 0 where
+  pub account : row .account < accountsOf (row .section) (o .accounts)
+  pub early : openFrom o C (row .section) ≤ row .day
+  pub late : row .day ≤ openTo o C
+  pub ranged : Ranged row
+
+-- a value's kind goes by its place in the interval
+even-turn : (i m k : ℕ) → (i * (2 * m) + k) % 2 ≡ k % 2
+even-turn i m k =
+    let e : i * (2 * m) ≡ 2 * (i * m) = sym (mul-assoc i 2 m) ∙ ap (λ (x : ℕ). x * m) (mul-comm i 2) ∙ mul-assoc 2 i m in
+    rw e (omega arith)
+
+kind-turn : (sec : Section) (c i k : ℕ) → kindOf sec (i * perInterval sec c + k) ≡ kindOf sec k
+kind-turn Vesting c i k =
+    let e : 2 + 2 * c ≡ 2 * (1 + c) = omega arith in
+    let f : (i * (2 + 2 * c) + k) % 2 ≡ k % 2 = rw e (even-turn i (1 + c) k) in
+    ap (λ (x : ℕ). cond (eqb x 0) Quantity Price) f
+kind-turn Meter c i k = ap (λ (x : ℕ). cond (eqb x 0) Price Injection) (even-turn i c k)
+kind-turn Residual c i k = let f : (i * 4 + k) % 4 ≡ k % 4 = omega arith in ap (λ (x : ℕ). cond (ltb x 2) Quantity Price) f
+kind-turn Ncc c i k = refl
+
+account-below : (n : ℕ) (sec : Section) (s : List ℕ) (at : ℕ) → 1 ≤ n → accountAt sec s at ≤ n - 1 → accountAt sec s at < accountsOf sec n
+unfolding num
+account-below n Vesting s at h l = omega arith
+account-below n Meter s at h l = omega arith
+account-below n Residual s at h l = omega arith
+account-below n Ncc s at h l = omega arith
+
+module _ (o : Terms) (C : ℕ) (some : 1 ≤ o .accounts) where
+  row-sound : (sec : Section) (s : List ℕ) (at : ℕ) → Fine (o .accounts) (openFrom o C sec) (openTo o C) sec s at → Sound o C (rowAt sec s at)
+  row-sound sec s at h = record {
+    account = account-below (o .accounts) sec s at some (h .named .account .to);
+    early = h .named .day .from;
+    late = h .named .day .to;
+    ranged = record {
+      least = h .count .from;
+      most = h .count .to;
+      numbers = λ i k hi hk.
+          let n : ℕ = perInterval sec (countAt sec s at) in
+          let l : i * n + k < 48 * n = digits-lt hi hk in
+          let e : word (tabulate (valuesIn sec s at) (λ j. valueAt s (valuesPos sec at + 4 * j))) (i * n + k) ≡ valueAt s (valuesPos sec at + 4 * (i * n + k))
+          = getD-tabulate (valuesIn sec s at) (λ j. valueAt s (valuesPos sec at + 4 * j)) (i * n + k) (pos 0) l in
+          let r : inRange (kindOf sec (i * n + k)) (valueAt s (valuesPos sec at + 4 * (i * n + k))) ≡ true = h .each (i * n + k) l .ranged in
+          subst (λ (y : Kind). T (inRange y (word (tabulate (valuesIn sec s at) (λ j. valueAt s (valuesPos sec at + 4 * j))) (i * n + k)))) (kind-turn sec (countAt sec s at) i k)
+          (rw e (subst T (sym r) tt));
+    };
+  }
+
+  section-sound : (sec : Section) (s : List ℕ) (at : ℕ) → bookSection o C sec s at ≡ Accepted → Each (Sound o C) (sectionRows sec s at)
+  unfolding sectionRows
+  section-sound sec s at e = each-tabulate (Sound o C) (rowsIn s at) _
+      (λ i l. row-sound sec s (rowPos sec s (at + 2) i) (section-row (o .accounts) (openFrom o C sec) (openTo o C) sec s at e i l .1))
+
+  -- every row of an accepted file is one that the book can take
+  pub file-sound : (s : List ℕ) → judged o C s ≡ Accepted → Each (Sound o C) (fileRows s)
+  unfolding fileRows
+  file-sound s e =
+      let a = sections o C s e in
+      each-append (Sound o C) (sectionRows Vesting s 0) _ (section-sound Vesting s 0 (a .vesting))
+      (each-append (Sound o C) (sectionRows Meter s (meterPos s)) _ (section-sound Meter s (meterPos s) (a .meter))
+      (each-append (Sound o C) (sectionRows Residual s (residualPos s)) _ (section-sound Residual s (residualPos s) (a .residual))
+      (section-sound Ncc s (nccPos s) (a .ncc))))

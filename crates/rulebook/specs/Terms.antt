@@ -1,0 +1,22 @@
+-- Document 01, "The book": the opening's arguments N, L, H, F and their ranges. Assumes nothing.
+use mathlib.Core.Bool.{Bool, _&&_}
+use Prim.Native.Nat.{ℕ}
+use lib.Dec.{leb}
+use Rattle.rulebook.specs.declared.Terms.{Terms}
+use Rattle.rulebook.specs.Units.{lastDay}
+use Rattle.rulebook.specs.Shares.{mostAccounts}
+
+-- L, H at most
+abbrev pub mostLag : ℕ
+mostLag = 75
+
+abbrev pub mostHorizon : ℕ
+mostHorizon = 92
+
+-- 1 January 2026, the earliest first day of a book
+abbrev pub earliestFirstDay : ℕ
+earliestFirstDay = 9497
+
+unfoldable pub termsFit : Terms → Bool
+termsFit o = leb 1 (o .accounts) && leb (o .accounts) mostAccounts && leb 1 (o .lag) && leb (o .lag) mostLag
+    && leb 1 (o .horizon) && leb (o .horizon) mostHorizon && leb earliestFirstDay (o .first) && leb (o .first) lastDay
