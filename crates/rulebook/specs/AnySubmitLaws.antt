@@ -17,7 +17,7 @@ use Rattle.rulebook.specs.declared.Verdict.the-variants.{Accepted, Refus
 use Rattle.rulebook.specs.Layout.{flag, termsOf, nextDay}
 use Rattle.rulebook.specs.WellFormed.{isZero, rowFits, wellFormed}
 use Rattle.rulebook.specs.File.{Row, fileRows}
-use Rattle.rulebook.specs.Judging.{judged}
+use Rattle.rulebook.specs.Judging.{limitsOf, judged}
 use Rattle.rulebook.specs.Submit.{entry, rowsStored, taken, submitted}
 use Rattle.rulebook.specs.History.{lastFor}
 use Rattle.rulebook.specs.LedgerLaws.{Ledger, IsFor, overlaid, submittedTo, rows-held}
@@ -27,15 +27,15 @@ use Rattle.rulebook.specs.FormLaws.{Fit, ring-pos, fits-same, well-forme
 use Rattle.rulebook.specs.FormedLaws.{ledgerOf, formed-holds, formed-fit, opened-of, next-of}
 use Rattle.rulebook.specs.StepLaws.{last-one, sound-day, storable, over, overlaid-last}
 
-module _ (o : Terms) (b : Ledger) (q : Fit o b) (h : 1 ≤ o .horizon) (rs : List Row) (x : Each (Sound o (o .first + b .closed)) rs) where
+module _ (o : Terms) (b : Ledger) (q : Fit o b) (h : 1 ≤ o .horizon) (rs : List Row) (x : Each (Sound (limitsOf o (o .first + b .closed))) rs) where
   -- what stands in a row after the file: an old row's words, or a sound row's
   by-row : (P : (ℕ → ℤ) → Type 0) (s : Section) (a d i : ℕ) → P (b .entries s a d i)
-      → ((r : Row) → Sound o (o .first + b .closed) r → IsFor s a d r → P (entry r i)) → P (over (lastFor rs s a d) (b .entries s a d) i)
+      → ((r : Row) → Sound (limitsOf o (o .first + b .closed)) r → IsFor s a d r → P (entry r i)) → P (over (lastFor rs s a d) (b .entries s a d) i)
   by-row P s a d i old new = go (lastFor rs s a d) refl
     where
       go : (y : Option Row) → lastFor rs s a d ≡ y → P (over y (b .entries s a d) i)
       go none e = old
-      go (some r) e = let z = last-one (Sound o (o .first + b .closed)) rs s a d r x e in new r (z .0) (z .1)
+      go (some r) e = let z = last-one (Sound (limitsOf o (o .first + b .closed))) rs s a d r x e in new r (z .0) (z .1)
 
   there : (s : Section) (a d i : ℕ) → T (not (isZero (b .entries s a d i (flag s)))) → T (not (isZero (overlaid rs (b .entries) s a d i (flag s))))
   there s a d i old = rw (overlaid-last rs (b .entries) s a d i (flag s)) (by-row (λ f. T (not (isZero (f (flag s))))) s a d i old
@@ -56,16 +56,16 @@ module _ (o : Terms) (b : Ledger) (q : Fit o b) (h : 1 ≤ o .horizon) (rs : Lis
 
 pub submitted-formed : (w : List ℤ) (file : List ℕ) → T (wellFormed w) → T (wellFormed (submitted w file .words))
 unfolding submitted
-submitted-formed w file t = rw (T-path (wellFormed w) t) (go (judged (termsOf w) (nextDay w) file) refl)
+submitted-formed w file t = rw (T-path (wellFormed w) t) (go (judged (limitsOf (termsOf w) (nextDay w)) file) refl)
   where
     day : termsOf w .first + (nextDay w - termsOf w .first) ≡ nextDay w
     day = add-sub-of-le (next-of w t .1)
 
-    go : (v : Verdict) → judged (termsOf w) (nextDay w) file ≡ v → T (wellFormed (taken w file v .words))
+    go : (v : Verdict) → judged (limitsOf (termsOf w) (nextDay w)) file ≡ v → T (wellFormed (taken w file v .words))
     go Accepted e =
         let q = opened-of w t in
-        let x : Each (Sound (termsOf w) (termsOf w .first + (nextDay w - termsOf w .first))) (fileRows file)
-        = subst (λ (C : ℕ). Each (Sound (termsOf w) C) (fileRows file)) (sym day) (file-sound (termsOf w) (nextDay w) (q .accounts1) file e) in
+        let x : Each (Sound (limitsOf (termsOf w) (termsOf w .first + (nextDay w - termsOf w .first)))) (fileRows file)
+        = subst (λ (C : ℕ). Each (Sound (limitsOf (termsOf w) C)) (fileRows file)) (sym day) (file-sound (limitsOf (termsOf w) (nextDay w)) (q .accounts1) file e) in
         well-formed (termsOf w) q (submittedTo (fileRows file) (ledgerOf w)) (rowsStored (termsOf w) (fileRows file) w)
         (rows-held (termsOf w) (ring-pos (termsOf w) q) (fileRows file) (ledgerOf w) w (storable (termsOf w) (nextDay w - termsOf w .first) (q .horizon1) (fileRows file) x) (formed-holds w t))
         (file-fit (termsOf w) (ledgerOf w) (formed-fit w t) (q .horizon1) (fileRows file) x)

@@ -22,7 +22,7 @@ use Rattle.rulebook.specs.Units.{lastDay, intervals}
 use Rattle.rulebook.specs.DayAmount.{residualDue, residualDay}
 use Rattle.rulebook.specs.Layout.{size, flagWord}
 use Rattle.rulebook.specs.File.{Row}
-use Rattle.rulebook.specs.Judging.{judged}
+use Rattle.rulebook.specs.Judging.{limitsOf, judged}
 use Rattle.rulebook.specs.Numbers.{Answer, numbered, whyNumber, accepted, notWellFormed, bookFinished, outputTooShort, datumAbsent, ofOpen, ofSubmit, ofClose}
 use Rattle.rulebook.specs.History.{Event, closingDay, inForce, formulaAmount}
 use Rattle.rulebook.specs.Promises.{OpenPromise, Run, begun, thenSubmit, thenClose}
@@ -34,7 +34,7 @@ verdictTold Accepted = numbered accepted 0
 verdictTold (Refused why at) = numbered (whyNumber why) at
 
 abbrev pub submitTold : Terms → List Event → List ℕ → Answer
-submitTold o past file = verdictTold (judged o (closingDay o past) file)
+submitTold o past file = verdictTold (judged (limitsOf o (closingDay o past)) file)
 
 -- ---- A close: 9 when no day is left, else 10 without room, else 11 when a needed row is missing, else 0 with day and count
 

@@ -23,7 +23,7 @@ use Rattle.rulebook.specs.declared.CloseAnswer.{CloseAnswer}
 use Rattle.rulebook.specs.Units.{lastDay}
 use Rattle.rulebook.specs.Layout.{size}
 use Rattle.rulebook.specs.File.{fileRows}
-use Rattle.rulebook.specs.Judging.{judged}
+use Rattle.rulebook.specs.Judging.{limitsOf, judged}
 use Rattle.rulebook.specs.Submit.{Submission, submitted, taken}
 use Rattle.rulebook.specs.Close.{Closing, closed, settled, posted, postedToMssl, residualCount, firstMissing}
 use Rattle.rulebook.specs.Numbers.{accepted, notWellFormed, whyNumber, ofOpen, ofSubmit, ofClose}
@@ -48,13 +48,13 @@ not-3 Excess e = omega arith
 
 module _ (o : Terms) (t : InTerms o) (past : List Event) (w : List ℤ) (h : State o past w) where
   -- ---- submit
-  submit-by : (file : List ℕ) (v : Verdict) → judged o (closingDay o past) file ≡ v → SubmitTells o past w file (ofSubmit (taken w file v .answer)) (taken w file v .words)
+  submit-by : (file : List ℕ) (v : Verdict) → judged (limitsOf o (closingDay o past)) file ≡ v → SubmitTells o past w file (ofSubmit (taken w file v .answer)) (taken w file v .words)
   submit-by file Accepted e = record {
     answered = ap verdictTold (sym e);
     wellFormed = λ x. omega arith;
     refused = λ x. absurd (x refl);
     beyond = rw (terms o t past w h) (rows-beyond o (ring-pos o t) (closes past) (fileRows file) w
-        (storable o (closes past) (t .horizon1) (fileRows file) (file-sound o (closingDay o past) (t .accounts1) file e)));
+        (storable o (closes past) (t .horizon1) (fileRows file) (file-sound (limitsOf o (closingDay o past)) (t .accounts1) file e)));
   }
   submit-by file (Refused why at) e = record {
     answered = ap verdictTold (sym e);
@@ -65,7 +65,7 @@ module _ (o : Terms) (t : InTerms o) (past : List Event) (w : List ℤ) (h : Sta
 
   pub submit-tells : (file : List ℕ) → SubmitTells o past w file (ofSubmit (submitted w file .answer)) (submitted w file .words)
   submit-tells file = subst (λ (r : Submission). SubmitTells o past w file (ofSubmit (r .answer)) (r .words)) (sym (submit-is o t past w h file))
-      (submit-by file (judged o (closingDay o past) file) refl)
+      (submit-by file (judged (limitsOf o (closingDay o past)) file) refl)
 
   -- ---- close
   lacking-is : firstMissing o w (closingDay o past) ≡ firstLacking o past

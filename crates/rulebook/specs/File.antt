@@ -98,7 +98,7 @@ nccPos s = sectionEnd Residual s (residualPos s)
 abbrev pub endPos : List ℕ → ℕ
 endPos s = sectionEnd Ncc s (nccPos s)
 
--- ---- RowsInForce
+-- ---- Rows
 
 -- what a row names, and its values, interval after interval
 pub record Row : Type 0 where

@@ -7,6 +7,7 @@ use lib.ListN.{length}
 use Rattle.rulebook.specs.declared.Section.{Section}
 use Rattle.rulebook.specs.declared.Section.the-variants.{Vesting, Meter, Residual, Ncc}
 use Rattle.rulebook.specs.declared.Terms.{Terms}
+use Rattle.rulebook.specs.declared.Limits.{Limits}
 use Rattle.rulebook.specs.declared.Why.{Why}
 use Rattle.rulebook.specs.declared.Why.the-variants.{NotWhole, OutOfRange, DayNotOpen, Repeated, Excess}
 use Rattle.rulebook.specs.declared.Verdict.{Verdict}
@@ -33,17 +34,23 @@ unfoldable pub upTo : ℕ → (ℕ → Verdict) → Verdict
 upTo zero f = Accepted
 upTo (suc n) f = upTo n f andThen f n
 
--- ---- Open days: from C, or for residual and NCC rows from max(F, C − L), to C + H − 1, none past the last
+-- ---- Limits
 
-module _ (o : Terms) (C : ℕ) where
-  abbrev pub openFrom : Section → ℕ
-  openFrom Vesting = C
-  openFrom Meter = C
-  openFrom Residual = max (o .first) (C - o .lag)
-  openFrom Ncc = max (o .first) (C - o .lag)
+-- where the open days of a section begin
+abbrev pub openFrom : Limits → Section → ℕ
+openFrom l Vesting = l .current
+openFrom l Meter = l .current
+openFrom l Residual = l .earliest
+openFrom l Ncc = l .earliest
 
-  abbrev pub openTo : ℕ
-  openTo = min (C + o .horizon - 1) lastDay
+-- a book's, C being the next day to close: from C, or for residual and NCC rows from max(F, C − L), to C + H − 1, none past the last day
+abbrev pub limitsOf : Terms → ℕ → Limits
+limitsOf o C = record {
+  accounts = o .accounts;
+  current = C;
+  earliest = max (o .first) (C - o .lag);
+  last = min (C + o .horizon - 1) lastDay;
+}
 
 -- ---- Fields
 
@@ -64,13 +71,13 @@ value sec s from k =
     whole 4 s (from + 4 * k)
     andThen require (inRange (kindOf sec k) (valueAt s (from + 4 * k))) OutOfRange (from + 4 * k)
 
--- ---- A row, of n accounts and days from low to high
+-- ---- A row
 
 -- account and day of the row at `at`
-unfoldable pub key : ℕ → ℕ → ℕ → Section → List ℕ → ℕ → Verdict
-key n low high sec s at =
-    fieldIn (accountBytes sec) 0 (n - 1) OutOfRange s at
-    andThen fieldIn 2 low high DayNotOpen s (dayPos sec at)
+unfoldable pub key : Limits → Section → List ℕ → ℕ → Verdict
+key l sec s at =
+    fieldIn (accountBytes sec) 0 (l .accounts - 1) OutOfRange s at
+    andThen fieldIn 2 (openFrom l sec) (l .last) DayNotOpen s (dayPos sec at)
 
 -- some row before row i of the section has account a and day d
 unfoldable pub given : Section → List ℕ → ℕ → ℕ → ℕ → ℕ → Bool
@@ -85,33 +92,29 @@ rest sec s at =
     andThen upTo (valuesIn sec s at) (value sec s (valuesPos sec at))
 
 -- the row at `at`, where `again` says that its account and day were given before
-unfoldable pub rowAfter : ℕ → ℕ → ℕ → Section → List ℕ → ℕ → Bool → Verdict
-rowAfter n low high sec s at again =
-    key n low high sec s at
+unfoldable pub rowAfter : Limits → Section → List ℕ → ℕ → Bool → Verdict
+rowAfter l sec s at again =
+    key l sec s at
     andThen require (not again) Repeated (dayPos sec at)
     andThen rest sec s at
 
 -- row i of a section whose first row is at `first`
-unfoldable pub judgedRow : ℕ → ℕ → ℕ → Section → List ℕ → ℕ → ℕ → Verdict
-judgedRow n low high sec s first i =
-    rowAfter n low high sec s (rowPos sec s first i)
+unfoldable pub judgedRow : Limits → Section → List ℕ → ℕ → ℕ → Verdict
+judgedRow l sec s first i =
+    rowAfter l sec s (rowPos sec s first i)
     (given sec s first i (accountAt sec s (rowPos sec s first i)) (dayAt sec s (rowPos sec s first i)))
 
 -- ---- Sections and file
 
 -- the section at `at`: its count whole, then its rows
-unfoldable pub judgedSection : ℕ → ℕ → ℕ → Section → List ℕ → ℕ → Verdict
-judgedSection n low high sec s at = whole 2 s at andThen upTo (rowsIn s at) (judgedRow n low high sec s (at + 2))
-
--- under the book's terms and C, the next day to close
-abbrev pub bookSection : Terms → ℕ → Section → List ℕ → ℕ → Verdict
-bookSection o C sec s at = judgedSection (o .accounts) (openFrom o C sec) (openTo o C) sec s at
+unfoldable pub judgedSection : Limits → Section → List ℕ → ℕ → Verdict
+judgedSection l sec s at = whole 2 s at andThen upTo (rowsIn s at) (judgedRow l sec s (at + 2))
 
 -- the four sections, and no byte after them
-unfoldable pub judged : Terms → ℕ → List ℕ → Verdict
-judged o C s =
-    bookSection o C Vesting s 0
-    andThen bookSection o C Meter s (meterPos s)
-    andThen bookSection o C Residual s (residualPos s)
-    andThen bookSection o C Ncc s (nccPos s)
+unfoldable pub judged : Limits → List ℕ → Verdict
+judged l s =
+    judgedSection l Vesting s 0
+    andThen judgedSection l Meter s (meterPos s)
+    andThen judgedSection l Residual s (residualPos s)
+    andThen judgedSection l Ncc s (nccPos s)
     andThen require (leb (length s) (endPos s)) Excess (endPos s)

@@ -11,7 +11,7 @@ use lib.Dec.{leb}
 use lib.ListN.{length}
 use Rattle.rulebook.specs.declared.Section.{Section}
 use Rattle.rulebook.specs.declared.Section.the-variants.{Vesting, Meter, Residual, Ncc}
-use Rattle.rulebook.specs.declared.Terms.{Terms}
+use Rattle.rulebook.specs.declared.Limits.{Limits}
 use Rattle.rulebook.specs.declared.Why.{Why}
 use Rattle.rulebook.specs.declared.Why.the-variants.{NotWhole, OutOfRange, DayNotOpen, Repeated, Excess}
 use Rattle.rulebook.specs.declared.Verdict.{Verdict}
@@ -19,7 +19,7 @@ use Rattle.rulebook.specs.declared.Verdict.the-variants.{Accepted, Refus
 use Rattle.rulebook.specs.Units.{inRange}
 use Rattle.rulebook.specs.Sections.{leastCount, mostCount, kindOf}
 use Rattle.rulebook.specs.File.{num, accountBytes, countBytes, dayPos, countPos, valuesPos, accountAt, dayAt, valuesIn, valueAt, rowPos, rowsIn, meterPos, residualPos, nccPos, endPos}
-use Rattle.rulebook.specs.Judging.{require, _andThen_, upTo, fieldIn, value, key, given, rest, rowAfter, judgedRow, judgedSection, bookSection, judged}
+use Rattle.rulebook.specs.Judging.{openFrom, require, _andThen_, upTo, fieldIn, value, key, given, rest, rowAfter, judgedRow, judgedSection, judged}
 use Rattle.rulebook.specs.WordLaws.{below-suc}
 
 -- ---- Checks
@@ -76,65 +76,65 @@ value-says sec s from k e =
     let p = checked (leb (from + 4 * k + 4) (length s)) NotWhole (from + 4 * k) _ e in
     record { whole = leb-true _ _ (p .0); ranged = require-true _ OutOfRange (from + 4 * k) (p .1) }
 
--- ---- RowsInForce
+-- ---- Rows
 
-pub record Keyed (n low high : ℕ) (sec : Section) (s : List ℕ) (at : ℕ) : Type 0 where
-  pub account : Field (accountBytes sec) 0 (n - 1) OutOfRange s at
-  pub day : Field 2 low high DayNotOpen s (dayPos sec at)
+pub record Keyed (l : Limits) (sec : Section) (s : List ℕ) (at : ℕ) : Type 0 where
+  pub account : Field (accountBytes sec) 0 (l .accounts - 1) OutOfRange s at
+  pub day : Field 2 (openFrom l sec) (l .last) DayNotOpen s (dayPos sec at)
 
-pub keyed : (n low high : ℕ) (sec : Section) (s : List ℕ) (at : ℕ) → key n low high sec s at ≡ Accepted → Keyed n low high sec s at
+pub keyed : (l : Limits) (sec : Section) (s : List ℕ) (at : ℕ) → key l sec s at ≡ Accepted → Keyed l sec s at
 unfolding key
-keyed n low high sec s at e =
-    let p = then-both (fieldIn (accountBytes sec) 0 (n - 1) OutOfRange s at) _ e in
+keyed l sec s at e =
+    let p = then-both (fieldIn (accountBytes sec) 0 (l .accounts - 1) OutOfRange s at) _ e in
     record { account = field-says _ _ _ _ _ _ (p .0); day = field-says _ _ _ _ _ _ (p .1) }
 
 -- what the row at `at` says where it is accepted
-pub record Fine (n low high : ℕ) (sec : Section) (s : List ℕ) (at : ℕ) : Type 0 where
-  pub named : Keyed n low high sec s at
+pub record Fine (l : Limits) (sec : Section) (s : List ℕ) (at : ℕ) : Type 0 where
+  pub named : Keyed l sec s at
   pub count : Field (countBytes sec) (leastCount sec) (mostCount sec) OutOfRange s (countPos sec at)
   pub each : (k : ℕ) → k < valuesIn sec s at → Value sec s (valuesPos sec at) k
 
-pub row-fine : (n low high : ℕ) (sec : Section) (s : List ℕ) (at : ℕ) (again : Bool) → rowAfter n low high sec s at again ≡ Accepted → (again ≡ false) × Fine n low high sec s at
+pub row-fine : (l : Limits) (sec : Section) (s : List ℕ) (at : ℕ) (again : Bool) → rowAfter l sec s at again ≡ Accepted → (again ≡ false) × Fine l sec s at
 unfolding rowAfter rest
-row-fine n low high sec s at again e =
-    let p = then-both (key n low high sec s at) _ e in
+row-fine l sec s at again e =
+    let p = then-both (key l sec s at) _ e in
     let q = checked (not again) Repeated (dayPos sec at) _ (p .1) in
     let r = then-both (fieldIn (countBytes sec) (leastCount sec) (mostCount sec) OutOfRange s (countPos sec at)) _ (q .1) in (
       not-true again (q .0),
       record {
-        named = keyed n low high sec s at (p .0);
+        named = keyed l sec s at (p .0);
         count = field-says _ _ _ _ _ _ (r .0);
-        each = λ k l. value-says sec s (valuesPos sec at) k (up-each (valuesIn sec s at) (value sec s (valuesPos sec at)) (r .1) k l);
+        each = λ k h. value-says sec s (valuesPos sec at) k (up-each (valuesIn sec s at) (value sec s (valuesPos sec at)) (r .1) k h);
       },
     )
 
 -- ---- Sections and file
 
 -- row i of an accepted section is fine, and no row before it has its account and day
-module _ (n low high : ℕ) (sec : Section) (s : List ℕ) (at : ℕ) (e : judgedSection n low high sec s at ≡ Accepted) where
+module _ (l : Limits) (sec : Section) (s : List ℕ) (at : ℕ) (e : judgedSection l sec s at ≡ Accepted) where
   pub section-start : at + 2 ≤ length s
   unfolding judgedSection
   section-start = leb-true _ _ (checked (leb (at + 2) (length s)) NotWhole at _ e .0)
 
   pub section-row : (i : ℕ) → i < rowsIn s at
-      → (given sec s (at + 2) i (accountAt sec s (rowPos sec s (at + 2) i)) (dayAt sec s (rowPos sec s (at + 2) i)) ≡ false) × Fine n low high sec s (rowPos sec s (at + 2) i)
+      → (given sec s (at + 2) i (accountAt sec s (rowPos sec s (at + 2) i)) (dayAt sec s (rowPos sec s (at + 2) i)) ≡ false) × Fine l sec s (rowPos sec s (at + 2) i)
   unfolding judgedSection judgedRow
-  section-row i l = row-fine n low high sec s (rowPos sec s (at + 2) i) _
-      (up-each (rowsIn s at) (judgedRow n low high sec s (at + 2)) (checked (leb (at + 2) (length s)) NotWhole at _ e .1) i l)
+  section-row i h = row-fine l sec s (rowPos sec s (at + 2) i) _
+      (up-each (rowsIn s at) (judgedRow l sec s (at + 2)) (checked (leb (at + 2) (length s)) NotWhole at _ e .1) i h)
 
 -- the four sections of an accepted file, and its end
-pub record Sections (o : Terms) (C : ℕ) (s : List ℕ) : Type 0 where
-  pub vesting : bookSection o C Vesting s 0 ≡ Accepted
-  pub meter : bookSection o C Meter s (meterPos s) ≡ Accepted
-  pub residual : bookSection o C Residual s (residualPos s) ≡ Accepted
-  pub ncc : bookSection o C Ncc s (nccPos s) ≡ Accepted
+pub record Sections (l : Limits) (s : List ℕ) : Type 0 where
+  pub vesting : judgedSection l Vesting s 0 ≡ Accepted
+  pub meter : judgedSection l Meter s (meterPos s) ≡ Accepted
+  pub residual : judgedSection l Residual s (residualPos s) ≡ Accepted
+  pub ncc : judgedSection l Ncc s (nccPos s) ≡ Accepted
   pub ends : length s ≤ endPos s
 
-pub sections : (o : Terms) (C : ℕ) (s : List ℕ) → judged o C s ≡ Accepted → Sections o C s
+pub sections : (l : Limits) (s : List ℕ) → judged l s ≡ Accepted → Sections l s
 unfolding judged
-sections o C s e =
-    let p = then-both (bookSection o C Vesting s 0) _ e in
-    let q = then-both (bookSection o C Meter s (meterPos s)) _ (p .1) in
-    let r = then-both (bookSection o C Residual s (residualPos s)) _ (q .1) in
-    let u = then-both (bookSection o C Ncc s (nccPos s)) _ (r .1) in
+sections l s e =
+    let p = then-both (judgedSection l Vesting s 0) _ e in
+    let q = then-both (judgedSection l Meter s (meterPos s)) _ (p .1) in
+    let r = then-both (judgedSection l Residual s (residualPos s)) _ (q .1) in
+    let u = then-both (judgedSection l Ncc s (nccPos s)) _ (r .1) in
     record { vesting = p .0; meter = q .0; residual = r .0; ncc = u .0; ends = leb-true _ _ (require-true (leb (length s) (endPos s)) Excess (endPos s) (u .1)) }

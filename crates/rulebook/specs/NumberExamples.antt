@@ -8,7 +8,7 @@ use Rattle.rulebook.specs.declared.OpenAnswer.the-variants.{Opened, BadT
 use Rattle.rulebook.specs.declared.SubmitAnswer.the-variants.{Taken, IllFormed, FileRefused}
 use Rattle.rulebook.specs.declared.CloseAnswer.the-variants.{Closed, BookIllFormed, Finished, NoRoom, DatumMissing}
 use Rattle.rulebook.specs.File.{num, signed32, valueAt, rowEnd, rowPos, sectionEnd}
-use Rattle.rulebook.specs.Judging.{upTo, fieldIn, value, key, given, rest, rowAfter, judgedRow, judgedSection, judged}
+use Rattle.rulebook.specs.Judging.{upTo, fieldIn, value, key, given, rest, rowAfter, judgedRow, judgedSection, limitsOf, judged}
 use Rattle.rulebook.specs.Numbers.{ofOpen, ofSubmit, ofClose, numbered, dayNotOpen}
 use Rattle.rulebook.specs.Companion.{verdictTold}
 use Rattle.rulebook.specs.Examples.{two, zeros}
@@ -51,7 +51,7 @@ returned = record {
 
 -- the file's number and position, with C the next day to close
 abbrev returns : ℕ → List ℕ → ℕ → ℕ → Type 0
-returns C file n p = verdictTold (judged two C file) ≡ numbered n p
+returns C file n p = verdictTold (judged (limitsOf two C) file) ≡ numbered n p
 
 -- a vesting row of account 0, day 9,497, no tranches, all zero; an NCC and a residual row of that day
 abbrev vestingRow : List ℕ

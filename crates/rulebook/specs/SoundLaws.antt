@@ -15,12 +15,12 @@ use Rattle.rulebook.specs.declared.Section.{Section}
 use Rattle.rulebook.specs.declared.Section.the-variants.{Vesting, Meter, Residual, Ncc}
 use Rattle.rulebook.specs.declared.Kind.{Kind}
 use Rattle.rulebook.specs.declared.Kind.the-variants.{Quantity, Price, Injection}
-use Rattle.rulebook.specs.declared.Terms.{Terms}
+use Rattle.rulebook.specs.declared.Limits.{Limits}
 use Rattle.rulebook.specs.declared.Verdict.the-variants.{Accepted}
 use Rattle.rulebook.specs.Units.{inRange}
 use Rattle.rulebook.specs.Sections.{accountsOf, leastCount, mostCount, perInterval, kindOf, valueInRange}
 use Rattle.rulebook.specs.File.{Row, rowAt, sectionRows, fileRows, num, valuesPos, valuesIn, countAt, accountAt, valueAt, rowPos, rowsIn, meterPos, residualPos, nccPos}
-use Rattle.rulebook.specs.Judging.{openFrom, openTo, bookSection, judged}
+use Rattle.rulebook.specs.Judging.{openFrom, judgedSection, judged}
 use Rattle.rulebook.specs.JudgingLaws.{Fine, section-row, sections}
 
 -- a row's count and numbers are in range
@@ -30,11 +30,11 @@ pub record Ranged (row : Row) : Type 0 where
   pub numbers : (i k : ℕ) → i < 48 → k < perInterval (row .section) (row .count)
       → T (valueInRange (row .section) k (word (row .numbers) (i * perInterval (row .section) (row .count) + k)))
 
--- what is true of a row of an accepted file, with C the next day to close
-pub record Sound (o : Terms) (C : ℕ) (row : Row) : Type 0 where
-  pub account : row .account < accountsOf (row .section) (o .accounts)
-  pub early : openFrom o C (row .section) ≤ row .day
-  pub late : row .day ≤ openTo o C
+-- what is true of a row of an accepted file
+pub record Sound (l : Limits) (row : Row) : Type 0 where
+  pub account : row .account < accountsOf (row .section) (l .accounts)
+  pub early : openFrom l (row .section) ≤ row .day
+  pub late : row .day ≤ l .last
   pub ranged : Ranged row
 
 -- a value's kind goes by its place in the interval
@@ -59,10 +59,10 @@ account-below n Meter s at h l = omega arith
 account-below n Residual s at h l = omega arith
 account-below n Ncc s at h l = omega arith
 
-module _ (o : Terms) (C : ℕ) (some : 1 ≤ o .accounts) where
-  row-sound : (sec : Section) (s : List ℕ) (at : ℕ) → Fine (o .accounts) (openFrom o C sec) (openTo o C) sec s at → Sound o C (rowAt sec s at)
+module _ (l : Limits) (some : 1 ≤ l .accounts) where
+  row-sound : (sec : Section) (s : List ℕ) (at : ℕ) → Fine l sec s at → Sound l (rowAt sec s at)
   row-sound sec s at h = record {
-    account = account-below (o .accounts) sec s at some (h .named .account .to);
+    account = account-below (l .accounts) sec s at some (h .named .account .to);
     early = h .named .day .from;
     late = h .named .day .to;
     ranged = record {
@@ -70,26 +70,26 @@ module _ (o : Terms) (C : ℕ) (some : 1 ≤ o .accounts) where
       most = h .count .to;
       numbers = λ i k hi hk.
           let n : ℕ = perInterval sec (countAt sec s at) in
-          let l : i * n + k < 48 * n = digits-lt hi hk in
+          let b : i * n + k < 48 * n = digits-lt hi hk in
           let e : word (tabulate (valuesIn sec s at) (λ j. valueAt s (valuesPos sec at + 4 * j))) (i * n + k) ≡ valueAt s (valuesPos sec at + 4 * (i * n + k))
-          = getD-tabulate (valuesIn sec s at) (λ j. valueAt s (valuesPos sec at + 4 * j)) (i * n + k) (pos 0) l in
-          let r : inRange (kindOf sec (i * n + k)) (valueAt s (valuesPos sec at + 4 * (i * n + k))) ≡ true = h .each (i * n + k) l .ranged in
+          = getD-tabulate (valuesIn sec s at) (λ j. valueAt s (valuesPos sec at + 4 * j)) (i * n + k) (pos 0) b in
+          let r : inRange (kindOf sec (i * n + k)) (valueAt s (valuesPos sec at + 4 * (i * n + k))) ≡ true = h .each (i * n + k) b .ranged in
           subst (λ (y : Kind). T (inRange y (word (tabulate (valuesIn sec s at) (λ j. valueAt s (valuesPos sec at + 4 * j))) (i * n + k)))) (kind-turn sec (countAt sec s at) i k)
           (rw e (subst T (sym r) tt));
     };
   }
 
-  section-sound : (sec : Section) (s : List ℕ) (at : ℕ) → bookSection o C sec s at ≡ Accepted → Each (Sound o C) (sectionRows sec s at)
+  section-sound : (sec : Section) (s : List ℕ) (at : ℕ) → judgedSection l sec s at ≡ Accepted → Each (Sound l) (sectionRows sec s at)
   unfolding sectionRows
-  section-sound sec s at e = each-tabulate (Sound o C) (rowsIn s at) _
-      (λ i l. row-sound sec s (rowPos sec s (at + 2) i) (section-row (o .accounts) (openFrom o C sec) (openTo o C) sec s at e i l .1))
+  section-sound sec s at e = each-tabulate (Sound l) (rowsIn s at) _
+      (λ i h. row-sound sec s (rowPos sec s (at + 2) i) (section-row l sec s at e i h .1))
 
   -- every row of an accepted file is one that the book can take
-  pub file-sound : (s : List ℕ) → judged o C s ≡ Accepted → Each (Sound o C) (fileRows s)
+  pub file-sound : (s : List ℕ) → judged l s ≡ Accepted → Each (Sound l) (fileRows s)
   unfolding fileRows
   file-sound s e =
-      let a = sections o C s e in
-      each-append (Sound o C) (sectionRows Vesting s 0) _ (section-sound Vesting s 0 (a .vesting))
-      (each-append (Sound o C) (sectionRows Meter s (meterPos s)) _ (section-sound Meter s (meterPos s) (a .meter))
-      (each-append (Sound o C) (sectionRows Residual s (residualPos s)) _ (section-sound Residual s (residualPos s) (a .residual))
+      let a = sections l s e in
+      each-append (Sound l) (sectionRows Vesting s 0) _ (section-sound Vesting s 0 (a .vesting))
+      (each-append (Sound l) (sectionRows Meter s (meterPos s)) _ (section-sound Meter s (meterPos s) (a .meter))
+      (each-append (Sound l) (sectionRows Residual s (residualPos s)) _ (section-sound Residual s (residualPos s) (a .residual))
       (section-sound Ncc s (nccPos s) (a .ncc))))

@@ -17,6 +17,7 @@ use Rattle.integer.specs.BelowLaws.{sumℤ-cong, sumℤ-add}
 use Rattle.rulebook.specs.declared.Section.{Section}
 use Rattle.rulebook.specs.declared.Section.the-variants.{Vesting, Meter}
 use Rattle.rulebook.specs.declared.Terms.{Terms}
+use Rattle.rulebook.specs.declared.Limits.{Limits}
 use Rattle.rulebook.specs.declared.Why.{Why}
 use Rattle.rulebook.specs.declared.Why.the-variants.{NotWhole, OutOfRange, DayNotOpen, Repeated, Excess}
 use Rattle.rulebook.specs.declared.Verdict.{Verdict}
@@ -28,7 +29,7 @@ use Rattle.rulebook.specs.DayAmount.{residualDue, residualDay, postedAmo
 use Rattle.rulebook.specs.Layout.{termsOf, nextDay, entriesOf, bookData, dataOf}
 use Rattle.rulebook.specs.WellFormed.{wellFormed, dayBound}
 use Rattle.rulebook.specs.File.{Row, fileRows}
-use Rattle.rulebook.specs.Judging.{judged}
+use Rattle.rulebook.specs.Judging.{limitsOf, judged}
 use Rattle.rulebook.specs.Submit.{taken, submitted, Submission}
 use Rattle.rulebook.specs.Close.{firstMissing, settled, closed, posted, postedToMssl, residualCount, dayClosed, closeRefused, Closing}
 use Rattle.rulebook.specs.Numbers.{whyNumber, accepted, ofSubmit, ofClose}
@@ -79,15 +80,15 @@ module _ (o : Terms) (t : InTerms o) (past : List Event) (w : List ℤ) (h : Sta
 
   -- ---- submit
   -- what a submission answers and leaves
-  pub submit-is : (file : List ℕ) → submitted w file ≡ taken w file (judged o (closingDay o past) file)
+  pub submit-is : (file : List ℕ) → submitted w file ≡ taken w file (judged (limitsOf o (closingDay o past)) file)
   unfolding submitted
-  submit-is file = rw (formed, terms, next) refl
+  submit-is file = rw formed (ap (λ (l : Limits). taken w file (judged l file)) (ap (λ (x : Terms). limitsOf x (nextDay w)) terms ∙ ap (limitsOf o) next))
 
-  submit-done : (file : List ℕ) (v : Verdict) → judged o (closingDay o past) file ≡ v
+  submit-done : (file : List ℕ) (v : Verdict) → judged (limitsOf o (closingDay o past)) file ≡ v
       → State o (record { call = submit file; answer = ofSubmit (taken w file v .answer) } ∷ past) (taken w file v .words)
   unfolding closes inForce acceptedRows formulaBalance residualCounts latest lastFor
   submit-done file Accepted e =
-      let s = file-sound o (closingDay o past) (t .accounts1) file e in
+      let s = file-sound (limitsOf o (closingDay o past)) (t .accounts1) file e in
       record {
         holds = held-same refl (λ s a d i j. newer-entries (fileRows file) (inForce past) s a d i j) (λ a ha. refl) refl
             (rw terms (rows-held o (ring-pos o t) (fileRows file) (ledger o (closes past) (inForce past) (formulaBalance o past)) w (storable o (closes past) (t .horizon1) (fileRows file) s) (h .holds)));
@@ -107,7 +108,7 @@ module _ (o : Terms) (t : InTerms o) (past : List Event) (w : List ℤ) (h : Sta
 
   pub submit-step : (file : List ℕ) → State o (record { call = submit file; answer = ofSubmit (submitted w file .answer) } ∷ past) (submitted w file .words)
   submit-step file = subst (λ (r : Submission). State o (record { call = submit file; answer = ofSubmit (r .answer) } ∷ past) (r .words)) (sym (submit-is file))
-      (submit-done file (judged o (closingDay o past) file) refl)
+      (submit-done file (judged (limitsOf o (closingDay o past)) file) refl)
 
   -- ---- close
   -- refused with 9, 10 or 11: nothing changes

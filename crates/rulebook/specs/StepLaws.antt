@@ -19,7 +19,7 @@ use Rattle.rulebook.specs.Units.{lastDay}
 use Rattle.rulebook.specs.Layout.{Entries, flag}
 use Rattle.rulebook.specs.WellFormed.{isZero, dayBound}
 use Rattle.rulebook.specs.File.{Row}
-use Rattle.rulebook.specs.Judging.{openFrom, openTo}
+use Rattle.rulebook.specs.Judging.{openFrom, limitsOf}
 use Rattle.rulebook.specs.Submit.{entry}
 use Rattle.rulebook.specs.History.{latest, RowsInForce, isFor, lastFor}
 use Rattle.rulebook.specs.LayoutLaws.{InWindow}
@@ -63,17 +63,17 @@ pub record OpenDay (o : Terms) (k d : ℕ) : Type 0 where
   pub window : InWindow o k d
   pub dated : d ≤ lastDay
 
-pub open-day : (o : Terms) (k : ℕ) (s : Section) (d : ℕ) → 1 ≤ o .horizon → openFrom o (o .first + k) s ≤ d → d ≤ openTo o (o .first + k) → OpenDay o k d
+pub open-day : (o : Terms) (k : ℕ) (s : Section) (d : ℕ) → 1 ≤ o .horizon → openFrom (limitsOf o (o .first + k)) s ≤ d → d ≤ limitsOf o (o .first + k) .last → OpenDay o k d
 open-day o k Vesting d z h x = record { window = omega arith; dated = omega arith }
 open-day o k Meter d z h x = record { window = omega arith; dated = omega arith }
 open-day o k Residual d z h x = record { window = omega arith; dated = omega arith }
 open-day o k Ncc d z h x = record { window = omega arith; dated = omega arith }
 
 -- a sound row's day
-pub sound-day : (o : Terms) (k : ℕ) → 1 ≤ o .horizon → (r : Row) → Sound o (o .first + k) r → OpenDay o k (r .day)
+pub sound-day : (o : Terms) (k : ℕ) → 1 ≤ o .horizon → (r : Row) → Sound (limitsOf o (o .first + k)) r → OpenDay o k (r .day)
 sound-day o k z r x = open-day o k (r .section) (r .day) z (x .early) (x .late)
 
-pub storable : (o : Terms) (k : ℕ) → 1 ≤ o .horizon → (rs : List Row) → Each (Sound o (o .first + k)) rs → Each (Storable o k) rs
+pub storable : (o : Terms) (k : ℕ) → 1 ≤ o .horizon → (rs : List Row) → Each (Sound (limitsOf o (o .first + k))) rs → Each (Storable o k) rs
 storable o k z [] x = tt
 storable o k z (r ∷ rs) x = (record { day = sound-day o k z r (x .0) .window; account = x .0 .account }, storable o k z rs (x .1))
 
@@ -107,13 +107,13 @@ newer-entries rs rows s a d i j = overlaid-last rs (entriesIn rows) s a d i j �
     step (some q) = unfold latest in refl
 
 -- the rows kept
-module _ (o : Terms) (k : ℕ) (rows : RowsInForce) (balance : ℕ → ℤ) (q : Kept o k rows balance) (z : 1 ≤ o .horizon) (rs : List Row) (x : Each (Sound o (o .first + k)) rs) where
-  by-file : (P : Section → ℕ → ℕ → Row → Type 0) → ((s : Section) (a d : ℕ) (r : Row) → Sound o (o .first + k) r → IsFor s a d r → P s a d r)
+module _ (o : Terms) (k : ℕ) (rows : RowsInForce) (balance : ℕ → ℤ) (q : Kept o k rows balance) (z : 1 ≤ o .horizon) (rs : List Row) (x : Each (Sound (limitsOf o (o .first + k))) rs) where
+  by-file : (P : Section → ℕ → ℕ → Row → Type 0) → ((s : Section) (a d : ℕ) (r : Row) → Sound (limitsOf o (o .first + k)) r → IsFor s a d r → P s a d r)
       → ((s : Section) (a d : ℕ) (r : Row) → rows s a d ≡ some r → P s a d r) → (s : Section) (a d : ℕ) (r : Row) → newer rs rows s a d ≡ some r → P s a d r
   by-file P f g s a d r e = go (latest-some (lastFor rs s a d) (rows s a d) r e)
     where
       go : (lastFor rs s a d ≡ some r) ⊎ (rows s a d ≡ some r) → P s a d r
-      go (inl y) = let z = last-one (Sound o (o .first + k)) rs s a d r x y in f s a d r (z .0) (z .1)
+      go (inl y) = let z = last-one (Sound (limitsOf o (o .first + k))) rs s a d r x y in f s a d r (z .0) (z .1)
       go (inr y) = g s a d r y
 
   pub file-kept : Kept o k (newer rs rows) balance

@@ -24,6 +24,15 @@ pub enum Section {
     Ncc,
 }
 
+// What a file is judged by: how many accounts there are, the first open day of vesting and meter rows, that of residual and NCC rows,
+// and the last open day.
+pub struct Limits {
+    pub accounts: usize,
+    pub current: usize,
+    pub earliest: usize,
+    pub last: usize,
+}
+
 // Why a file is refused: numbers 4 to 8.
 pub enum Why {
     NotWhole,
