@@ -12,3 +12,4 @@ pub mod ReferencePriceLaws
 pub mod SharesLaws
 pub mod TranchesLaws
 pub mod DayAmountLaws
+pub mod CallsLaws
