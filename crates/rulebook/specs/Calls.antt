@@ -6,7 +6,7 @@ use lib.Dec.{leb, eqb}
 use lib.IntN.{ℤ, pos}
 use lib.ListN.{length}
 use Rattle.integer.specs.Integer.{minus}
-use Rattle.integer.specs.Below.{all}
+use Rattle.integer.specs.Below.{all, sumℕ}
 use Rattle.integer.specs.Words.{word, filled}
 use Rattle.rulebook.specs.declared.Kind.the-variants.{Quantity, Injection, Price}
 use Rattle.rulebook.specs.declared.Kind.{Kind}
@@ -35,6 +35,10 @@ priceCall mep ieq =
 unfoldable pub shareInput : ℤ → List ℤ → Bool
 shareInput r uegq =
     between (minus leastResidual) (pos mostResidual) r && ((leb 1 (length uegq) && leb (length uegq) mostAccounts) && allInRange Quantity uegq)
+
+-- S
+abbrev pub spareGeneration : List ℤ → ℕ
+spareGeneration uegq = sumℕ (length uegq) (λ b. asQuantity (word uegq b))
 
 -- one word an account
 unfoldable pub shareWord : ℤ → List ℤ → ℕ → ℤ

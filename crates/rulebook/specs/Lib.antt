@@ -55,3 +55,4 @@ pub mod RunLaws
 pub mod Demand3Proof
 pub mod CompanionProof
 pub mod Theorems
+pub mod CallsLaws

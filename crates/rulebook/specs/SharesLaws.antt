@@ -18,7 +18,7 @@ use Rattle.rulebook.specs.Shares.{shareOf, share}
 -- ---- The three cases
 
 -- 0 if R ≤ 0 or S = 0
-share-none : (r : ℤ) (s u : ℕ) → (positive r ≡ 0) ⊎ (s ≡ 0) → shareOf r s u ≡ 0
+pub share-none : (r : ℤ) (s u : ℕ) → (positive r ≡ 0) ⊎ (s ≡ 0) → shareOf r s u ≡ 0
 unfolding shareOf
 share-none r s u (inl h) = rw (le-true r (pos 0) (omega int))
 share-none r s u (inr h) = rw (eq-eqb s 0 h) (go (leZ r (pos 0)))
@@ -31,12 +31,12 @@ not-none : (r : ℤ) (s : ℕ) → 0 < positive r → 0 < s → (leZ r (pos 0) |
 not-none r s h k = rw (le-false r (pos 0) (omega (int, parts r)), ne-eqb s 0 (λ e. absurd (omega arith)))
 
 -- UEGQ if R ≥ S
-share-full : (r : ℤ) (s u : ℕ) → 0 < s → s ≤ positive r → shareOf r s u ≡ u
+pub share-full : (r : ℤ) (s u : ℕ) → 0 < s → s ≤ positive r → shareOf r s u ≡ u
 unfolding shareOf
 share-full r s u h k = rw (not-none r s (omega arith) h, le-true (pos s) r (omega (int, parts r)))
 
 -- else R × UEGQ / S rounded down
-share-part : (r : ℤ) (s u : ℕ) → 0 < positive r → positive r < s → shareOf r s u ≡ positive r * u / s
+pub share-part : (r : ℤ) (s u : ℕ) → 0 < positive r → positive r < s → shareOf r s u ≡ positive r * u / s
 unfolding shareOf
 share-part r s u h k = rw (not-none r s h (omega arith), le-false (pos s) r (omega (int, parts r)))
 
@@ -103,12 +103,13 @@ share-rule r s u h = ⊎-elim none (λ k. ⊎-elim (part (k .0)) full (lt-or-le 
             (lt-or-le (positive r * u / s) p)
 
 -- no share is above its UEGQ
+pub share-cap : (r : ℤ) (s u : ℕ) → shareOf r s u ≤ u
+share-cap r s u =
+    ⊎-elim (λ h. share-rule r s u h .fits .cap) (λ h. let e = share-none r s u (inr (omega arith)) in omega arith) (lt-or-le 0 s)
+
 pub share-le : (r : ℤ) (n : ℕ) (uegq : ℕ → ℕ) (a : ℕ) → share r n uegq a ≤ uegq a
 unfolding share
-share-le r n uegq a =
-    ⊎-elim (λ h. share-rule r (sumℕ n uegq) (uegq a) h .fits .cap)
-    (λ h. let e = share-none r (sumℕ n uegq) (uegq a) (inr (omega arith)) in omega arith)
-    (lt-or-le 0 (sumℕ n uegq))
+share-le r n uegq a = share-cap r (sumℕ n uegq) (uegq a)
 
 pub share-cong : (r : ℤ) (n : ℕ) (u u′ : ℕ → ℕ) (a : ℕ) → a < n → ((b : ℕ) → b < n → u b ≡ u′ b) → share r n u a ≡ share r n u′ a
 unfolding share

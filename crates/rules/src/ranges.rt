@@ -3,7 +3,9 @@ use integer::word_at;
 use rulebook::Kind;
 ghost use mathlib.Core.Path.{_≡_};
 ghost use mathlib.Core.Bool.{true};
-ghost use Prim.Native.Nat.{_≤_};
+ghost use Prim.Native.Nat.{_≤_, _<_};
+ghost use lib.ListN.{length};
+ghost use Rattle.integer.specs.Words.{word};
 ghost use Rattle.rulebook.specs.declared.Kind.the-variants.{Quantity};
 ghost use Rattle.rulebook.specs.Units.{between, inRange, asQuantity, mostQuantity};
 ghost use Rattle.rulebook.specs.Calls.{allInRange};
@@ -42,4 +44,12 @@ pub fn as_quantity(z: i64) -> u64
     ensures { λ r. ⌜ (r ≡ asQuantity z) × (r ≤ mostQuantity) ⌝ }
 {
     z as u64
+}
+
+// A word of a list of quantities, as an unsigned number.
+pub fn quantity_at(xs: &[i64], i: usize) -> u64
+    requires { ⌜ (i < length (now xs)) × (allInRange Quantity (now xs) ≡ true) ⌝ }
+    ensures { λ r. ⌜ (r ≡ asQuantity (word (now (xs .entry)) i)) × (r ≤ mostQuantity) ⌝ }
+{
+    as_quantity(word_at(xs, i))
 }

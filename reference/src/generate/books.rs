@@ -1,0 +1,183 @@
+//! Books well formed and books with a single word off.
+
+use super::files::{Draft, Style, STYLES};
+use super::Rng;
+use crate::book::{open, size};
+use crate::close::close;
+use crate::history::{History, Key, Opening};
+use crate::submission::submit;
+use crate::units::{IEQ, NCC_LOAD, PRICE, QUANTITY};
+use std::ops::RangeInclusive;
+
+pub const DAY_BOUND: i64 = 4_800_000_000_000;
+
+/// A book as the calls leave it after so many closes, some rows of open days
+/// given; `ready` gives all that the next close needs.
+pub fn kept_book(
+    rng: &mut Rng,
+    opening: Opening,
+    closes: usize,
+    ready: bool,
+) -> (Vec<i64>, History) {
+    let style = rng.pick(&STYLES);
+    let mut book = opened_book(opening);
+    let mut history = History::new(opening);
+    for _ in 0..closes {
+        feed(rng, style, &mut book, &mut history);
+        let mut statement = vec![0; history.accounts() + 1];
+        let answer = close(&mut book, &mut statement);
+        history.closed(statement.len(), &answer);
+    }
+    let draft = Draft::random(rng, style, &history, 2);
+    give(&mut book, &mut history, &draft);
+    if ready {
+        feed(rng, style, &mut book, &mut history);
+    }
+    (book, history)
+}
+
+pub fn opened_book(opening: Opening) -> Vec<i64> {
+    let Opening {
+        accounts,
+        lag,
+        horizon,
+        first_day,
+    } = opening;
+    let mut book = vec![-7; size(accounts, lag, horizon).unwrap_or(0) as usize];
+    open(&mut book, accounts, lag, horizon, first_day);
+    book
+}
+
+fn feed(rng: &mut Rng, style: Style, book: &mut [i64], history: &mut History) {
+    if history.finished() {
+        return;
+    }
+    let missing = history.needed().into_iter();
+    let keys: Vec<Key> = missing.filter(|key| !history.is_in_force(key)).collect();
+    let draft = Draft::of(rng, style, history.accounts(), &keys);
+    give(book, history, &draft);
+}
+
+fn give(book: &mut [i64], history: &mut History, draft: &Draft) {
+    let file = draft.bytes();
+    let answer = submit(book, &file);
+    history.submitted(&file, answer.number);
+}
+
+/// Values for one word of a well-formed book, the other words kept.
+pub struct WordCase {
+    /// Each makes the book not well formed.
+    pub off: Vec<i64>,
+    /// Each leaves it well formed.
+    pub fine: Vec<i64>,
+}
+
+/// What one word of a well-formed book may and may not be.
+pub fn word_case(book: &[i64], index: usize) -> WordCase {
+    let (accounts, slots) = (book[1] as usize, book[2] + book[3]);
+    let (first_day, next_day) = (book[4], book[5]);
+    let bound = (next_day - first_day) * DAY_BOUND;
+    if index < 64 {
+        return match index {
+            0 => off(&[394, 396, 0, -395]),
+            1 => off(&[0, 33, -1, i64::MIN, i64::MAX]),
+            2 => off(&[0, 76, -1, i64::MIN, i64::MAX]),
+            3 => off(&[0, 93, -1, i64::MIN, i64::MAX]),
+            4 => off(&[9_496, 36_525, next_day + 1, 0, i64::MIN, i64::MAX]),
+            5 => off(&[first_day - 1, 36_526, 0, i64::MIN, i64::MAX]),
+            6 => within(-bound * accounts as i64..=bound * accounts as i64),
+            _ => zero(),
+        };
+    }
+    if index < 64 + 8 * accounts {
+        return if index.is_multiple_of(8) {
+            within(-bound..=bound)
+        } else {
+            zero()
+        };
+    }
+
+    let interval_words = 4 + 24 * accounts;
+    let within_slots = index - 64 - 8 * accounts;
+    let slot = (within_slots / (48 * interval_words)) as i64;
+    let oldest = first_day.max(next_day - book[2]);
+    let newest = 36_524.min(next_day + book[3] - 1);
+    let Some(day) = (oldest..=newest).find(|day| (day - first_day) % slots == slot) else {
+        return zero();
+    };
+    let within_interval = within_slots % interval_words;
+    if within_interval < 4 {
+        let ncc = &book[index - within_interval..][..2];
+        return match within_interval {
+            0 if ncc[1] == 1 => within(NCC_LOAD),
+            1 if ncc[0] != 0 => off(&[0, 2, -1]),
+            1 => WordCase {
+                off: vec![2, -1],
+                fine: vec![0, 1],
+            },
+            _ => zero(),
+        };
+    }
+    let word = (within_interval - 4) % 24;
+    let entry = &book[index - word..][..24];
+    match word {
+        0..=8 => group_case(&entry[..9], word, day < next_day, 4, &[QUANTITY, PRICE]),
+        9..=17 => group_case(&entry[9..18], word - 9, day < next_day, 4, &[PRICE, IEQ]),
+        18..=22 => group_case(
+            &entry[18..23],
+            word - 18,
+            false,
+            1,
+            &[QUANTITY, QUANTITY, PRICE, PRICE],
+        ),
+        _ => zero(),
+    }
+}
+
+/// A word of a group of a flag and, `most` times, values of these ranges.
+fn group_case(
+    group: &[i64],
+    word: usize,
+    needed: bool,
+    most: i64,
+    ranges: &[RangeInclusive<i64>],
+) -> WordCase {
+    let width = ranges.len();
+    if word > 0 {
+        let used = group[0] as usize * width;
+        return if word <= used {
+            within(ranges[(word - 1) % width].clone())
+        } else {
+            zero()
+        };
+    }
+    // A flag may be any count that covers the values which are not zero.
+    let last = (1..group.len()).rev().find(|&word| group[word] != 0);
+    let least = last
+        .map_or(0, |last| last.div_ceil(width) as i64)
+        .max(i64::from(needed));
+    let mut case = WordCase {
+        off: vec![-1, most + 1, i64::MIN, i64::MAX],
+        fine: (least..=most).collect(),
+    };
+    case.off.extend(0..least);
+    case
+}
+
+fn off(values: &[i64]) -> WordCase {
+    WordCase {
+        off: values.to_vec(),
+        fine: vec![],
+    }
+}
+
+fn zero() -> WordCase {
+    off(&[1, -1, i64::MIN, i64::MAX])
+}
+
+fn within(range: RangeInclusive<i64>) -> WordCase {
+    WordCase {
+        off: vec![range.start() - 1, range.end() + 1, i64::MIN, i64::MAX],
+        fine: vec![*range.start(), *range.end()],
+    }
+}

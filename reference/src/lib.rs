@@ -1,0 +1,25 @@
+//! A second implementation of the residual vesting settlement book: plain,
+//! direct Rust, one module for each section of the specification.
+//!
+//! Every call is total: any slice of any length and content is answered with a
+//! number, and a refusal changes no lent word.
+//!
+//! `history` tells a list of calls from their arguments and answers alone,
+//! `generate` makes cases from a fixed seed, `checker` runs one against the
+//! other, and `variant` holds the wrong books which the cases have to show.
+
+pub mod book;
+pub mod calendar;
+pub mod checker;
+pub mod close;
+pub mod day_amount;
+pub mod generate;
+pub mod history;
+pub mod numbers;
+pub mod reference_price;
+pub mod settle;
+pub mod share;
+pub mod submission;
+pub mod tranche;
+pub mod units;
+pub mod variant;

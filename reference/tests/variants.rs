@@ -1,0 +1,98 @@
+//! Each wrong book is shown by the generated cases.
+
+use reference::checker::run;
+use reference::generate::inputs::input;
+use reference::generate::lists::list;
+use reference::generate::Rng;
+use reference::history::{Breach, LIST_BREACHES};
+use reference::reference_price::{reference_price, reference_price_in};
+use reference::settle::{settle, settle_in};
+use reference::share::share_in;
+use reference::tranche::tranche_in;
+use reference::variant::{Context, Variant, WRONG};
+use std::collections::BTreeSet;
+
+const LISTS: usize = 60;
+
+/// The breaches of a variant over the lists, and how many of them it answers
+/// unlike the right book.
+fn shown(variant: Variant) -> (BTreeSet<Breach>, usize) {
+    let mut rng = Rng::new(0x7A1);
+    let mut breaches = BTreeSet::new();
+    let mut differing = 0;
+    for _ in 0..LISTS {
+        let list = list(&mut rng);
+        let right = run(Context::RIGHT, &list);
+        let wrong = run(Context::of(variant), &list);
+        assert!(right.breaches.is_empty());
+        // Where the outputs differ the checker objects.
+        if wrong.outputs != right.outputs {
+            assert!(!wrong.breaches.is_empty());
+            differing += 1;
+        }
+        breaches.extend(wrong.breaches);
+    }
+    (breaches, differing)
+}
+
+#[test]
+fn the_right_book_differs_nowhere() {
+    assert_eq!(shown(Variant::Right), (BTreeSet::new(), 0));
+}
+
+#[test]
+fn each_wrong_book_differs_and_is_rejected() {
+    for variant in WRONG {
+        let (breaches, differing) = shown(variant);
+        assert!(differing > 0, "{variant:?}");
+        let expected = match variant {
+            Variant::Right => unreachable!(),
+            Variant::RoundsEachInterval
+            | Variant::WeighsNegativeIeq
+            | Variant::PricesResidualAtClosingDay
+            | Variant::LoadsResidualWithClosingDayHedges
+            | Variant::PostsZerosAfterFirstDay => Some(Breach::Balance),
+            Variant::StoresNothing | Variant::SaysAbsentUnsearched => Some(Breach::MissingDatum),
+            Variant::InventsResidualCount => Some(Breach::ResidualCount),
+            // The list's theorem says nothing of statements nor of refusals.
+            Variant::OneStatementForAllDays | Variant::RefusesEverything => None,
+        };
+        match expected {
+            Some(breach) => assert!(breaches.contains(&breach), "{variant:?}: {breaches:?}"),
+            None => {
+                assert!(LIST_BREACHES
+                    .iter()
+                    .all(|breach| !breaches.contains(breach)));
+                let other = match variant {
+                    Variant::OneStatementForAllDays => Breach::Statement,
+                    _ => Breach::Answer,
+                };
+                assert!(breaches.contains(&other), "{variant:?}: {breaches:?}");
+            }
+        }
+    }
+}
+
+#[test]
+fn each_wrong_book_is_shown_by_settle() {
+    for variant in WRONG {
+        let mut rng = Rng::new(0x5E77);
+        let differs = (0..200).any(|_| {
+            let (input, _) = input(&mut rng);
+            settle_in(Context::of(variant), &input) != settle(&input)
+        });
+        assert!(differs, "{variant:?}");
+    }
+}
+
+#[test]
+fn calls_on_no_book_show_their_wrong_variants() {
+    let negative = Context::of(Variant::WeighsNegativeIeq);
+    let (meps, ieqs) = ([100, 200, 300], [2, 2, -1]);
+    assert_eq!(reference_price(&meps, &ieqs).price, 150);
+    assert_eq!(reference_price_in(negative, &meps, &ieqs).price, 100);
+    let refusing = Context::of(Variant::RefusesEverything);
+    assert_eq!(reference_price_in(refusing, &meps, &ieqs).number, 1);
+    assert_eq!(share_in(refusing, 1, &[1], &mut [0]), 1);
+    assert_eq!(tranche_in(refusing, 1, 1, 1).number, 1);
+}
