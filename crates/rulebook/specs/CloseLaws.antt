@@ -17,10 +17,11 @@ use Rattle.rulebook.specs.declared.Section.{Section}
 use Rattle.rulebook.specs.declared.Terms.{Terms}
 use Rattle.rulebook.specs.DayAmount.{residualDue}
 use Rattle.rulebook.specs.Sections.{accountsOf}
-use Rattle.rulebook.specs.Layout.{Entries, stored, width, place, intervalSize, ring, base, size, slot, intervalWord, rowWord, windowSlot}
+use Rattle.rulebook.specs.Layout.{Entries, stored, width, place, intervalSize, ring, base, size, slot, intervalWord, rowWord, windowSlot, intervalWords, accountWords}
 use Rattle.rulebook.specs.Close.{posted, postedToMssl, balancesGrown, slotBlanked, dayClosed}
+use Rattle.rulebook.specs.TestLaws.{below-suc}
 use Rattle.rulebook.specs.LayoutLaws.{InWindow, days-apart, interval-inside, row-inside, slot-inside, quotient, remainder}
-use Rattle.rulebook.specs.WordLaws.{below-suc, stored-in, stored-out, length-stored}
+use Rattle.rulebook.specs.WordLaws.{stored-in, stored-out, length-stored}
 use Rattle.rulebook.specs.LedgerLaws.{Holds, Padding, padding-fits}
 
 module _ (o : Terms) where
@@ -170,7 +171,7 @@ module _ (o : Terms) (p : zero < ring o) (k : ℕ) (g : Entries) (balance : ℕ 
         m : ℕ
         m = place s a j
 
-        hm : m < 4 + 24 * o .accounts
+        hm : m < intervalWords + accountWords * o .accounts
         hm = row-inside (o .accounts) s a j ha hj
 
         fresh : d ≡ o .first + k + o .horizon → Dec (o .lag ≤ k) → word (dayClosed o w (o .first + k)) (intervalWord o (slot o d) i m) ≡ pos 0

@@ -12,7 +12,7 @@ use Rattle.rulebook.specs.declared.Section.the-variants.{Vesting, Meter,
 use Rattle.rulebook.specs.declared.Terms.{Terms}
 use Rattle.rulebook.specs.Sections.{valueInRange}
 use Rattle.rulebook.specs.Layout.{size, base, ring, intervalSize, slot, intervalWord, rowWord, flagWord}
-use Rattle.rulebook.specs.WellFormed.{rowFits, rowBlank, rowCounts, numberFits, headerFits}
+use Rattle.rulebook.specs.WellFormed.{rowFits, rowBlank, rowCounts, headerFits}
 use Rattle.rulebook.specs.File.{num, signed32, valueAt, rowEnd, rowPos, sectionEnd, sectionRows, fileRows}
 use Rattle.rulebook.specs.Judging.{rest}
 
@@ -105,7 +105,7 @@ pub record RowExamples : Type 0 where
   pub loadAbsent : rowFits Ncc (words (pos 550 ∷ pos 0 ∷ [])) ≡ false
 
 pub row-examples : RowExamples
-unfolding rowFits rowBlank rowCounts numberFits fold
+unfolding rowFits rowBlank rowCounts fold
 row-examples = record {
   absent = refl;
   noTranche = refl;

@@ -1,6 +1,6 @@
 -- A book that holds a fitting ledger is well formed. Assumes nothing.
 use mathlib.Core.Path.{_≡_, refl, ap, _∙_}
-use mathlib.Core.Bool.{Bool, true, false, cond, _&&_, _||_, not}
+use mathlib.Core.Bool.{Bool, true, false, _&&_, _||_, not}
 use mathlib.Core.List.{List}
 use Prim.Native.Nat.{ℕ, zero, suc, _+_, _-_, _*_, _≤_, _<_}
 use native.Mathlib.Nat.{mod-lt, add-sub-cancel-left, add-mod-right, one-mul}
@@ -8,20 +8,21 @@ use native.Mathlib.Omega.{arith}
 use native.Mathlib.Decide.{decLe}
 use lib.IntN.{ℤ, pos, natAbs}
 use lib.Dec.{T, ltb, le→leb, ltb→lt, nltb→le}
-use lib.ListN.{length}
+use lib.ListN.{length, getD}
 use Rattle.integer.specs.Below.{all, any}
 use Rattle.integer.specs.Words.{word}
 use Rattle.rulebook.specs.declared.Section.{Section}
 use Rattle.rulebook.specs.declared.Section.the-variants.{Vesting, Meter, Residual, Ncc}
 use Rattle.rulebook.specs.declared.Terms.{Terms}
 use Rattle.rulebook.specs.Units.{lastDay, between, positive}
-use Rattle.rulebook.specs.Sections.{accountsOf, mostCount, perInterval, valueInRange}
-use Rattle.rulebook.specs.Layout.{width, flag, intervalSize, ring, size, slot, intervalWord, rowWord, windowSlot, numberWord, termsOf, nextDay}
-use Rattle.rulebook.specs.WellFormed.{isZero, rowFits, rowBlank, rowCounts, numberFits, isThere, intervalBlank, slotBlank, slotRow, accountWordsFit, intervalFits, bothThere, closedRowsThere, windowSlotFits, accountFits, balanceFits, headerFits, fits, wellFormed, dayBound}
-use Rattle.rulebook.specs.TestLaws.{all-same, any-same, all-yes, between-yes, cond-yes}
+use Rattle.rulebook.specs.Sections.{accountsOf, mostCount}
+use Rattle.rulebook.specs.Layout.{width, intervalSize, ring, size, slot, intervalWord, rowWord, windowSlot, termsOf, nextDay, Word, spare, isSpare, intervalTable, accountTable, intervalWords, accountWords, accountPlace, wordName, flagIndex}
+use Rattle.rulebook.specs.WellFormed.{isZero, rowFits, rowBlank, rowCounts, wordFits, sparesZero, isThere, intervalBlank, slotBlank, slotRow, accountWordsFit, intervalFits, bothThere, closedRowsThere, windowSlotFits, accountFits, balanceFits, headerFits, fits, wellFormed, dayBound}
+use Rattle.rulebook.specs.TestLaws.{all-same, any-same, all-yes, between-yes, cond-yes, and-both, or-cases, nor-left}
+use Rattle.rulebook.specs.RowWordLaws.{flag-inside}
 use Rattle.rulebook.specs.LayoutLaws.{InWindow}
-use Rattle.rulebook.specs.LedgerLaws.{Ledger, Holds, Padding, third, fourth, cell, and-both}
-use Rattle.rulebook.specs.KeptLaws.{flag-inside, number-inside, Cover, ofRow, ofPadding, cover}
+use Rattle.rulebook.specs.LedgerLaws.{Ledger, Holds, Padding, ofInterval, ofAccount}
+use Rattle.rulebook.specs.CoverLaws.{Cover, ofRow, ofPadding, cover}
 
 -- an accepted opening's terms
 pub record InTerms (o : Terms) : Type 0 where
@@ -41,19 +42,6 @@ ring-pos o t = omega arith
 pub zero-yes : {z : ℤ} → z ≡ pos 0 → T (isZero z)
 zero-yes e = rw e tt
 
--- either side of a test
-pub or-cases : {X : Type 0} (a b : Bool) → T (a || b) → (T a → X) → (T b → X) → X
-or-cases true b t f g = f tt
-or-cases false b t f g = g t
-
-pub nor-left : (a b : Bool) → T (not (a || b)) → T (not a)
-nor-left true b t = t
-nor-left false b t = tt
-
-pub nor-right : (a b : Bool) → T (not (a || b)) → T (not b)
-nor-right true b t = absurd t
-nor-right false b t = t
-
 not-or : (a b : Bool) → (T a → T b) → T (not a || b)
 not-or true b f = f tt
 not-or false b f = tt
@@ -62,22 +50,27 @@ not-or false b f = tt
 pub record Fit (o : Terms) (b : Ledger) : Type 0 where
   pub rows : (s : Section) (a d i : ℕ) → InWindow o (b .closed) d → a < accountsOf s (o .accounts) → i < 48 → T (rowFits s (b .entries s a d i))
   pub undated : (s : Section) (a d i j : ℕ) → InWindow o (b .closed) d → lastDay < d → a < accountsOf s (o .accounts) → i < 48 → j < width s → b .entries s a d i j ≡ pos 0
-  pub vestings : (a d i : ℕ) → InWindow o (b .closed) d → d < o .first + b .closed → a < o .accounts → i < 48 → T (not (isZero (b .entries Vesting a d i 0)))
-  pub meters : (a d i : ℕ) → InWindow o (b .closed) d → d < o .first + b .closed → a < o .accounts → i < 48 → T (not (isZero (b .entries Meter a d i 0)))
+  pub vestings : (a d i : ℕ) → InWindow o (b .closed) d → d < o .first + b .closed → a < o .accounts → i < 48 → T (not (isZero (b .entries Vesting a d i (flagIndex Vesting))))
+  pub meters : (a d i : ℕ) → InWindow o (b .closed) d → d < o .first + b .closed → a < o .accounts → i < 48 → T (not (isZero (b .entries Meter a d i (flagIndex Meter))))
   pub bounded : (a : ℕ) → a < o .accounts → natAbs (b .balance a) ≤ b .closed * dayBound
   pub mssl : natAbs (b .mssl) ≤ o .accounts * (b .closed * dayBound)
   pub begun : o .first + b .closed ≤ suc lastDay
 
 -- rows with the same words fit alike
 pub fits-same : (s : Section) (f g : ℕ → ℤ) → ((j : ℕ) → j < width s → f j ≡ g j) → T (rowFits s g) → T (rowFits s f)
-unfolding rowFits rowBlank rowCounts numberFits
+unfolding rowFits rowBlank rowCounts
 fits-same s f g e t =
     let blank : rowBlank s f ≡ rowBlank s g = all-same (width s) (λ j. isZero (f j)) (λ j. isZero (g j)) (λ j hj. ap isZero (e j hj)) in
-    let numbers : (c : ℕ) → all (width s - 1) (numberFits s f c) ≡ all (width s - 1) (numberFits s g c)
-    = λ c. all-same (width s - 1) (numberFits s f c) (numberFits s g c) (λ i hi. ap (λ (z : ℤ). cond (ltb i (perInterval s c)) (valueInRange s i z) (isZero z)) (e (numberWord s i) (number-inside s i hi))) in
+    let words : (c : ℕ) → all (width s) (λ j. wordFits s c (wordName s j) (f j)) ≡ all (width s) (λ j. wordFits s c (wordName s j) (g j))
+    = λ c. all-same (width s) (λ j. wordFits s c (wordName s j) (f j)) (λ j. wordFits s c (wordName s j) (g j)) (λ j hj. ap (wordFits s c (wordName s j)) (e j hj)) in
     let counts : any (suc (mostCount s)) (rowCounts s f) ≡ any (suc (mostCount s)) (rowCounts s g)
-    = any-same (suc (mostCount s)) (rowCounts s f) (rowCounts s g) (λ c hc. rw (e (flag s) (flag-inside s), numbers c)) in
+    = any-same (suc (mostCount s)) (rowCounts s f) (rowCounts s g) (λ c hc. rw (words c)) in
     rw (blank, counts) t
+
+-- a table's spare words
+spares-zero : (table : List Word) (f : ℕ → ℤ) → ((q : ℕ) → q < length table → T (isSpare (getD table q spare)) → T (isZero (f q))) → T (sparesZero table f)
+unfolding sparesZero
+spares-zero table f h = all-yes (length table) (λ q. not (isSpare (getD table q spare)) || isZero (f q)) (λ q hq. not-or (isSpare (getD table q spare)) (isZero (f q)) (h q hq))
 
 module _ (o : Terms) (t : InTerms o) (b : Ledger) (w : List ℤ) (h : Holds o b w) (q : Fit o b) where
   abbrev k : ℕ
@@ -116,7 +109,7 @@ module _ (o : Terms) (t : InTerms o) (b : Ledger) (w : List ℤ) (h : Holds o b 
     cell-fits : (a i : ℕ) → a < o .accounts → i < 48 → T (accountWordsFit o w (windowSlot o k u) i a)
     unfolding accountWordsFit
     cell-fits a i ha hi =
-        let x = slot-padding i (27 + 24 * a) hi (cell a ha) in
+        let x = spares-zero accountTable (λ q. word w (intervalWord o (windowSlot o k u) i (accountPlace a q))) (λ q hq t. slot-padding i (accountPlace a q) hi (ofAccount a q ha hq t)) in
         let v = section-fits Vesting a i ha hi in
         let m = section-fits Meter a i ha hi in
         let r = section-fits Residual a i ha hi in
@@ -125,8 +118,7 @@ module _ (o : Terms) (t : InTerms o) (b : Ledger) (w : List ℤ) (h : Holds o b 
     interval-fits : (i : ℕ) → i < 48 → T (intervalFits o w (windowSlot o k u) i)
     unfolding intervalFits
     interval-fits i hi =
-        let x = slot-padding i 2 hi third in
-        let y = slot-padding i 3 hi fourth in
+        let x = spares-zero intervalTable (λ q. word w (intervalWord o (windowSlot o k u) i q)) (λ q hq t. slot-padding i q hi (ofInterval q hq t)) in
         let n = section-fits Ncc 0 i (omega arith) hi in
         let c = all-yes (o .accounts) (accountWordsFit o w (windowSlot o k u) i) (λ a ha. cell-fits a i ha hi) in
         search and-both
@@ -135,10 +127,10 @@ module _ (o : Terms) (t : InTerms o) (b : Ledger) (w : List ℤ) (h : Holds o b 
     unfolding closedRowsThere bothThere isThere day
     closed-there x i hi = all-yes (o .accounts) (bothThere o w (windowSlot o k u) i) (λ a ha. and-both
         (isThere o w Vesting a (windowSlot o k u) i) (isThere o w Meter a (windowSlot o k u) i)
-        (rw (slot-row Vesting a i 0 ha hi (omega arith)) (q .vestings a day i day-window (omega arith) ha hi))
-        (rw (slot-row Meter a i 0 ha hi (omega arith)) (q .meters a day i day-window (omega arith) ha hi)))
+        (rw (slot-row Vesting a i (flagIndex Vesting) ha hi (flag-inside Vesting)) (q .vestings a day i day-window (omega arith) ha hi))
+        (rw (slot-row Meter a i (flagIndex Meter) ha hi (flag-inside Meter)) (q .meters a day i day-window (omega arith) ha hi)))
 
-    past-blank : lastDay < day → (i m : ℕ) → i < 48 → m < 4 + 24 * o .accounts → word w (intervalWord o (windowSlot o k u) i m) ≡ pos 0
+    past-blank : lastDay < day → (i m : ℕ) → i < 48 → m < intervalWords + accountWords * o .accounts → word w (intervalWord o (windowSlot o k u) i m) ≡ pos 0
     unfolding windowSlot
     past-blank x i m hi hm = go (cover (o .accounts) m hm)
       where

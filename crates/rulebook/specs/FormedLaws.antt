@@ -18,13 +18,14 @@ use Rattle.rulebook.specs.DayAmount.{residualDue, postedAmount}
 use Rattle.rulebook.specs.Sections.{accountsOf}
 use Rattle.rulebook.specs.Layout.{width, place, ring, size, intervalSize, slot, intervalWord, rowWord, windowSlot, termsOf, nextDay, entriesOf, bookData}
 use Rattle.rulebook.specs.WellFormed.{isZero, rowFits, isThere, intervalBlank, slotBlank, intervalFits, closedRowsThere, windowSlotFits, accountFits, balanceFits, headerFits, fits, wellFormed, dayBound}
+use Rattle.rulebook.specs.TestLaws.{and-left, and-right, all-at}
 use Rattle.rulebook.specs.LayoutLaws.{InWindow}
 use Rattle.rulebook.specs.RingLaws.{turn-of, turned, turn-inside}
-use Rattle.rulebook.specs.LedgerLaws.{Ledger, Holds, Padding, padding-fits, and-left, and-right}
+use Rattle.rulebook.specs.LedgerLaws.{Ledger, Holds, Padding, padding-fits}
 use Rattle.rulebook.specs.KeptLaws.{absent-fits}
 use Rattle.rulebook.specs.FormLaws.{InTerms, Fit, ring-pos}
 use Rattle.rulebook.specs.SizeLaws.{data-sized, posted-size}
-use Rattle.rulebook.specs.SlotLaws.{row-in-interval, all-at, is-zero, is-number, interval-padding, slots-fit, undated-blank, closed-there, row-fits-at, entries-ranged}
+use Rattle.rulebook.specs.SlotLaws.{row-in-interval, is-zero, is-number, interval-padding, slots-fit, undated-blank, closed-there, row-fits-at, entries-ranged}
 
 -- ---- a well-formed book holds a ledger, and it fits
 

@@ -1,6 +1,6 @@
 -- A book's words hold a ledger: closed days, figures and balances. Storing a file's rows keeps it so. Assumes nothing.
 use mathlib.Core.Path.{_≡_, refl, sym, ap, _∙_, subst}
-use mathlib.Core.Bool.{Bool, true, false, cond, _&&_}
+use mathlib.Core.Bool.{Bool, true, false, cond}
 use mathlib.Core.List.{List, [], _∷_}
 use mathlib.Core.Option.{Option, none, some}
 use Prim.Native.Nat.{ℕ, zero, _+_, _-_, _*_, _≤_, _<_}
@@ -8,25 +8,27 @@ use native.Mathlib.Nat.{zero-add}
 use native.Mathlib.Omega.{arith}
 use lib.IntN.{ℤ, pos}
 use lib.Dec.{T, eqb→eq, eqb-refl}
-use lib.ListN.{length}
+use lib.ListN.{length, getD}
 use Rattle.integer.specs.Below.{Each}
 use Rattle.integer.specs.Words.{word}
 use Rattle.rulebook.specs.declared.Section.{Section}
 use Rattle.rulebook.specs.declared.Section.the-variants.{Vesting, Meter, Residual, Ncc}
 use Rattle.rulebook.specs.declared.Terms.{Terms}
-use Rattle.rulebook.specs.Sections.{accountsOf, sameSection}
-use Rattle.rulebook.specs.Layout.{Entries, width, place, intervalSize, ring, base, size, slot, intervalWord, rowWord, windowSlot}
+use Rattle.rulebook.specs.Sections.{accountsOf}
+use Rattle.rulebook.specs.Layout.{Entries, width, place, intervalSize, ring, base, size, slot, intervalWord, rowWord, windowSlot, Word, spare, isSpare, tableOf, intervalTable, accountTable, tablePlace, accountPlace, intervalWords, accountWords}
 use Rattle.rulebook.specs.File.{Row}
 use Rattle.rulebook.specs.Submit.{entry, rowStored, rowsStored}
 use Rattle.rulebook.specs.History.{isFor, RowsInForce}
+use Rattle.rulebook.specs.TestLaws.{and-left, and-right, and-both}
+use Rattle.rulebook.specs.SectionsLaws.{same-section, section-self}
+use Rattle.rulebook.specs.RowWordLaws.{row-word, not-spare}
 use Rattle.rulebook.specs.LayoutLaws.{rows-apart, InWindow, days-apart, window-apart, interval-apart, row-inside, account-words-apart}
 use Rattle.rulebook.specs.WordLaws.{row-out, row-in, length-rowStored}
 
 -- the words of an interval that belong to no row
 pub data Padding (n : ℕ) : ℕ → Type 0 where
-  third : Padding n 2
-  fourth : Padding n 3
-  cell : (a : ℕ) → a < n → Padding n (27 + 24 * a)
+  ofInterval : (q : ℕ) → q < intervalWords → T (isSpare (getD intervalTable q spare)) → Padding n q
+  ofAccount : (a q : ℕ) → a < n → q < accountWords → T (isSpare (getD accountTable q spare)) → Padding n (accountPlace a q)
 
 -- a book told apart from its words: closed days, what stands in each row, and balances in cents
 pub record Ledger : Type 0 where
@@ -77,42 +79,6 @@ held-same {o} {b} {c} {w} k f e m h = record {
 
 -- ---- a row's key
 
-same-section : (s t : Section) → T (sameSection s t) → s ≡ t
-same-section Vesting Vesting h = refl
-same-section Vesting Meter h = absurd h
-same-section Vesting Residual h = absurd h
-same-section Vesting Ncc h = absurd h
-same-section Meter Vesting h = absurd h
-same-section Meter Meter h = refl
-same-section Meter Residual h = absurd h
-same-section Meter Ncc h = absurd h
-same-section Residual Vesting h = absurd h
-same-section Residual Meter h = absurd h
-same-section Residual Residual h = refl
-same-section Residual Ncc h = absurd h
-same-section Ncc Vesting h = absurd h
-same-section Ncc Meter h = absurd h
-same-section Ncc Residual h = absurd h
-same-section Ncc Ncc h = refl
-
-pub section-self : (s : Section) → T (sameSection s s)
-section-self Vesting = tt
-section-self Meter = tt
-section-self Residual = tt
-section-self Ncc = tt
-
-pub and-left : (a b : Bool) → T (a && b) → T a
-and-left true b t = tt
-and-left false b t = t
-
-pub and-right : (a b : Bool) → T (a && b) → T b
-and-right true b t = t
-and-right false b t = absurd t
-
-pub and-both : (a b : Bool) → T a → T b → T (a && b)
-and-both true b t u = u
-and-both false b t u = t
-
 pub record IsFor (s : Section) (a d : ℕ) (row : Row) : Type 0 where
   pub section : row .section ≡ s
   pub account : row .account ≡ a
@@ -151,24 +117,26 @@ abbrev pub submittedTo : List Row → Ledger → Ledger
 submittedTo rs b = record { closed = b .closed; entries = overlaid rs (b .entries); balance = b .balance; mssl = b .mssl }
 
 -- no row's word is padding, below the intervals, or in the slot of no day
-row-padding : (n : ℕ) (s : Section) (a j m : ℕ) → a < accountsOf s n → j < width s → Padding n m → m ≡ place s a j → ⊥
-row-padding n Vesting a j m ha hj third e = omega arith
-row-padding n Meter a j m ha hj third e = omega arith
-row-padding n Residual a j m ha hj third e = omega arith
-row-padding n Ncc a j m ha hj third e = omega arith
-row-padding n Vesting a j m ha hj fourth e = omega arith
-row-padding n Meter a j m ha hj fourth e = omega arith
-row-padding n Residual a j m ha hj fourth e = omega arith
-row-padding n Ncc a j m ha hj fourth e = omega arith
-row-padding n Vesting a j m ha hj (cell b hb) e = let x = account-words-apart b a 23 j (omega arith) (omega arith) (omega arith) in omega arith
-row-padding n Meter a j m ha hj (cell b hb) e = let x = account-words-apart b a 23 (9 + j) (omega arith) (omega arith) (omega arith) in omega arith
-row-padding n Residual a j m ha hj (cell b hb) e = let x = account-words-apart b a 23 (18 + j) (omega arith) (omega arith) (omega arith) in omega arith
-row-padding n Ncc a j m ha hj (cell b hb) e = omega arith
+account-padding : (s : Section) (a j b q : ℕ) → tableOf s ≡ accountTable → j < width s → q < accountWords → T (isSpare (getD accountTable q spare))
+    → accountPlace b q ≡ accountPlace a (tablePlace s j) → ⊥
+account-padding s a j b q t h hq x e =
+    let l : tablePlace s j < accountWords = subst (λ (table : List Word). tablePlace s j < length table) t (row-word s j h .inside) in
+    let y = account-words-apart b a q (tablePlace s j) hq l (omega arith) in
+    not-spare s j q h (sym (y .1)) (subst (λ (table : List Word). T (isSpare (getD table q spare))) (sym t) x)
 
-pub padding-inside : (n m : ℕ) → Padding n m → m < 4 + 24 * n
-padding-inside n m third = omega arith
-padding-inside n m fourth = omega arith
-padding-inside n m (cell a ha) = omega arith
+row-padding : (n : ℕ) (s : Section) (a j m : ℕ) → a < accountsOf s n → j < width s → Padding n m → m ≡ place s a j → ⊥
+row-padding n Vesting a j m ha hj (ofInterval q h x) e = omega arith
+row-padding n Meter a j m ha hj (ofInterval q h x) e = omega arith
+row-padding n Residual a j m ha hj (ofInterval q h x) e = omega arith
+row-padding n Ncc a j m ha hj (ofInterval q h x) e = not-spare Ncc j q hj (sym e) x
+row-padding n Vesting a j m ha hj (ofAccount b q hb h x) e = account-padding Vesting a j b q refl hj h x e
+row-padding n Meter a j m ha hj (ofAccount b q hb h x) e = account-padding Meter a j b q refl hj h x e
+row-padding n Residual a j m ha hj (ofAccount b q hb h x) e = account-padding Residual a j b q refl hj h x e
+row-padding n Ncc a j m ha hj (ofAccount b q hb h x) e = let l = row-word Ncc j hj .inside in omega arith
+
+pub padding-inside : (n m : ℕ) → Padding n m → m < intervalWords + accountWords * n
+padding-inside n m (ofInterval q h x) = omega arith
+padding-inside n m (ofAccount a q ha h x) = omega arith
 
 pub padding-fits : (o : Terms) (m : ℕ) → Padding (o .accounts) m → m < intervalSize o
 unfolding intervalSize

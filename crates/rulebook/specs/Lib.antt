@@ -28,11 +28,14 @@ pub mod SharesLaws
 pub mod TranchesLaws
 pub mod DayAmountLaws
 pub mod TestLaws
+pub mod SectionsLaws
 pub mod AmountLaws
+pub mod RowWordLaws
 pub mod LayoutLaws
 pub mod RingLaws
 pub mod WordLaws
 pub mod LedgerLaws
+pub mod CoverLaws
 pub mod FileLaws
 pub mod JudgingLaws
 pub mod SoundLaws

@@ -16,7 +16,8 @@ use Rattle.rulebook.specs.Layout.{size}
 use Rattle.rulebook.specs.Opening.{newBook, opened, Opening}
 use Rattle.rulebook.specs.Numbers.{accepted, ofOpen}
 use Rattle.rulebook.specs.History.{closes, inForce, formulaBalance, residualCounts}
-use Rattle.rulebook.specs.LedgerLaws.{held-same, and-left, and-right}
+use Rattle.rulebook.specs.TestLaws.{and-left, and-right}
+use Rattle.rulebook.specs.LedgerLaws.{held-same}
 use Rattle.rulebook.specs.FormLaws.{InTerms, ring-pos}
 use Rattle.rulebook.specs.OpeningLaws.{book-new, sum-zero}
 use Rattle.rulebook.specs.StepLaws.{some-none}

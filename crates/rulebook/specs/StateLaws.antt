@@ -26,7 +26,7 @@ use Rattle.rulebook.specs.declared.SubmitAnswer.the-variants.{FileRefuse
 use Rattle.rulebook.specs.declared.CloseAnswer.the-variants.{Finished, NoRoom, DatumMissing}
 use Rattle.rulebook.specs.Units.{lastDay, positive}
 use Rattle.rulebook.specs.DayAmount.{residualDue, residualDay, postedAmount}
-use Rattle.rulebook.specs.Layout.{termsOf, nextDay, entriesOf, bookData, dataOf}
+use Rattle.rulebook.specs.Layout.{termsOf, nextDay, entriesOf, bookData, dataOf, flagIndex}
 use Rattle.rulebook.specs.WellFormed.{wellFormed, dayBound}
 use Rattle.rulebook.specs.File.{Row, fileRows}
 use Rattle.rulebook.specs.Judging.{limitsOf, judged}
@@ -35,11 +35,13 @@ use Rattle.rulebook.specs.Close.{firstMissing, settled, closed, posted, 
 use Rattle.rulebook.specs.Numbers.{whyNumber, accepted, ofSubmit, ofClose}
 use Rattle.rulebook.specs.History.{latest, submit, close, Event, closes, inForce, acceptedRows, lastFor, formulaBalance, formulaAmount, residualCounts, closingDay, dataInForce}
 use Rattle.rulebook.specs.Demand3.{vestingOf, meterOf, EachReported}
+use Rattle.rulebook.specs.TestLaws.{T-path}
 use Rattle.rulebook.specs.AmountLaws.{Agree, posted-same}
+use Rattle.rulebook.specs.RowWordLaws.{flag-inside}
 use Rattle.rulebook.specs.LayoutLaws.{InWindow}
 use Rattle.rulebook.specs.LedgerLaws.{entriesIn, entryOf, Holds, held-same, rows-held}
 use Rattle.rulebook.specs.SoundLaws.{file-sound}
-use Rattle.rulebook.specs.KeptLaws.{Kept, T-path, none-or}
+use Rattle.rulebook.specs.KeptLaws.{Kept, none-or}
 use Rattle.rulebook.specs.FormLaws.{InTerms, Fit, terms-of, next-day, well-formed, ring-pos}
 use Rattle.rulebook.specs.SizeLaws.{posted-size, RangedEntries, data-sized}
 use Rattle.rulebook.specs.FigureLaws.{rows-ranged, data-agree, rows-agree}
@@ -165,7 +167,7 @@ module _ (o : Terms) (t : InTerms o) (past : List Event) (w : List ℤ) (h : Sta
   -- the book's figures are those of the rows in force
   book-agrees : (d : ℕ) → InWindow o (closes past) d → Agree (o .accounts) (bookData o w) (dataOf (entriesIn (inForce past))) d
   book-agrees d x = data-agree (o .accounts) (entriesOf o w) (entriesIn (inForce past)) d (omega arith) (λ s a i j ha hi hj. h .holds .held s a d i j x ha hi hj)
-      (λ a i ha hi. rw (h .holds .held Meter a d i 0 x ha hi (omega arith)) (ranged d .few a i ha hi))
+      (λ a i ha hi. rw (h .holds .held Meter a d i (flagIndex Meter) x ha hi (flag-inside Meter)) (ranged d .few a i ha hi))
 
   rows-same : (a : ℕ) → a < o .accounts → postedAmount o (dataOf (entriesIn (inForce past))) a (closingDay o past) ≡ formulaAmount o past a
   unfolding formulaAmount
