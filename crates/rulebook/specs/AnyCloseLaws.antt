@@ -20,7 +20,8 @@ use Rattle.rulebook.specs.declared.Section.the-variants.{Vesting, Meter}
 use Rattle.rulebook.specs.declared.Terms.{Terms}
 use Rattle.rulebook.specs.declared.CloseAnswer.the-variants.{Finished, NoRoom}
 use Rattle.rulebook.specs.Units.{lastDay}
-use Rattle.rulebook.specs.Layout.{Entries, entriesOf, flagIndex, flagWord, balanceWord, msslWord, termsOf, nextDay}
+use Rattle.rulebook.specs.Layout.{flagIndex, flagWord, balanceWord, msslWord}
+use Rattle.rulebook.specs.BookData.{Entries, entriesOf, termsOf, nextDay}
 use Rattle.rulebook.specs.WellFormed.{isZero, rowFits, wellFormed, dayBound}
 use Rattle.rulebook.specs.Close.{closed, settled, closeRefused, firstMissing, missingAt, absentFlag, posted, postedToMssl, dayClosed}
 use Rattle.rulebook.specs.TestLaws.{below-suc, T-path}

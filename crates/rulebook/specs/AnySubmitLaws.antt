@@ -14,7 +14,8 @@ use Rattle.rulebook.specs.declared.Section.the-variants.{Vesting, Meter}
 use Rattle.rulebook.specs.declared.Terms.{Terms}
 use Rattle.rulebook.specs.declared.Verdict.{Verdict}
 use Rattle.rulebook.specs.declared.Verdict.the-variants.{Accepted, Refused}
-use Rattle.rulebook.specs.Layout.{flagIndex, termsOf, nextDay}
+use Rattle.rulebook.specs.Layout.{flagIndex}
+use Rattle.rulebook.specs.BookData.{termsOf, nextDay}
 use Rattle.rulebook.specs.WellFormed.{isZero, rowFits, wellFormed}
 use Rattle.rulebook.specs.File.{Row, fileRows}
 use Rattle.rulebook.specs.Judging.{limitsOf, judged}

@@ -5,6 +5,7 @@ use mathlib.Core.List.{List, [], _∷_}
 use mathlib.Core.Option.{none}
 use Prim.Native.Nat.{ℕ, _+_, _-_, _*_, _≤_, _<_}
 use lib.IntN.{ℤ, pos, _+ℤ_}
+use lib.Dec.{T}
 use lib.ListN.{length}
 use Rattle.integer.specs.Below.{sumℤ}
 use Rattle.integer.specs.Words.{word}
@@ -13,7 +14,7 @@ use Rattle.rulebook.specs.declared.Section.the-variants.{Vesting, Meter,
 use Rattle.rulebook.specs.declared.Terms.{Terms}
 use Rattle.rulebook.specs.declared.OpenAnswer.{OpenAnswer}
 use Rattle.rulebook.specs.Units.{lastDay, intervals}
-use Rattle.rulebook.specs.DayAmount.{residualDay}
+use Rattle.rulebook.specs.DayAmount.{residualDue, residualDay}
 use Rattle.rulebook.specs.Layout.{balanceWord, msslWord}
 use Rattle.rulebook.specs.Numbers.{Answer, accepted, datumAbsent, ofOpen}
 use Rattle.rulebook.specs.History.{Call, submit, close, Event, closes, closingDay, inForce, formulaBalance, residualCounts}
@@ -25,8 +26,8 @@ use Rattle.rulebook.specs.Promises.{OpenPromise, Run}
 pub data Needed (o : Terms) (D : ℕ) : Section → ℕ → ℕ → Type 0 where
   vestingOf : {a : ℕ} → a < o .accounts → Needed o D Vesting a D
   meterOf : {a : ℕ} → a < o .accounts → Needed o D Meter a D
-  nccOf : o .first + o .lag ≤ D → Needed o D Ncc 0 (residualDay o D)
-  residualOf : {a : ℕ} → o .first + o .lag ≤ D → a < o .accounts → Needed o D Residual a (residualDay o D)
+  nccOf : T (residualDue o D) → Needed o D Ncc 0 (residualDay o D)
+  residualOf : {a : ℕ} → T (residualDue o D) → a < o .accounts → Needed o D Residual a (residualDay o D)
 
 pub record Missing (o : Terms) (past : List Event) : Type 0 where
   pub section : Section

@@ -26,7 +26,8 @@ use Rattle.rulebook.specs.declared.SubmitAnswer.the-variants.{FileRefuse
 use Rattle.rulebook.specs.declared.CloseAnswer.the-variants.{Finished, NoRoom, DatumMissing}
 use Rattle.rulebook.specs.Units.{lastDay, positive}
 use Rattle.rulebook.specs.DayAmount.{residualDue, residualDay, postedAmount}
-use Rattle.rulebook.specs.Layout.{termsOf, nextDay, entriesOf, bookData, dataOf, flagIndex}
+use Rattle.rulebook.specs.Layout.{flagIndex}
+use Rattle.rulebook.specs.BookData.{termsOf, nextDay, entriesOf, bookData, dataOf}
 use Rattle.rulebook.specs.WellFormed.{wellFormed, dayBound}
 use Rattle.rulebook.specs.File.{Row, fileRows}
 use Rattle.rulebook.specs.Judging.{limitsOf, judged}

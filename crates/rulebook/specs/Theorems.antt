@@ -10,7 +10,8 @@ use Rattle.integer.specs.NearestLaws.{nearest-is}
 use Rattle.rulebook.specs.declared.Terms.{Terms}
 use Rattle.rulebook.specs.Units.{lastDay, nearest}
 use Rattle.rulebook.specs.DayAmount.{postedAmount}
-use Rattle.rulebook.specs.Layout.{ring, windowSlot, termsOf, nextDay, bookData}
+use Rattle.rulebook.specs.Layout.{ring}
+use Rattle.rulebook.specs.BookData.{termsOf, nextDay, bookData}
 use Rattle.rulebook.specs.WellFormed.{wellFormed, dayBound}
 use Rattle.rulebook.specs.Submit.{submitted}
 use Rattle.rulebook.specs.Close.{closed}
@@ -22,6 +23,7 @@ use Rattle.rulebook.specs.WorkedDay.{WorkedDay, worked-day}
 use Rattle.rulebook.specs.Examples.{RowExamples, row-examples, Headers, headers, Ranges, ranges}
 use Rattle.rulebook.specs.NumberExamples.{Returned, returned, Table, table, Refusals, refusals}
 use Rattle.rulebook.specs.SharesLaws.{ShareTotal, share-total}
+use Rattle.rulebook.specs.WindowWalk.{windowSlot}
 use Rattle.rulebook.specs.RingLaws.{slot-once}
 use Rattle.rulebook.specs.FormedLaws.{close-amount}
 use Rattle.rulebook.specs.AnySubmitLaws.{submitted-formed}
