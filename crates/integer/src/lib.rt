@@ -2,7 +2,7 @@
 // and rounding.
 ghost use mathlib.Core.Path.{_≡_};
 ghost use Prim.Native.Nat.{_+_, _*_, _/_, _^_, _≤_, _<_};
-ghost use lib.IntN.{pos, natAbs};
+ghost use lib.IntN.{pos, natAbs, _+ℤ_};
 ghost use lib.ListN.{length, set};
 ghost use Rattle.integer.specs.Integer.{withSign};
 ghost use Rattle.integer.specs.Nearest.{nearest};
@@ -36,6 +36,14 @@ pub fn signed(n: u64) -> i64
     ensures { λ r. ⌜ r ≡ pos n ⌝ }
 {
     n as i64
+}
+
+// A sum that fits.
+pub fn add(a: i64, b: i64) -> i64
+    requires { ⌜ natAbs a + natAbs b < 2 ^ 63 ⌝ }
+    ensures { λ r. ⌜ r ≡ a +ℤ b ⌝ }
+{
+    a + b
 }
 
 // The magnitude of z.

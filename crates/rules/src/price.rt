@@ -1,5 +1,6 @@
 // Document 01, "Reference price V" (003, 3.6.1).
 use crate::ranges::all_in_range;
+use integer::add;
 use integer::nearest_to;
 use integer::signed;
 use integer::word_at;
@@ -40,14 +41,6 @@ fn weighted_more(weighted: i64, mep: i64, w: u64) -> i64
     weighted + mep * signed(w)
 }
 
-// Σ MEP with one facility more.
-fn simple_more(simple: i64, mep: i64) -> i64
-    requires { ⌜ (natAbs simple ≤ 3000000) × (natAbs mep ≤ mostPrice) ⌝ }
-    ensures { λ r. ⌜ r ≡ simple +ℤ mep ⌝ }
-{
-    simple + mep
-}
-
 // The sums with one facility more.
 pub fn with_facility(sums: Sums, mep: i64, ieq: i64) -> Sums
     requires { ⌜ (Within sums) × (sums .facilities ≤ 3) × (natAbs mep ≤ mostPrice) × (natAbs ieq ≤ mostQuantity) ⌝ }
@@ -57,7 +50,7 @@ pub fn with_facility(sums: Sums, mep: i64, ieq: i64) -> Sums
     Sums {
         weighted: weighted_more(sums.weighted, mep, w),
         weights: sums.weights + w,
-        simple: simple_more(sums.simple, mep),
+        simple: add(sums.simple, mep),
         facilities: sums.facilities + 1,
     }
 }

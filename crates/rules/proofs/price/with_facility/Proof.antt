@@ -41,11 +41,11 @@ add-t6 c =
     let l = s .pre .1 in
     omega (int, weight-small (c .before .before .before))
 
-simple-more-requires : tie.Need-simple-more-requires
-simple-more-requires c κs =
+add-requires : tie.Need-add-requires
+add-requires c κs =
     let s = c .before .before .before .before .before in
     let w = s .pre .0 .simple in
-    (omega (int, known (simple-fits s)), omega (int, known (s .fits .mep), s .pre .2))
+    omega (int, known (simple-fits s), known (s .fits .mep), s .pre .2, s .pre .1)
 
 add-t8 : tie.Need-add-t8
 add-t8 c = search needs
@@ -54,7 +54,7 @@ returns : tie.Need-returns
 returns c =
     let b = c .before .before .before .before in
     let s = b .before .before .before in
-    let m = c .before .simple-more in
+    let m = c .before .add in
     rw (
       got (b .weighted-more .result) (b .weighted-more .ok),
       b .weighted-more .ensures,
@@ -68,4 +68,4 @@ returns c =
     )
 
 pub with-facility-spec : {M : Type 1} → statement M
-with-facility-spec = tie.close (tie.spec weight-of-requires weighted-more-requires add-t6 simple-more-requires add-t8 returns)
+with-facility-spec = tie.close (tie.spec weight-of-requires weighted-more-requires add-t6 add-requires add-t8 returns)
