@@ -46,9 +46,9 @@ pub fn as_quantity(z: i64) -> u64
     z as u64
 }
 
-// A word of a list of quantities, as an unsigned number.
+// The quantity at a word.
 pub fn quantity_at(xs: &[i64], i: usize) -> u64
-    requires { ⌜ (i < length (now xs)) × (allInRange Quantity (now xs) ≡ true) ⌝ }
+    requires { ⌜ (i < length (now xs)) × (inRange Quantity (word (now xs) i) ≡ true) ⌝ }
     ensures { λ r. ⌜ (r ≡ asQuantity (word (now (xs .entry)) i)) × (r ≤ mostQuantity) ⌝ }
 {
     as_quantity(word_at(xs, i))

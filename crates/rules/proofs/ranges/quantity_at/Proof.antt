@@ -1,9 +1,7 @@
--- `quantity_at` meets its contract: each word of a list in range is in range.
+-- `quantity_at` meets its contract: the word that is read is in range.
 use mathlib.Core.Path.{_≡_, sym, _∙_}
 use borrow.Author.Needs.{needs}
 use Rattle.integer.specs.Bits.{got}
-use Rattle.rulebook.specs.declared.Kind.the-variants.{Quantity}
-use Rattle.rulebook.specs.CallsLaws.{in-range-at}
 use Rattle.rules.proofs.ranges.quantity_at.Statement.{statement}
 use Rattle.rules.proofs.ranges.quantity_at.Tie as tie
 
@@ -12,8 +10,7 @@ word-at-requires c κs = search needs
 
 as-quantity-requires : tie.Need-as-quantity-requires
 as-quantity-requires c κs =
-    let s = c .before in
-    rw (got (c .word-at .result) (c .word-at .ok), c .word-at .ensures) (in-range-at Quantity (s .args .xs .now) (s .pre .1) (s .args .i) (s .pre .0))
+    rw (got (c .word-at .result) (c .word-at .ok), c .word-at .ensures) (c .before .pre .1)
 
 returns : tie.Need-returns
 returns c =

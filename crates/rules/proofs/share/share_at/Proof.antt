@@ -7,12 +7,14 @@ use mir.Val.{toZ, ofZ}
 use Rattle.integer.specs.Bits.{got}
 use Rattle.rulebook.specs.Shares.{share}
 use Rattle.rulebook.specs.SharesLaws.{share-cap}
+use Rattle.rulebook.specs.declared.Kind.the-variants.{Quantity}
 use Rattle.rulebook.specs.Calls.{shareWord}
+use Rattle.rulebook.specs.CallsLaws.{in-range-at}
 use Rattle.rules.proofs.share.share_at.Statement.{statement}
 use Rattle.rules.proofs.share.share_at.Tie as tie
 
 quantity-at-requires : tie.Need-quantity-at-requires
-quantity-at-requires c κs = search needs
+quantity-at-requires c κs = (c .pre .1, in-range-at Quantity (c .args .uegq .now) (c .pre .2) (c .args .a) (c .pre .1))
 
 share-of-requires : tie.Need-share-of-requires
 share-of-requires c κs = search needs

@@ -7,8 +7,9 @@ use lib.ListN.{length}
 use Rattle.integer.specs.Below.{fold, sumℕ}
 use Rattle.integer.specs.BelowLaws.{fold-step}
 use Rattle.integer.specs.Words.{word}
+use Rattle.rulebook.specs.declared.Kind.the-variants.{Quantity}
 use Rattle.rulebook.specs.Units.{asQuantity}
-use Rattle.rulebook.specs.CallsLaws.{quantities-le}
+use Rattle.rulebook.specs.CallsLaws.{in-range-at, quantities-le}
 use Rattle.rules.proofs.share.spare_generation.Statement.{statement}
 use Rattle.rules.proofs.share.spare_generation.Tie as tie
 
@@ -23,7 +24,9 @@ unfolding fold
 loop-holds c = search needs
 
 quantity-at-requires : tie.Need-quantity-at-requires Inv-loop μ-loop
-quantity-at-requires c κs = search needs
+quantity-at-requires c κs =
+    let s = c .before .before in
+    (c .loop-test .taken, in-range-at Quantity (s .args .uegq .now) (s .pre .1) (c .before .loop .b) (c .loop-test .taken))
 
 add-total : tie.Need-add-total Inv-loop μ-loop
 add-total c =
