@@ -1,0 +1,57 @@
+-- General laws of sums, counts and tests over the numbers below n that the calendar needs. Assumes nothing.
+use mathlib.Core.Path.{_≡_, refl, sym, ap, _∙_}
+use mathlib.Core.Bool.{Bool, true, false, cond, _&&_, _||_, or-true}
+use mathlib.Core.Logic.{_⊎_, inl, inr, ⊎-elim}
+use Prim.Native.Nat.{ℕ, zero, suc, _+_, _≤_, _<_}
+use native.Mathlib.Nat.{not-suc-le-zero}
+use native.Mathlib.Numerals.{add-one}
+use native.Mathlib.Omega.{arith}
+use Rattle.integer.specs.Below.{fold, sumℕ, any, count}
+use Rattle.integer.specs.BelowLaws.{lt-or-le, fold-suc}
+
+-- ---- Sums
+
+pub sumℕ-suc : (n : ℕ) (f : ℕ → ℕ) → sumℕ (n + 1) f ≡ sumℕ n f + f n
+sumℕ-suc = fold-suc _+_ 0
+
+-- more summands, no less
+pub sumℕ-mono : (m n : ℕ) (f : ℕ → ℕ) → m ≤ n → sumℕ m f ≤ sumℕ n f
+unfolding fold
+sumℕ-mono m zero f l = let e : m ≡ 0 = omega arith in rw e (omega arith)
+sumℕ-mono m (suc n) f l =
+    ⊎-elim (λ h. omega (arith, sumℕ-mono m n f (omega arith))) (λ h. let e : m ≡ suc n = omega arith in rw e (omega arith)) (lt-or-le m (suc n))
+
+-- a number lies in one summand only
+pub sumℕ-place : (f : ℕ → ℕ) (x m n : ℕ) → sumℕ m f ≤ x → x < sumℕ m f + f m → sumℕ n f ≤ x → x < sumℕ n f + f n → m ≡ n
+sumℕ-place f x m n p q r s =
+    ⊎-elim (λ h. absurd (omega (arith, sumℕ-mono (m + 1) n f (omega arith), sumℕ-suc m f)))
+    (λ h. ⊎-elim (λ k. absurd (omega (arith, sumℕ-mono (n + 1) m f (omega arith), sumℕ-suc n f))) (λ k. omega arith) (lt-or-le n m))
+    (lt-or-le m n)
+
+-- ---- Counts
+
+pub count-suc : (n : ℕ) (p : ℕ → Bool) → count (n + 1) p ≡ count n p + cond (p n) 1 0
+count-suc n p = sumℕ-suc n (λ i. cond (p i) 1 0)
+
+pub count-mono : (m n : ℕ) (p : ℕ → Bool) → m ≤ n → count m p ≤ count n p
+count-mono m n p l = sumℕ-mono m n (λ i. cond (p i) 1 0) l
+
+-- ---- Tests
+
+-- the turn at which it passes
+pub any-at : (n : ℕ) (p : ℕ → Bool) (i : ℕ) → i < n → p i ≡ true → any n p ≡ true
+unfolding fold
+any-at zero p i l t = absurd (not-suc-le-zero l)
+any-at (suc n) p i l t =
+    ⊎-elim (λ h. rw (any-at n p i h t)) (λ h. let e : i ≡ n = omega arith in rw (← e, t) (or-true (any i p))) (lt-or-le i n)
+
+pub any-none : (n : ℕ) (p : ℕ → Bool) → ((i : ℕ) → i < n → p i ≡ false) → any n p ≡ false
+unfolding fold
+any-none zero p h = refl
+any-none (suc n) p h = rw (any-none n p (λ i l. h i (omega arith)), h n (omega arith))
+
+-- ---- Both of two tests
+
+pub both-true : (a b : Bool) → (a && b) ≡ true → (a ≡ true) × (b ≡ true)
+both-true true b e = (refl, e)
+both-true false b e = let z : _≡_ {A = ℕ} 0 1 = cc in absurd (omega arith)

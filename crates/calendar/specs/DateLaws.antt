@@ -1,0 +1,274 @@
+-- Laws of dates: the lengths of months and years, what lies before a date, and that day and date name each other. Assumes nothing.
+use mathlib.Core.Path.{_≡_, refl, sym, ap, _∙_}
+use mathlib.Core.Bool.{Bool, true, false, cond, _&&_, _||_}
+use mathlib.Core.Logic.{⊎-elim}
+use Prim.Native.Nat.{ℕ, zero, suc, _+_, _*_, _-_, _/_, _%_, _≤_, _<_}
+use native.Mathlib.Omega.{arith}
+use native.Mathlib.Numerals.{add-one}
+use borrow.Author.Tests.{ltb-true, ltb-false, leb-true, le-leb, eqb-true, eqb-false}
+use lib.Dec.{leb, ltb, eqb}
+use Rattle.integer.specs.Below.{fold, sumℕ, turns}
+use Rattle.integer.specs.BelowLaws.{either, lt-or-le}
+use Rattle.rulebook.specs.Units.{lastDay}
+use Rattle.calendar.specs.CountLaws.{sumℕ-suc, sumℕ-mono, sumℕ-place, both-true}
+use Rattle.calendar.specs.Calendar.{firstYear, lastYear, isLeap, daysInYear, daysInMonth, Date, within, isDate, daysBeforeYear, daysBeforeMonth, dayOf, nextDate, dateOf}
+
+-- ---- Months
+
+month-range : (february leap thirty : Bool) → (28 ≤ cond february (cond leap 29 28) (cond thirty 30 31)) × (cond february (cond leap 29 28) (cond thirty 30 31) ≤ 31)
+month-range true true c = omega arith
+month-range true false c = omega arith
+month-range false b true = omega arith
+month-range false b false = omega arith
+
+pub daysInMonth-range : (year month : ℕ) → (28 ≤ daysInMonth year month) × (daysInMonth year month ≤ 31)
+unfolding daysInMonth
+daysInMonth-range year month = month-range (eqb month 2) (isLeap year) (eqb month 4 || (eqb month 6 || (eqb month 9 || eqb month 11)))
+
+-- the months make up the year
+pub months-of-year : (year : ℕ) → sumℕ 12 (λ k. daysInMonth year (1 + k)) ≡ daysInYear year
+unfolding fold daysInMonth daysInYear
+months-of-year year = ⊎-elim (λ e. rw e) (λ e. rw e) (either (isLeap year))
+
+-- the first of the next month comes a month's days later
+pub daysBeforeMonth-suc : (year month : ℕ) → 1 ≤ month → daysBeforeMonth year (month + 1) ≡ daysBeforeMonth year month + daysInMonth year month
+unfolding daysBeforeMonth
+daysBeforeMonth-suc year month l =
+    let f : ℕ → ℕ = λ k. daysInMonth year (1 + k) in
+    let e : month + 1 - 1 ≡ month - 1 + 1 = omega arith in
+    let g : 1 + (month - 1) ≡ month = omega arith in
+    ap (λ n. sumℕ n f) e ∙ sumℕ-suc (month - 1) f ∙ ap (λ n. sumℕ (month - 1) f + daysInMonth year n) g
+
+-- ---- Years
+
+leap-step : (k : ℕ) (leap : Bool) → eqb ((2000 + k) % 4) 0 ≡ leap → 365 * k + (k + 3) / 4 + cond leap 366 365 ≡ 365 * suc k + (suc k + 3) / 4
+leap-step k true e = omega (arith, eqb-true ((2000 + k) % 4) 0 e)
+leap-step k false e = omega (arith, eqb-false ((2000 + k) % 4) 0 e)
+
+pub daysInYear-range : (year : ℕ) → (365 ≤ daysInYear year) × (daysInYear year ≤ 366)
+unfolding daysInYear
+daysInYear-range year = ⊎-elim (λ e. rw e (omega arith)) (λ e. rw e (omega arith)) (either (isLeap year))
+
+-- every fourth year from 2000 on has one day more
+pub years-closed : (k : ℕ) → sumℕ k (λ j. daysInYear (firstYear + j)) ≡ 365 * k + (k + 3) / 4
+unfolding fold daysInYear isLeap
+years-closed zero = refl
+years-closed (suc k) = rw (years-closed k) (leap-step k (eqb ((2000 + k) % 4) 0) refl)
+
+pub daysBeforeYear-closed : (year : ℕ) → daysBeforeYear year ≡ 365 * (year - 2000) + (year - 2000 + 3) / 4
+unfolding daysBeforeYear
+daysBeforeYear-closed year = years-closed (year - 2000)
+
+pub daysBeforeYear-suc : (year : ℕ) → firstYear ≤ year → daysBeforeYear (year + 1) ≡ daysBeforeYear year + daysInYear year
+unfolding daysBeforeYear
+daysBeforeYear-suc year l =
+    let f : ℕ → ℕ = λ k. daysInYear (firstYear + k) in
+    let e : year + 1 - firstYear ≡ year - firstYear + 1 = omega arith in
+    let g : firstYear + (year - firstYear) ≡ year = omega arith in
+    ap (λ n. sumℕ n f) e ∙ sumℕ-suc (year - firstYear) f ∙ ap (λ n. sumℕ (year - firstYear) f + daysInYear n) g
+
+-- the months before one of the year lie within the year
+pub daysBeforeMonth-within : (year month : ℕ) → 1 ≤ month → month ≤ 12 → daysBeforeMonth year month + daysInMonth year month ≤ daysInYear year
+unfolding daysBeforeMonth
+daysBeforeMonth-within year month l h =
+    let f : ℕ → ℕ = λ k. daysInMonth year (1 + k) in
+    let e : 1 + (month - 1) ≡ month = omega arith in
+    let g : f (month - 1) ≡ daysInMonth year month = ap (daysInMonth year) e in
+    omega (arith, months-of-year year, sumℕ-suc (month - 1) f, sumℕ-mono (month - 1 + 1) 12 f (omega arith), g)
+
+-- December ends the year
+december : (year : ℕ) → daysBeforeMonth year 12 + daysInMonth year 12 ≡ daysInYear year
+unfolding daysBeforeMonth
+december year = sym (sumℕ-suc 11 (λ k. daysInMonth year (1 + k))) ∙ months-of-year year
+
+pub january : (year : ℕ) → daysBeforeMonth year 1 ≡ 0
+unfolding daysBeforeMonth fold
+january year = refl
+
+-- ---- Dates
+
+-- `isDate`, as orders
+pub record IsDate (date : Date) : Type 0 where
+  pub year-from : firstYear ≤ date .year
+  pub year-to : date .year ≤ lastYear
+  pub month-from : 1 ≤ date .month
+  pub month-to : date .month ≤ 12
+  pub day-from : 1 ≤ date .day
+  pub day-to : date .day ≤ daysInMonth (date .year) (date .month)
+
+pub within-true : (low high n : ℕ) → low ≤ n → n ≤ high → within low high n ≡ true
+within-true low high n l h = rw (le-leb low n l, le-leb n high h)
+
+pub true-within : (low high n : ℕ) → within low high n ≡ true → (low ≤ n) × (n ≤ high)
+true-within low high n e = let b = both-true (leb low n) (leb n high) e in (leb-true low n (b .0), leb-true n high (b .1))
+
+pub isDate-of : (date : Date) → IsDate date → isDate date ≡ true
+unfolding isDate
+isDate-of date v =
+    rw (within-true firstYear lastYear (date .year) (v .year-from) (v .year-to), within-true 1 12 (date .month) (v .month-from) (v .month-to))
+    (within-true 1 (daysInMonth (date .year) (date .month)) (date .day) (v .day-from) (v .day-to))
+
+pub of-isDate : (date : Date) → isDate date ≡ true → IsDate date
+unfolding isDate
+of-isDate date e =
+    let a = both-true (within firstYear lastYear (date .year)) _ e in
+    let b = both-true (within 1 12 (date .month)) _ (a .1) in
+    let y = true-within firstYear lastYear (date .year) (a .0) in
+    let m = true-within 1 12 (date .month) (b .0) in
+    let d = true-within 1 (daysInMonth (date .year) (date .month)) (date .day) (b .1) in
+    record { year-from = y .0; year-to = y .1; month-from = m .0; month-to = m .1; day-from = d .0; day-to = d .1 }
+
+-- a date lies in its year and its month
+pub record Placed (date : Date) : Type 0 where
+  pub in-month : daysBeforeMonth (date .year) (date .month) + (date .day - 1) < daysInYear (date .year)
+  pub is : dayOf date ≡ daysBeforeYear (date .year) + (daysBeforeMonth (date .year) (date .month) + (date .day - 1))
+
+pub placed : (date : Date) → IsDate date → Placed date
+unfolding dayOf
+placed date v = record { in-month = omega (arith, daysBeforeMonth-within (date .year) (date .month) (v .month-from) (v .month-to)); is = omega arith }
+
+-- ---- The next date
+
+abbrev newDay : Date → Date
+newDay date = record { year = date .year; month = date .month; day = date .day + 1 }
+
+abbrev newMonth : Date → Date
+newMonth date = record { year = date .year; month = date .month + 1; day = 1 }
+
+abbrev newYear : Date → Date
+newYear date = record { year = date .year + 1; month = 1; day = 1 }
+
+-- which of the three it is
+data Next (date : Date) : Type 0 where
+  day-more : date .day < daysInMonth (date .year) (date .month) → nextDate date ≡ newDay date → Next date
+  month-more : daysInMonth (date .year) (date .month) ≤ date .day → date .month < 12 → nextDate date ≡ newMonth date → Next date
+  year-more : daysInMonth (date .year) (date .month) ≤ date .day → 12 ≤ date .month → nextDate date ≡ newYear date → Next date
+
+next-is : (date : Date) → Next date
+unfolding nextDate
+next-is date = by-day (ltb (date .day) days) refl
+  where
+    days : ℕ
+    days = daysInMonth (date .year) (date .month)
+
+    by-month : days ≤ date .day → ltb (date .day) days ≡ false → (t : Bool) → ltb (date .month) 12 ≡ t → Next date
+    by-month h f true e = month-more h (ltb-true (date .month) 12 e) (rw (f, e))
+    by-month h f false e = year-more h (ltb-false (date .month) 12 e) (rw (f, e))
+
+    by-day : (t : Bool) → ltb (date .day) days ≡ t → Next date
+    by-day true e = day-more (ltb-true (date .day) days e) (rw e)
+    by-day false e = by-month (ltb-false (date .day) days e) e (ltb (date .month) 12) refl
+
+-- the day number grows by one from each date to the next
+dayOf-next : (date : Date) → IsDate date → Next date → dayOf (nextDate date) ≡ dayOf date + 1
+unfolding dayOf
+dayOf-next date v (day-more h e) = ap dayOf e ∙ (omega (arith, v .day-from))
+dayOf-next date v (month-more h l e) = ap dayOf e ∙ omega (arith, v .day-from, v .day-to, daysBeforeMonth-suc (date .year) (date .month) (v .month-from))
+dayOf-next date v (year-more h l e) =
+    let y = date .year in
+    let m : date .month ≡ 12 = omega (arith, v .month-to) in
+    let b : daysBeforeMonth y (date .month) ≡ daysBeforeMonth y 12 = ap (daysBeforeMonth y) m in
+    let n : daysInMonth y (date .month) ≡ daysInMonth y 12 = ap (daysInMonth y) m in
+    ap dayOf e ∙ omega (arith, v .day-from, v .day-to, daysBeforeYear-suc y (v .year-from), december y, january (y + 1))
+
+pub dayOf-nextDate : (date : Date) → isDate date ≡ true → dayOf (nextDate date) ≡ dayOf date + 1
+dayOf-nextDate date e = dayOf-next date (of-isDate date e) (next-is date)
+
+-- and the next is a date but for 31 December 2099
+isDate-next : (date : Date) → IsDate date → dayOf date < lastDay → Next date → IsDate (nextDate date)
+unfolding dayOf
+isDate-next date v below (day-more h e) =
+    rw e (record { year-from = v .year-from; year-to = v .year-to; month-from = v .month-from; month-to = v .month-to; day-from = omega arith; day-to = omega arith })
+isDate-next date v below (month-more h l e) =
+    let r = daysInMonth-range (date .year) (date .month + 1) in
+    rw e (record { year-from = v .year-from; year-to = v .year-to; month-from = omega arith; month-to = omega arith; day-from = omega arith; day-to = omega arith })
+isDate-next date v below (year-more h l e) =
+    let y = date .year in
+    let m : date .month ≡ 12 = omega (arith, v .month-to) in
+    let b : daysBeforeMonth y (date .month) ≡ daysBeforeMonth y 12 = ap (daysBeforeMonth y) m in
+    let n : daysInMonth y (date .month) ≡ daysInMonth y 12 = ap (daysInMonth y) m in
+    let r = daysInMonth-range (y + 1) 1 in
+    let t : y < lastYear = ⊎-elim (λ k. k) (λ k. absurd (omega (arith, v .year-to, v .day-from, december y, daysBeforeYear-closed y, daysInYear-range y))) (lt-or-le y lastYear) in
+    rw e (record { year-from = omega (arith, v .year-from); year-to = omega (arith, t); month-from = omega arith; month-to = omega arith; day-from = omega arith; day-to = omega arith })
+
+-- ---- Day and date name each other
+
+dated : (d : ℕ) → d ≤ lastDay → IsDate (dateOf d) × (dayOf (dateOf d) ≡ d)
+unfolding dateOf turns dayOf daysBeforeYear daysBeforeMonth fold daysInMonth isLeap
+dated zero h = (omega arith, refl)
+dated (suc d) h =
+    let r = dated d (omega arith) in
+    let n = next-is (dateOf d) in
+    let e = dayOf-next (dateOf d) (r .0) n in
+    (isDate-next (dateOf d) (r .0) (omega (arith, r .1)) n, e ∙ omega (arith, r .1))
+
+-- the date of every day is one, and its day number is that day
+pub isDate-dateOf : (d : ℕ) → d ≤ lastDay → isDate (dateOf d) ≡ true
+isDate-dateOf d h = isDate-of (dateOf d) (dated d h .0)
+
+pub dayOf-dateOf : (d : ℕ) → d ≤ lastDay → dayOf (dateOf d) ≡ d
+dayOf-dateOf d h = dated d h .1
+
+-- no date lies past 31 December 2099
+pub dayOf-le : (date : Date) → isDate date ≡ true → dayOf date ≤ lastDay
+dayOf-le date e =
+    let v = of-isDate date e in
+    omega (arith, v .year-to, placed date v, daysBeforeYear-suc (date .year) (v .year-from), daysBeforeYear-closed (date .year + 1))
+
+-- two dates of one day number are one date
+same-year : (s t : Date) → IsDate s → IsDate t → dayOf s ≡ dayOf t → s .year ≡ t .year
+unfolding daysBeforeYear
+same-year s t v w e =
+    omega (arith, sumℕ-place days (dayOf s) (s .year - firstYear) (t .year - firstYear) (from s v) (to s v) (omega (arith, from t w)) (omega (arith, to t w)), v .year-from, w .year-from)
+  where
+    days : ℕ → ℕ
+    days k = daysInYear (firstYear + k)
+
+    from : (date : Date) → IsDate date → sumℕ (date .year - firstYear) days ≤ dayOf date
+    from date u = omega (arith, placed date u)
+
+    to : (date : Date) → IsDate date → dayOf date < sumℕ (date .year - firstYear) days + days (date .year - firstYear)
+    to date u =
+        let g : firstYear + (date .year - firstYear) ≡ date .year = omega (arith, u .year-from) in
+        let h : days (date .year - firstYear) ≡ daysInYear (date .year) = ap daysInYear g in
+        omega (arith, placed date u)
+
+-- within a year, two dates so many days into it have one month
+same-month : (year m n a b : ℕ) → 1 ≤ m → 1 ≤ n → a < daysInMonth year m → b < daysInMonth year n → daysBeforeMonth year m + a ≡ daysBeforeMonth year n + b → m ≡ n
+unfolding daysBeforeMonth
+same-month year m n a b lm ln ha hb e =
+    let u = at m lm in
+    let v = at n ln in
+    omega (arith, sumℕ-place days (sumℕ (m - 1) days + a) (m - 1) (n - 1) (omega arith) (omega arith) (omega arith) (omega arith))
+  where
+    days : ℕ → ℕ
+    days k = daysInMonth year (1 + k)
+
+    at : (k : ℕ) → 1 ≤ k → days (k - 1) ≡ daysInMonth year k
+    at k l = ap (daysInMonth year) (omega arith)
+
+same-date : (s t : Date) → IsDate s → IsDate t → dayOf s ≡ dayOf t → s ≡ t
+same-date s t v w e = λ i. record { year = y i; month = m i; day = d i }
+  where
+    y : s .year ≡ t .year
+    y = same-year s t v w e
+
+    b : daysBeforeYear (s .year) ≡ daysBeforeYear (t .year)
+    b = ap daysBeforeYear y
+
+    k : daysBeforeMonth (s .year) (t .month) ≡ daysBeforeMonth (t .year) (t .month)
+    k = ap (λ x. daysBeforeMonth x (t .month)) y
+
+    n : daysInMonth (s .year) (t .month) ≡ daysInMonth (t .year) (t .month)
+    n = ap (λ x. daysInMonth x (t .month)) y
+
+    m : s .month ≡ t .month
+    m = same-month (s .year) (s .month) (t .month) (s .day - 1) (t .day - 1) (v .month-from) (w .month-from) (omega (arith, v .day-from, v .day-to)) (omega (arith, n, w .day-from, w .day-to)) (omega (arith, b, k, placed s v, placed t w))
+
+    d : s .day ≡ t .day
+    d = let g : daysBeforeMonth (s .year) (s .month) ≡ daysBeforeMonth (s .year) (t .month) = ap (daysBeforeMonth (s .year)) m in omega (arith, b, k, placed s v, placed t w, v .day-from, w .day-from)
+
+pub dateOf-dayOf : (date : Date) → isDate date ≡ true → dateOf (dayOf date) ≡ date
+dateOf-dayOf date e =
+    let r = dated (dayOf date) (dayOf-le date e) in
+    same-date (dateOf (dayOf date)) date (r .0) (of-isDate date e) (r .1)

@@ -1,0 +1,4 @@
+pub mod Calendar
+pub mod CountLaws
+pub mod DateLaws
+pub mod BusinessLaws
