@@ -62,6 +62,10 @@ module _ (test : ℕ → Bool) (n d : ℕ) where
       let v : _≡_ {A = ℕ} (cond (test f) 1 0) 1 = rw t in
       omega (arith, daysAfter-mono test d e (f - 1) (omega arith))
 
+  -- the day on which the count reaches n
+  pub nth-here : (e : ℕ) → d ≤ e → daysAfter test d e < n → daysAfter test d (e + 1) ≡ n → IsNth test n d (e + 1)
+  nth-here e l h q = record { after = omega arith; passes = ⊎-elim (λ t. t) (λ t. let z : _≡_ {A = ℕ} (cond (test (e + 1)) 1 0) 0 = rw t in absurd (omega (arith, daysAfter-suc test d e l))) (either (test (e + 1))); as-many = q }
+
   -- there is one at most
   nth-one : (e f : ℕ) → IsNth test n d e → IsNth test n d f → e ≡ f
   nth-one e f v w =

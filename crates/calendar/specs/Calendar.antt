@@ -49,11 +49,13 @@ pub record Date : Type 0 where
 abbrev pub within : ℕ → ℕ → ℕ → Bool
 within low high n = leb low n && leb n high
 
+-- there is such a month in 2000 to 2099
+unfoldable pub isMonth : ℕ → ℕ → Bool
+isMonth year month = within firstYear lastYear year && within 1 12 month
+
 -- there is such a date in 2000 to 2099
 unfoldable pub isDate : Date → Bool
-isDate date =
-    within firstYear lastYear (date .year)
-    && (within 1 12 (date .month) && within 1 (daysInMonth (date .year) (date .month)) (date .day))
+isDate date = isMonth (date .year) (date .month) && within 1 (daysInMonth (date .year) (date .month)) (date .day)
 
 -- the days of the years before this one
 unfoldable pub daysBeforeYear : ℕ → ℕ
@@ -147,10 +149,6 @@ dueAfter year month =
 -- 003, 2.5.7: the first business day after it
 unfoldable pub residualDue : List ℤ → ℕ → ℕ → Found
 residualDue holidays year month = nthAfter (isBusinessDay holidays) 1 (dayOf (dueAfter year month))
-
--- there is such a month in 2000 to 2099
-unfoldable pub isMonth : ℕ → ℕ → Bool
-isMonth year month = within firstYear lastYear year && within 1 12 month
 
 -- ---- What each call returns: number and figures; refused, every figure is 0
 

@@ -19,7 +19,7 @@ pub sumℕ-mono : (m n : ℕ) (f : ℕ → ℕ) → m ≤ n → sumℕ m f ≤ s
 unfolding fold
 sumℕ-mono m zero f l = let e : m ≡ 0 = omega arith in rw e (omega arith)
 sumℕ-mono m (suc n) f l =
-    ⊎-elim (λ h. omega (arith, sumℕ-mono m n f (omega arith))) (λ h. let e : m ≡ suc n = omega arith in rw e (omega arith)) (lt-or-le m (suc n))
+    ⊎-elim (λ h. omega (arith, sumℕ-mono m n f (omega arith))) (λ (h : suc n ≤ m). let e : m ≡ suc n = omega arith in rw e (omega arith)) (lt-or-le m (suc n))
 
 -- a number lies in one summand only
 pub sumℕ-place : (f : ℕ → ℕ) (x m n : ℕ) → sumℕ m f ≤ x → x < sumℕ m f + f m → sumℕ n f ≤ x → x < sumℕ n f + f n → m ≡ n

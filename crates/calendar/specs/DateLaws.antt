@@ -11,7 +11,7 @@ use Rattle.integer.specs.Below.{fold, sumℕ, turns}
 use Rattle.integer.specs.BelowLaws.{either, lt-or-le}
 use Rattle.rulebook.specs.Units.{lastDay}
 use Rattle.calendar.specs.CountLaws.{sumℕ-suc, sumℕ-mono, sumℕ-place, both-true}
-use Rattle.calendar.specs.Calendar.{firstYear, lastYear, isLeap, daysInYear, daysInMonth, Date, within, isDate, daysBeforeYear, daysBeforeMonth, dayOf, nextDate, dateOf}
+use Rattle.calendar.specs.Calendar.{firstYear, lastYear, isLeap, daysInYear, daysInMonth, Date, within, isMonth, isDate, daysBeforeYear, daysBeforeMonth, dayOf, nextDate, dateOf}
 
 -- ---- Months
 
@@ -77,7 +77,7 @@ daysBeforeMonth-within year month l h =
     omega (arith, months-of-year year, sumℕ-suc (month - 1) f, sumℕ-mono (month - 1 + 1) 12 f (omega arith), g)
 
 -- December ends the year
-december : (year : ℕ) → daysBeforeMonth year 12 + daysInMonth year 12 ≡ daysInYear year
+pub december : (year : ℕ) → daysBeforeMonth year 12 + daysInMonth year 12 ≡ daysInYear year
 unfolding daysBeforeMonth
 december year = sym (sumℕ-suc 11 (λ k. daysInMonth year (1 + k))) ∙ months-of-year year
 
@@ -102,8 +102,23 @@ within-true low high n l h = rw (le-leb low n l, le-leb n high h)
 pub true-within : (low high n : ℕ) → within low high n ≡ true → (low ≤ n) × (n ≤ high)
 true-within low high n e = let b = both-true (leb low n) (leb n high) e in (leb-true low n (b .0), leb-true n high (b .1))
 
+-- `isMonth`, as orders
+pub record IsMonth (year month : ℕ) : Type 0 where
+  pub year-from : firstYear ≤ year
+  pub year-to : year ≤ lastYear
+  pub month-from : 1 ≤ month
+  pub month-to : month ≤ 12
+
+pub of-isMonth : (year month : ℕ) → isMonth year month ≡ true → IsMonth year month
+unfolding isMonth
+of-isMonth year month e =
+    let a = both-true (within firstYear lastYear year) (within 1 12 month) e in
+    let y = true-within firstYear lastYear year (a .0) in
+    let m = true-within 1 12 month (a .1) in
+    record { year-from = y .0; year-to = y .1; month-from = m .0; month-to = m .1 }
+
 pub isDate-of : (date : Date) → IsDate date → isDate date ≡ true
-unfolding isDate
+unfolding isDate isMonth
 isDate-of date v =
     rw (within-true firstYear lastYear (date .year) (v .year-from) (v .year-to), within-true 1 12 (date .month) (v .month-from) (v .month-to))
     (within-true 1 (daysInMonth (date .year) (date .month)) (date .day) (v .day-from) (v .day-to))
@@ -111,12 +126,10 @@ isDate-of date v =
 pub of-isDate : (date : Date) → isDate date ≡ true → IsDate date
 unfolding isDate
 of-isDate date e =
-    let a = both-true (within firstYear lastYear (date .year)) _ e in
-    let b = both-true (within 1 12 (date .month)) _ (a .1) in
-    let y = true-within firstYear lastYear (date .year) (a .0) in
-    let m = true-within 1 12 (date .month) (b .0) in
-    let d = true-within 1 (daysInMonth (date .year) (date .month)) (date .day) (b .1) in
-    record { year-from = y .0; year-to = y .1; month-from = m .0; month-to = m .1; day-from = d .0; day-to = d .1 }
+    let a = both-true (isMonth (date .year) (date .month)) _ e in
+    let m = of-isMonth (date .year) (date .month) (a .0) in
+    let d = true-within 1 (daysInMonth (date .year) (date .month)) (date .day) (a .1) in
+    record { year-from = m .year-from; year-to = m .year-to; month-from = m .month-from; month-to = m .month-to; day-from = d .0; day-to = d .1 }
 
 -- a date lies in its year and its month
 pub record Placed (date : Date) : Type 0 where
@@ -126,6 +139,13 @@ pub record Placed (date : Date) : Type 0 where
 pub placed : (date : Date) → IsDate date → Placed date
 unfolding dayOf
 placed date v = record { in-month = omega (arith, daysBeforeMonth-within (date .year) (date .month) (v .month-from) (v .month-to)); is = omega arith }
+
+-- the year in which a day lies
+pub record InYear (d year : ℕ) : Type 0 where
+  pub year-from : firstYear ≤ year
+  pub year-to : year ≤ lastYear
+  pub day-from : daysBeforeYear year ≤ d
+  pub day-to : d < daysBeforeYear year + daysInYear year
 
 -- ---- The next date
 
@@ -272,3 +292,12 @@ pub dateOf-dayOf : (date : Date) → isDate date ≡ true → dateOf (dayOf date
 dateOf-dayOf date e =
     let r = dated (dayOf date) (dayOf-le date e) in
     same-date (dateOf (dayOf date)) date (r .0) (of-isDate date e) (r .1)
+
+-- the date so many days into a year, by the month that holds it
+pub dateOf-in-year : (year month days : ℕ) → firstYear ≤ year → year ≤ lastYear → 1 ≤ month → month ≤ 12 → daysBeforeMonth year month ≤ days → days < daysBeforeMonth year month + daysInMonth year month → dateOf (daysBeforeYear year + days) ≡ record { year = year; month = month; day = days - daysBeforeMonth year month + 1 }
+unfolding dayOf
+dateOf-in-year year month days a b c d e f =
+    let date : Date = record { year = year; month = month; day = days - daysBeforeMonth year month + 1 } in
+    let v : IsDate date = record { year-from = a; year-to = b; month-from = c; month-to = d; day-from = omega arith; day-to = omega arith } in
+    let g : daysBeforeYear year + days ≡ dayOf date = omega arith in
+    ap dateOf g ∙ dateOf-dayOf date (isDate-of date v)
