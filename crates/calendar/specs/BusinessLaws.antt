@@ -1,13 +1,13 @@
 -- Laws of business days: the n-th after a day is found, and there is one at most; where a holiday list has a day. Assumes nothing.
-use mathlib.Core.Path.{_≡_, refl, sym, ap, _∙_}
-use mathlib.Core.Bool.{Bool, true, false, cond, not, _&&_, _||_}
+use mathlib.Core.Path.{_≡_, refl, ap, _∙_}
+use mathlib.Core.Bool.{Bool, true, false, cond}
 use mathlib.Core.Logic.{⊎-elim}
 use Prim.Native.Nat.{ℕ, _+_, _-_, _≤_, _<_}
 use native.Mathlib.Omega.{arith}
 use borrow.Author.Tests.{ltb-true, lt-ltb, eqb-true, eq-eqb}
-use lib.Dec.{ltb, eqb}
-use Rattle.integer.specs.Below.{fold, count, first}
-use Rattle.integer.specs.BelowLaws.{either, lt-or-le, fold-zero, first-stops, first-nothing, nothing-first, first-at}
+use lib.Dec.{ltb}
+use Rattle.integer.specs.Below.{fold, count}
+use Rattle.integer.specs.BelowLaws.{either, lt-or-le, first-stops, first-nothing, nothing-first, first-at}
 use Rattle.integer.specs.declared.Found.{Found}
 use Rattle.integer.specs.declared.Found.the-variants.{At, Nothing}
 use Rattle.rulebook.specs.Units.{lastDay}

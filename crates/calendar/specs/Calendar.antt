@@ -1,5 +1,5 @@
 -- Document 01, "Calendar (003)": dates, weekdays, business days, statement and due days, and what each call returns. Assumes nothing.
-use mathlib.Core.Bool.{Bool, true, false, cond, not, _&&_, _||_}
+use mathlib.Core.Bool.{Bool, false, cond, not, _&&_, _||_}
 use mathlib.Core.List.{List}
 use Prim.Native.Nat.{ℕ, _+_, _-_, _%_}
 use lib.Dec.{leb, ltb, eqb}

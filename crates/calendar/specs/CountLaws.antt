@@ -1,13 +1,12 @@
 -- General laws of sums, counts and tests over the numbers below n that the calendar needs. Assumes nothing.
-use mathlib.Core.Path.{_≡_, refl, sym, ap, _∙_}
+use mathlib.Core.Path.{_≡_, refl}
 use mathlib.Core.Bool.{Bool, true, false, cond, _&&_, _||_, or-true}
-use mathlib.Core.Logic.{_⊎_, inl, inr, ⊎-elim}
+use mathlib.Core.Logic.{⊎-elim}
 use Prim.Native.Nat.{ℕ, zero, suc, _+_, _≤_, _<_}
 use native.Mathlib.Nat.{not-suc-le-zero}
-use native.Mathlib.Numerals.{add-one}
 use native.Mathlib.Omega.{arith}
 use Rattle.integer.specs.Below.{fold, sumℕ, any, count}
-use Rattle.integer.specs.BelowLaws.{lt-or-le, fold-suc}
+use Rattle.integer.specs.BelowLaws.{either, lt-or-le, fold-suc}
 
 -- ---- Sums
 
@@ -38,6 +37,10 @@ count-mono m n p l = sumℕ-mono m n (λ i. cond (p i) 1 0) l
 
 -- ---- Tests
 
+or-right : (a b : Bool) → a ≡ false → (a || b) ≡ true → b ≡ true
+or-right true b f e = absurd (let z : _≡_ {A = ℕ} 0 1 = cc in omega arith)
+or-right false b f e = e
+
 -- the turn at which it passes
 pub any-at : (n : ℕ) (p : ℕ → Bool) (i : ℕ) → i < n → p i ≡ true → any n p ≡ true
 unfolding fold
@@ -49,6 +52,12 @@ pub any-none : (n : ℕ) (p : ℕ → Bool) → ((i : ℕ) → i < n → p i ≡
 unfolding fold
 any-none zero p h = refl
 any-none (suc n) p h = rw (any-none n p (λ i l. h i (omega arith)), h n (omega arith))
+
+-- what passed somewhere passed at some turn
+pub any-some : (n : ℕ) (p : ℕ → Bool) → any n p ≡ true → (i : ℕ) × (i < n) × (p i ≡ true)
+unfolding fold
+any-some zero p e = absurd (let z : _≡_ {A = ℕ} 0 1 = cc in omega arith)
+any-some (suc n) p e = ⊎-elim (λ t. let r = any-some n p t in (r .0, omega (arith, r .1), r .2)) (λ t. (n, omega arith, or-right (any n p) (p n) t e)) (either (any n p))
 
 -- ---- Both of two tests
 

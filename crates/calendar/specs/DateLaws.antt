@@ -1,17 +1,18 @@
 -- Laws of dates: the lengths of months and years, what lies before a date, and that day and date name each other. Assumes nothing.
 use mathlib.Core.Path.{_≡_, refl, sym, ap, _∙_}
-use mathlib.Core.Bool.{Bool, true, false, cond, _&&_, _||_}
+use mathlib.Core.Bool.{Bool, true, false, cond, _||_}
 use mathlib.Core.Logic.{⊎-elim}
 use Prim.Native.Nat.{ℕ, zero, suc, _+_, _*_, _-_, _/_, _%_, _≤_, _<_}
 use native.Mathlib.Omega.{arith}
-use native.Mathlib.Numerals.{add-one}
 use borrow.Author.Tests.{ltb-true, ltb-false, leb-true, le-leb, eqb-true, eqb-false}
-use lib.Dec.{leb, ltb, eqb}
+use lib.Dec.{leb, ltb, eqb, leb·zero}
+use lib.IntN.{ℤ, pos, negsuc}
+use Rattle.integer.specs.Integer.{positive}
 use Rattle.integer.specs.Below.{fold, sumℕ, turns}
 use Rattle.integer.specs.BelowLaws.{either, lt-or-le}
 use Rattle.rulebook.specs.Units.{lastDay}
 use Rattle.calendar.specs.CountLaws.{sumℕ-suc, sumℕ-mono, sumℕ-place, both-true}
-use Rattle.calendar.specs.Calendar.{firstYear, lastYear, isLeap, daysInYear, daysInMonth, Date, within, isMonth, isDate, daysBeforeYear, daysBeforeMonth, dayOf, nextDate, dateOf}
+use Rattle.calendar.specs.Calendar.{firstYear, lastYear, isLeap, daysInYear, daysInMonth, Date, within, isMonth, isDate, daysBeforeYear, daysBeforeMonth, dayOf, nextDate, dateOf, isDay}
 
 -- ---- Months
 
@@ -301,3 +302,19 @@ dateOf-in-year year month days a b c d e f =
     let v : IsDate date = record { year-from = a; year-to = b; month-from = c; month-to = d; day-from = omega arith; day-to = omega arith } in
     let g : daysBeforeYear year + days ≡ dayOf date = omega arith in
     ap dateOf g ∙ dateOf-dayOf date (isDate-of date v)
+
+-- ---- The number given for a day
+
+-- a day is a number from 0 to 36,524
+pub record IsDay (z : ℤ) : Type 0 where
+  pub unsigned : z ≡ pos (positive z)
+  pub to : positive z ≤ lastDay
+
+pub of-isDay : (z : ℤ) → isDay z ≡ true → IsDay z
+unfolding isDay
+of-isDay (pos n) e = record { unsigned = refl; to = leb-true n lastDay (both-true (leb 0 n) (leb n lastDay) e .1) }
+of-isDay (negsuc n) e = absurd (let z : _≡_ {A = ℕ} 0 1 = cc in omega arith)
+
+pub isDay-of : (n : ℕ) → n ≤ lastDay → isDay (pos n) ≡ true
+unfolding isDay
+isDay-of n h = rw (leb·zero n) (le-leb n lastDay h)

@@ -1,34 +1,23 @@
 -- Laws of holiday lists: a proper list ascends, so one index parts the entries before a day from those from it on. Assumes nothing.
-use mathlib.Core.Path.{_≡_, refl, sym, ap, _∙_}
-use mathlib.Core.Bool.{Bool, true, false, cond, not, _&&_, _||_}
+use mathlib.Core.Path.{_≡_, sym, ap, _∙_}
+use mathlib.Core.Bool.{true, false}
 use mathlib.Core.List.{List}
 use mathlib.Core.Logic.{⊎-elim}
 use Prim.Native.Nat.{ℕ, zero, suc, _+_, _-_, _≤_, _<_}
 use native.Mathlib.Nat.{not-suc-le-zero}
 use native.Mathlib.Numerals.{add-one}
 use native.Mathlib.Omega.{arith}
-use borrow.Author.Tests.{ltb-true, leb-true, ne-eqb, eq-eqb, eqb-true, eqb-false}
-use lib.Dec.{leb, ltb, eqb}
-use lib.IntN.{ℤ, pos, negsuc}
+use borrow.Author.Tests.{ltb-true, ne-eqb, eq-eqb, eqb-true, eqb-false}
+use lib.Dec.{eqb}
+use lib.IntN.{ℤ, pos}
 use lib.ListN.{length}
 use lib.Signed.{ltZ}
 use Rattle.integer.specs.Integer.{positive}
 use Rattle.integer.specs.Words.{word}
-use Rattle.integer.specs.Below.{any}
 use Rattle.integer.specs.BelowLaws.{either, lt-or-le, all-at}
-use Rattle.rulebook.specs.Units.{lastDay}
 use Rattle.calendar.specs.CountLaws.{both-true, any-at, any-none}
+use Rattle.calendar.specs.DateLaws.{IsDay, of-isDay}
 use Rattle.calendar.specs.Calendar.{isDay, inPlace, isProper, isEntry, isListed}
-
--- a day is a number from 0 to 36,524
-pub record IsDay (z : ℤ) : Type 0 where
-  pub unsigned : z ≡ pos (positive z)
-  pub to : positive z ≤ lastDay
-
-pub of-isDay : (z : ℤ) → isDay z ≡ true → IsDay z
-unfolding isDay
-of-isDay (pos n) e = record { unsigned = refl; to = leb-true n lastDay (both-true (leb 0 n) (leb n lastDay) e .1) }
-of-isDay (negsuc n) e = absurd (let z : _≡_ {A = ℕ} 0 1 = cc in omega arith)
 
 -- an entry, as a number of days
 abbrev pub entryAt : List ℤ → ℕ → ℕ

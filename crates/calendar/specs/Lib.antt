@@ -1,5 +1,7 @@
 pub mod Calendar
 pub mod CountLaws
 pub mod DateLaws
-pub mod BusinessLaws
 pub mod HolidayLaws
+pub mod BusinessLaws
+pub mod CalendarLaws
+pub mod CalendarExamples

@@ -1,6 +1,5 @@
 -- `date_of` meets its contract: the year holds the day, and the rest of the days is the date in it.
 use mathlib.Core.Path.{_≡_, sym, ap, _∙_}
-use mathlib.Core.Bool.{true}
 use Prim.Native.Nat.{_+_, _-_}
 use borrow.Author.Needs.{needs}
 use native.Mathlib.Omega.{arith}
@@ -9,7 +8,7 @@ use mir.Syntax.{w64}
 use mir.ValLaws.{toZ-ofZ}
 use Rattle.integer.specs.Integer.{positive}
 use Rattle.calendar.specs.Calendar.{isDay, daysBeforeYear, dateOf, dateAccepted, dateTold}
-use Rattle.calendar.specs.HolidayLaws.{of-isDay}
+use Rattle.calendar.specs.DateLaws.{of-isDay}
 use Rattle.calendar.proofs.date_of.Statement.{statement}
 use Rattle.calendar.proofs.date_of.Tie as tie
 

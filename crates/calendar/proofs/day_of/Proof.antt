@@ -1,13 +1,12 @@
 -- `day_of` meets its contract: the numbers given are judged as a date, and then numbered.
 use mathlib.Core.Path.{_≡_, sym, ap, _∙_}
-use mathlib.Core.Bool.{true, false}
 use borrow.Author.Needs.{needs}
 use native.Mathlib.Omega.{arith}
 use borrow.Author.Tests.{not-true, not-false}
 use mir.Syntax.{w64}
 use mir.ValLaws.{toZ-ofZ}
 use Rattle.integer.specs.Integer.{positive}
-use Rattle.calendar.specs.Calendar.{Date, isDate, dayOf, dayAccepted, dateGiven, dayTold}
+use Rattle.calendar.specs.Calendar.{Date, dayAccepted, dateGiven, dayTold}
 use Rattle.calendar.specs.DateLaws.{of-isDate, daysInMonth-range}
 use Rattle.calendar.proofs.day_of.Statement.{statement}
 use Rattle.calendar.proofs.day_of.Tie as tie

@@ -9,7 +9,7 @@ use mir.Syntax.{w64}
 use mir.ValLaws.{toZ-ofZ}
 use Rattle.integer.specs.Integer.{positive}
 use Rattle.calendar.specs.Calendar.{isDay, isProper, isBusinessDay, nthAfter, statementDay, finalStatement, upToLastDay, finalStatementTold}
-use Rattle.calendar.specs.HolidayLaws.{of-isDay}
+use Rattle.calendar.specs.DateLaws.{of-isDay}
 use Rattle.calendar.proofs.final_statement.Statement.{statement}
 use Rattle.calendar.proofs.final_statement.Tie as tie
 

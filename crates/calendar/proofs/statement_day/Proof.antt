@@ -9,7 +9,7 @@ use mir.ValLaws.{toZ-ofZ}
 use Rattle.integer.specs.Integer.{positive}
 use Rattle.rulebook.specs.Units.{lastDay}
 use Rattle.calendar.specs.Calendar.{isDay, statementDay, dayAccepted, statementTold}
-use Rattle.calendar.specs.HolidayLaws.{of-isDay}
+use Rattle.calendar.specs.DateLaws.{of-isDay}
 use Rattle.calendar.proofs.statement_day.Statement.{statement}
 use Rattle.calendar.proofs.statement_day.Tie as tie
 

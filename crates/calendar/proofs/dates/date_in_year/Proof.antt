@@ -1,5 +1,5 @@
 -- `date_in_year` meets its contract. The invariant: the days before the month are no more than the days to go. The loop is left in the month that holds them, December at the latest.
-use mathlib.Core.Path.{_≡_, sym, ap, _∙_}
+use mathlib.Core.Path.{_≡_, sym, ap}
 use mathlib.Core.Logic.{⊎-elim}
 use Prim.Native.Nat.{_+_, _-_, _≤_, _<_}
 use borrow.Author.Needs.{needs}

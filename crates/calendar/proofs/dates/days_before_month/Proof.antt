@@ -1,9 +1,9 @@
 -- `days_before_month` meets its contract. The invariant: the days are those before month m, hence within a year. The measure is the months left.
 use mathlib.Core.Path.{_≡_, sym, ap, _∙_}
-use Prim.Native.Nat.{_+_, _-_, _≤_}
+use Prim.Native.Nat.{_-_, _≤_}
 use borrow.Author.Needs.{needs}
 use native.Mathlib.Omega.{arith}
-use Rattle.calendar.specs.Calendar.{daysBeforeMonth, daysInMonth}
+use Rattle.calendar.specs.Calendar.{daysBeforeMonth}
 use Rattle.calendar.specs.DateLaws.{january, daysInYear-range, daysBeforeMonth-within, daysBeforeMonth-suc}
 use Rattle.calendar.proofs.dates.days_before_month.Statement.{statement}
 use Rattle.calendar.proofs.dates.days_before_month.Tie as tie

@@ -1,9 +1,8 @@
 -- `due_after` meets its contract: the branch is that of `dueAfter`, and both dates can be numbered.
-use mathlib.Core.Path.{ap, sym, _∙_}
 use borrow.Author.Needs.{needs}
 use native.Mathlib.Omega.{arith}
 use borrow.Author.Tests.{lt-ltb, le-ltb}
-use Rattle.calendar.specs.Calendar.{dayOf, dueAfter}
+use Rattle.calendar.specs.Calendar.{dueAfter}
 use Rattle.calendar.specs.DateLaws.{of-isMonth}
 use Rattle.calendar.proofs.dates.due_after.Statement.{statement}
 use Rattle.calendar.proofs.dates.due_after.Tie as tie

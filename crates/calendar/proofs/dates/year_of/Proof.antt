@@ -1,9 +1,8 @@
 -- `year_of` meets its contract: the days before the year and before the next, closed, and arithmetic on 1,461 days.
-use Prim.Native.Nat.{ℕ, _+_, _*_, _-_, _/_, _%_, _≤_}
+use Prim.Native.Nat.{ℕ, _+_, _*_, _-_, _/_, _%_}
 use borrow.Author.Needs.{needs}
 use native.Mathlib.Omega.{arith}
-use Rattle.rulebook.specs.Units.{lastDay}
-use Rattle.calendar.specs.DateLaws.{InYear, daysBeforeYear-closed, daysBeforeYear-suc}
+use Rattle.calendar.specs.DateLaws.{daysBeforeYear-closed, daysBeforeYear-suc}
 use Rattle.calendar.proofs.dates.year_of.Statement.{statement}
 use Rattle.calendar.proofs.dates.year_of.Tie as tie
 

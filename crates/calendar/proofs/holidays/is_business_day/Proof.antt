@@ -1,5 +1,5 @@
 -- `is_business_day` meets its contract: a remainder by 7 is at most Friday, so the one test is Monday to Friday.
-use mathlib.Core.Path.{sym, ap}
+use mathlib.Core.Path.{ap}
 use mathlib.Core.Bool.{not}
 use Prim.Native.Nat.{_%_}
 use borrow.Author.Needs.{needs}

@@ -1,10 +1,8 @@
 -- `is_in_place` meets its contract: the tests are those of `inPlace`, on the elements that were read.
 use mathlib.Core.Path.{_≡_, sym, ap, ap₂, _∙_}
-use mathlib.Core.Bool.{true, false}
 use Prim.Native.Nat.{_-_}
 use borrow.Author.Needs.{needs}
 use borrow.Author.Tests.{not-true, not-false, ne-eqb}
-use lib.Dec.{eqb}
 use lib.Signed.{ltZ}
 use Rattle.integer.specs.Words.{word}
 use Rattle.integer.specs.Bits.{got}

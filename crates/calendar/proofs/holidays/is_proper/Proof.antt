@@ -1,5 +1,5 @@
 -- `is_proper` meets its contract. The invariant: every entry below i is in place. The measure is what is left of the list.
-use mathlib.Core.Path.{_≡_, sym, ap, _∙_}
+use mathlib.Core.Path.{_≡_, sym, _∙_}
 use mathlib.Core.Bool.{true}
 use Prim.Native.Nat.{_-_, _≤_}
 use borrow.Author.Needs.{needs}

@@ -1,5 +1,5 @@
 -- `nth_business_day` meets its contract. The invariant: of the days after d up to this one, fewer than n passed, and so many. The measure is the days left.
-use mathlib.Core.Path.{_≡_, sym, ap, _∙_}
+use mathlib.Core.Path.{_≡_, sym, _∙_}
 use Prim.Native.Nat.{_+_, _-_, _≤_, _<_}
 use borrow.Author.Needs.{needs}
 use native.Mathlib.Omega.{arith}
