@@ -244,14 +244,15 @@ businessTold day holidays =
     (checked (isProper holidays) (businessRefused badHolidays)
     (businessAccepted (isBusinessDay holidays (positive day))))
 
-unfoldable pub finalStatementTold : ℤ → List ℤ → DayReturned
-finalStatementTold day holidays =
-    checked (isDay day) (dayRefused noSuchDate)
+-- a business day that is searched for in a list
+unfoldable pub searchTold : Bool → List ℤ → Found → DayReturned
+searchTold given holidays found =
+    checked given (dayRefused noSuchDate)
     (checked (isProper holidays) (dayRefused badHolidays)
-    (upToLastDay (finalStatement holidays (positive day))))
+    (upToLastDay found))
+
+unfoldable pub finalStatementTold : ℤ → List ℤ → DayReturned
+finalStatementTold day holidays = searchTold (isDay day) holidays (finalStatement holidays (positive day))
 
 unfoldable pub residualDueTold : ℤ → ℤ → List ℤ → DayReturned
-residualDueTold year month holidays =
-    checked (isMonth (positive year) (positive month)) (dayRefused noSuchDate)
-    (checked (isProper holidays) (dayRefused badHolidays)
-    (upToLastDay (residualDue holidays (positive year) (positive month))))
+residualDueTold year month holidays = searchTold (isMonth (positive year) (positive month)) holidays (residualDue holidays (positive year) (positive month))

@@ -7,7 +7,7 @@ use lib.Dec.{lit≤, lit<}
 use lib.IntN.{pos, negsuc}
 use Rattle.integer.specs.Below.{fold, tabulate}
 use Rattle.calendar.specs.CalendarLaws.{date-day-date, finalStatement-of, finalStatement-past, residualDue-of, residualDue-past}
-use Rattle.calendar.specs.Calendar.{isLeap, daysInYear, daysInMonth, isMonth, isDate, daysBeforeYear, daysBeforeMonth, dayOf, isDay, weekdayOf, inPlace, isProper, isListed, isBusinessDay, daysAfter, isNthAfter, statementDay, dueAfter, DayReturned, WeekdayReturned, BusinessReturned, dateTold, dayTold, weekdayTold, statementTold, businessTold, finalStatementTold, residualDueTold}
+use Rattle.calendar.specs.Calendar.{isLeap, daysInYear, daysInMonth, isMonth, isDate, daysBeforeYear, daysBeforeMonth, dayOf, isDay, weekdayOf, inPlace, isProper, isListed, isBusinessDay, daysAfter, isNthAfter, statementDay, dueAfter, DayReturned, WeekdayReturned, BusinessReturned, dateTold, dayTold, weekdayTold, statementTold, businessTold, searchTold, finalStatementTold, residualDueTold}
 
 -- number and figure
 abbrev day : ℕ → ℕ → DayReturned
@@ -106,7 +106,7 @@ bad-lists = refl
 
 -- 13 comes before 14
 list-before-past : finalStatementTold (pos 36524) (pos 5 ∷ pos 5 ∷ []) ≡ day 13 0
-unfolding finalStatementTold isDay isProper inPlace fold
+unfolding finalStatementTold searchTold isDay isProper inPlace fold
 list-before-past = refl
 
 -- 1 January 2026, a Thursday, not listed and listed; then a Friday, a Saturday, a Sunday and a Monday
@@ -180,5 +180,5 @@ unfolding isMonth isProper daysAfter dueAfter dayOf daysBeforeYear daysBeforeMon
 no-due = residualDue-past (pos 2099) (pos 11) [] refl refl (lit< tt)
 
 no-due-month : residualDueTold (pos 2026) (pos 0) [] ≡ day 12 0
-unfolding residualDueTold isMonth
+unfolding residualDueTold searchTold isMonth
 no-due-month = refl

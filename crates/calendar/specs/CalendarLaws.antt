@@ -21,7 +21,7 @@ use Rattle.calendar.specs.CountLaws.{any-at, any-some}
 use Rattle.calendar.specs.DateLaws.{dayOf-dateOf, dateOf-dayOf, isDate-dateOf, dayOf-le, of-isDay, isDay-of, of-isMonth}
 use Rattle.calendar.specs.HolidayLaws.{entryAt, entry-is-day, entries-ascend}
 use Rattle.calendar.specs.BusinessLaws.{of-isNth, nth-found, nth-none, nth-is, nth-nothing}
-use Rattle.calendar.specs.Calendar.{isDay, isDate, isMonth, dayOf, dateGiven, weekdayOf, inPlace, isProper, isEntry, isListed, isBusinessDay, daysAfter, isNthAfter, nthAfter, statementDay, finalStatement, dueAfter, residualDue, DayReturned, dateAccepted, dayAccepted, dayRefused, checked, upToLastDay, dateTold, dayTold, finalStatementTold, residualDueTold}
+use Rattle.calendar.specs.Calendar.{isDay, isDate, isMonth, dayOf, dateGiven, weekdayOf, inPlace, isProper, isEntry, isListed, isBusinessDay, daysAfter, isNthAfter, nthAfter, statementDay, finalStatement, dueAfter, residualDue, dateAccepted, dayAccepted, dayRefused, checked, upToLastDay, searchTold, dateTold, dayTold, finalStatementTold, residualDueTold}
 
 -- ---- Day to date and back
 
@@ -94,58 +94,58 @@ entry-listed holidays d i l e = any-at (length holidays) (λ k. isEntry (word ho
 
 -- ---- The day that is found
 
--- a call that judges 12, then 13, then searches
-searched : Bool → Bool → Found → DayReturned
-searched met proper found = checked met (dayRefused noSuchDate) (checked proper (dayRefused badHolidays) (upToLastDay found))
-
-searched-at : (met proper : Bool) (f : Found) (e : ℕ) → searched met proper f ≡ dayAccepted e → f ≡ At e
-unfolding searched
+searched-at : (given proper : Bool) (f : Found) (e : ℕ) → checked given (dayRefused noSuchDate) (checked proper (dayRefused badHolidays) (upToLastDay f)) ≡ dayAccepted e → f ≡ At e
 searched-at true true (At x) e q = ap At (ap (λ r. r .day) q)
 searched-at true true Nothing e q = absurd (let z : _≡_ {A = ℕ} pastLastDay accepted = ap (λ r. r .number) q in omega arith)
 searched-at true false f e q = absurd (let z : _≡_ {A = ℕ} badHolidays accepted = ap (λ r. r .number) q in omega arith)
 searched-at false b f e q = absurd (let z : _≡_ {A = ℕ} noSuchDate accepted = ap (λ r. r .number) q in omega arith)
 
-searched-nothing : (met proper : Bool) (f : Found) → searched met proper f ≡ dayRefused pastLastDay → f ≡ Nothing
-unfolding searched
+searched-nothing : (given proper : Bool) (f : Found) → checked given (dayRefused noSuchDate) (checked proper (dayRefused badHolidays) (upToLastDay f)) ≡ dayRefused pastLastDay → f ≡ Nothing
 searched-nothing true true (At x) q = absurd (let z : _≡_ {A = ℕ} accepted pastLastDay = ap (λ r. r .number) q in omega arith)
 searched-nothing true true Nothing q = refl
 searched-nothing true false f q = absurd (let z : _≡_ {A = ℕ} badHolidays pastLastDay = ap (λ r. r .number) q in omega arith)
 searched-nothing false b f q = absurd (let z : _≡_ {A = ℕ} noSuchDate pastLastDay = ap (λ r. r .number) q in omega arith)
 
-module _ (met proper : Bool) (test : ℕ → Bool) (n d : ℕ) where
-  told-is : (e : ℕ) → searched met proper (nthAfter test n d) ≡ dayAccepted e → (isNthAfter test n d e ≡ true) × (e ≤ lastDay)
-  told-is e q = nth-is test n d e (searched-at met proper (nthAfter test n d) e q)
+module _ (given : Bool) (holidays : List ℤ) (test : ℕ → Bool) (n d : ℕ) where
+  -- the day that is told is the n-th
+  told-is : (e : ℕ) → searchTold given holidays (nthAfter test n d) ≡ dayAccepted e → (isNthAfter test n d e ≡ true) × (e ≤ lastDay)
+  unfolding searchTold
+  told-is e q = nth-is test n d e (searched-at given (isProper holidays) (nthAfter test n d) e q)
 
-  told-none : searched met proper (nthAfter test n d) ≡ dayRefused pastLastDay → (e : ℕ) → e ≤ lastDay → isNthAfter test n d e ≡ false
-  told-none q = nth-nothing test n d (searched-nothing met proper (nthAfter test n d) q)
+  -- where 14 is told there is none up to 31 December 2099
+  told-none : searchTold given holidays (nthAfter test n d) ≡ dayRefused pastLastDay → (e : ℕ) → e ≤ lastDay → isNthAfter test n d e ≡ false
+  unfolding searchTold
+  told-none q = nth-nothing test n d (searched-nothing given (isProper holidays) (nthAfter test n d) q)
 
-  told-of : met ≡ true → proper ≡ true → (e : ℕ) → isNthAfter test n d e ≡ true → e ≤ lastDay → searched met proper (nthAfter test n d) ≡ dayAccepted e
-  unfolding searched
+  -- where there is one it is told
+  told-of : given ≡ true → isProper holidays ≡ true → (e : ℕ) → isNthAfter test n d e ≡ true → e ≤ lastDay → searchTold given holidays (nthAfter test n d) ≡ dayAccepted e
+  unfolding searchTold
   told-of a b e t h = rw (a, b) (ap upToLastDay (nth-found test n d e (of-isNth test n d e t) h))
 
-  told-past : met ≡ true → proper ≡ true → daysAfter test d lastDay < n → searched met proper (nthAfter test n d) ≡ dayRefused pastLastDay
-  unfolding searched
+  -- where too few are left 14 is told
+  told-past : given ≡ true → isProper holidays ≡ true → daysAfter test d lastDay < n → searchTold given holidays (nthAfter test n d) ≡ dayRefused pastLastDay
+  unfolding searchTold
   told-past a b h = rw (a, b) (ap upToLastDay (nth-none test n d h))
 
 module _ (day : ℤ) (holidays : List ℤ) where
   -- the final statement that is told is the tenth business day after the statement day
   pub finalStatement-is : (e : ℕ) → finalStatementTold day holidays ≡ dayAccepted e → (isNthAfter (isBusinessDay holidays) 10 (statementDay (positive day)) e ≡ true) × (e ≤ lastDay)
-  unfolding finalStatementTold finalStatement searched
-  finalStatement-is = told-is (isDay day) (isProper holidays) (isBusinessDay holidays) 10 (statementDay (positive day))
+  unfolding finalStatementTold finalStatement
+  finalStatement-is = told-is (isDay day) holidays (isBusinessDay holidays) 10 (statementDay (positive day))
 
   -- where 14 is told there is none up to 31 December 2099
   pub finalStatement-none : finalStatementTold day holidays ≡ dayRefused pastLastDay → (e : ℕ) → e ≤ lastDay → isNthAfter (isBusinessDay holidays) 10 (statementDay (positive day)) e ≡ false
-  unfolding finalStatementTold finalStatement searched
-  finalStatement-none = told-none (isDay day) (isProper holidays) (isBusinessDay holidays) 10 (statementDay (positive day))
+  unfolding finalStatementTold finalStatement
+  finalStatement-none = told-none (isDay day) holidays (isBusinessDay holidays) 10 (statementDay (positive day))
 
   -- where there is one it is told, and where too few are left it is 14
   pub finalStatement-of : isDay day ≡ true → isProper holidays ≡ true → (e : ℕ) → isNthAfter (isBusinessDay holidays) 10 (statementDay (positive day)) e ≡ true → e ≤ lastDay → finalStatementTold day holidays ≡ dayAccepted e
-  unfolding finalStatementTold finalStatement searched
-  finalStatement-of = told-of (isDay day) (isProper holidays) (isBusinessDay holidays) 10 (statementDay (positive day))
+  unfolding finalStatementTold finalStatement
+  finalStatement-of = told-of (isDay day) holidays (isBusinessDay holidays) 10 (statementDay (positive day))
 
   pub finalStatement-past : isDay day ≡ true → isProper holidays ≡ true → daysAfter (isBusinessDay holidays) (statementDay (positive day)) lastDay < 10 → finalStatementTold day holidays ≡ dayRefused pastLastDay
-  unfolding finalStatementTold finalStatement searched
-  finalStatement-past = told-past (isDay day) (isProper holidays) (isBusinessDay holidays) 10 (statementDay (positive day))
+  unfolding finalStatementTold finalStatement
+  finalStatement-past = told-past (isDay day) holidays (isBusinessDay holidays) 10 (statementDay (positive day))
 
 -- ---- The day on which residual data fall due
 
@@ -167,17 +167,17 @@ module _ (year month : ℤ) (holidays : List ℤ) where
 
   -- the due day that is told is the first business day after that 10th
   pub residualDue-is : (e : ℕ) → residualDueTold year month holidays ≡ dayAccepted e → (isNthAfter (isBusinessDay holidays) 1 tenthGiven e ≡ true) × (e ≤ lastDay)
-  unfolding residualDueTold residualDue searched
-  residualDue-is = told-is isMonthGiven (isProper holidays) (isBusinessDay holidays) 1 tenthGiven
+  unfolding residualDueTold residualDue
+  residualDue-is = told-is isMonthGiven holidays (isBusinessDay holidays) 1 tenthGiven
 
   pub residualDue-none : residualDueTold year month holidays ≡ dayRefused pastLastDay → (e : ℕ) → e ≤ lastDay → isNthAfter (isBusinessDay holidays) 1 tenthGiven e ≡ false
-  unfolding residualDueTold residualDue searched
-  residualDue-none = told-none isMonthGiven (isProper holidays) (isBusinessDay holidays) 1 tenthGiven
+  unfolding residualDueTold residualDue
+  residualDue-none = told-none isMonthGiven holidays (isBusinessDay holidays) 1 tenthGiven
 
   pub residualDue-of : isMonthGiven ≡ true → isProper holidays ≡ true → (e : ℕ) → isNthAfter (isBusinessDay holidays) 1 tenthGiven e ≡ true → e ≤ lastDay → residualDueTold year month holidays ≡ dayAccepted e
-  unfolding residualDueTold residualDue searched
-  residualDue-of = told-of isMonthGiven (isProper holidays) (isBusinessDay holidays) 1 tenthGiven
+  unfolding residualDueTold residualDue
+  residualDue-of = told-of isMonthGiven holidays (isBusinessDay holidays) 1 tenthGiven
 
   pub residualDue-past : isMonthGiven ≡ true → isProper holidays ≡ true → daysAfter (isBusinessDay holidays) tenthGiven lastDay < 1 → residualDueTold year month holidays ≡ dayRefused pastLastDay
-  unfolding residualDueTold residualDue searched
-  residualDue-past = told-past isMonthGiven (isProper holidays) (isBusinessDay holidays) 1 tenthGiven
+  unfolding residualDueTold residualDue
+  residualDue-past = told-past isMonthGiven holidays (isBusinessDay holidays) 1 tenthGiven

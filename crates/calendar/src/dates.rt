@@ -8,11 +8,14 @@ ghost use Rattle.rulebook.specs.Units.{lastDay};
 ghost use Rattle.calendar.specs.Calendar.{firstYear, lastYear, isDay, isLeap, daysInYear, daysInMonth, within, isDate, isMonth, daysBeforeYear, daysBeforeMonth, dayOf, dateOf, dueAfter, dateReturned, dateAccepted};
 ghost use Rattle.calendar.specs.DateLaws.{InYear};
 
+// 31 December 2099.
 pub(crate) const LAST_DAY: usize = 36524;
 
 const FIRST_YEAR: usize = 2000;
 
 const LAST_YEAR: usize = 2099;
+
+const LAST_DAY_GIVEN: i64 = LAST_DAY as i64;
 
 // A negative number is read as 0.
 pub(crate) fn natural(z: i64) -> usize
@@ -25,7 +28,7 @@ pub(crate) fn natural(z: i64) -> usize
 pub(crate) fn is_day(z: i64) -> bool
     ensures { λ r. ⌜ r ≡ isDay z ⌝ }
 {
-    (0 <= z) & (z <= 36524)
+    (0 <= z) & (z <= LAST_DAY_GIVEN)
 }
 
 fn is_within(low: usize, high: usize, n: usize) -> bool

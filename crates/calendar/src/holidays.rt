@@ -11,6 +11,9 @@ ghost use lib.Signed.{ltZ};
 ghost use Rattle.calendar.specs.Calendar.{inPlace, isProper, isListed, isBusinessDay, nthAfter};
 ghost use Rattle.calendar.specs.HolidayLaws.{entryAt, FirstFrom};
 
+// Saturday is 0.
+const MONDAY: usize = 2;
+
 fn is_earlier(a: i64, b: i64) -> bool
     ensures { λ r. ⌜ r ≡ ltZ a b ⌝ }
 {
@@ -85,7 +88,7 @@ pub(crate) fn is_business_day(holidays: &[i64], day: usize) -> bool
     requires { ⌜ isProper (now holidays) ≡ true ⌝ }
     ensures { λ r. ⌜ r ≡ isBusinessDay (now (holidays .entry)) day ⌝ }
 {
-    if day % 7 < 2 {
+    if day % 7 < MONDAY {
         return false;
     }
     !is_listed(holidays, day)

@@ -2,6 +2,7 @@
 mod dates; // days, months and years, unsigned
 mod holidays; // holiday lists and business days
 
+use dates::LAST_DAY;
 use dates::date_in_year;
 use dates::day_number;
 use dates::days_before_year;
@@ -17,6 +18,9 @@ use holidays::nth_business_day;
 use integer::Found;
 ghost use mathlib.Core.Path.{_≡_};
 ghost use Rattle.calendar.specs.Calendar.{dateReturned, dateTold, dayReturned, dayTold, weekdayReturned, weekdayTold, statementTold, businessReturned, businessTold, upToLastDay, finalStatementTold, residualDueTold};
+
+// From a trading day to its statement day (003, 2.5.10).
+const STATEMENT_LAG: usize = 75;
 
 // The date of a day: year, month, day of the month.
 pub enum DateAnswer {
@@ -80,15 +84,15 @@ pub fn weekday(day: i64) -> WeekdayAnswer
     WeekdayAnswer::On(natural(day) % 7)
 }
 
-// The statement day of a trading day: 75 days later (003, 2.5.10).
+// The statement day of a trading day.
 pub fn statement_day(day: i64) -> DayAnswer
     ensures { λ r. ⌜ dayReturned r ≡ statementTold day ⌝ }
 {
     if !is_day(day) {
         return DayAnswer::NoSuchDate;
     }
-    let d = natural(day) + 75;
-    if d > dates::LAST_DAY {
+    let d = natural(day) + STATEMENT_LAG;
+    if d > LAST_DAY {
         return DayAnswer::PastLastDay;
     }
     DayAnswer::On(d)
@@ -117,7 +121,7 @@ pub fn final_statement(day: i64, holidays: &[i64]) -> DayAnswer
     if !is_proper(holidays) {
         return DayAnswer::BadHolidays;
     }
-    up_to_last_day(nth_business_day(holidays, 10, natural(day) + 75))
+    up_to_last_day(nth_business_day(holidays, 10, natural(day) + STATEMENT_LAG))
 }
 
 // The day on which a month's residual data fall due: the first business day after the 10th of the second month following (003, 2.5.7).

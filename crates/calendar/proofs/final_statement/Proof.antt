@@ -8,7 +8,7 @@ use borrow.Author.Tests.{not-true, not-false}
 use mir.Syntax.{w64}
 use mir.ValLaws.{toZ-ofZ}
 use Rattle.integer.specs.Integer.{positive}
-use Rattle.calendar.specs.Calendar.{isDay, isProper, isBusinessDay, nthAfter, statementDay, finalStatement, upToLastDay, finalStatementTold}
+use Rattle.calendar.specs.Calendar.{isDay, isProper, isBusinessDay, nthAfter, statementDay, finalStatement, upToLastDay, searchTold, finalStatementTold}
 use Rattle.calendar.specs.DateLaws.{of-isDay}
 use Rattle.calendar.proofs.final_statement.Statement.{statement}
 use Rattle.calendar.proofs.final_statement.Tie as tie
@@ -31,14 +31,14 @@ is-day-requires : tie.Need-is-day-requires
 is-day-requires c κs = search needs
 
 returns : tie.Need-returns
-unfolding finalStatementTold
+unfolding finalStatementTold searchTold
 returns c = rw (sym (judged (c .before)) ∙ not-true _ (c .if1 .taken))
 
 is-proper-requires : tie.Need-is-proper-requires
 is-proper-requires c κs = search needs
 
 returns-2 : tie.Need-returns-2
-unfolding finalStatementTold
+unfolding finalStatementTold searchTold
 returns-2 c =
     let s = c .before .before .before in
     rw (sym (judged s) ∙ not-false _ (c .before .before .if1 .left), sym (c .before .is-proper .ensures) ∙ not-true _ (c .if2 .taken))
@@ -58,7 +58,7 @@ up-to-last-day-requires : tie.Need-up-to-last-day-requires
 up-to-last-day-requires c κs = search needs
 
 returns-3 : tie.Need-returns-3
-unfolding finalStatementTold finalStatement statementDay
+unfolding finalStatementTold searchTold finalStatement statementDay
 returns-3 c =
     let n = c .before .before in
     let k = n .before in

@@ -7,7 +7,7 @@ use borrow.Author.Tests.{not-true, not-false}
 use mir.Syntax.{w64}
 use mir.ValLaws.{toZ-ofZ}
 use Rattle.integer.specs.Integer.{positive}
-use Rattle.calendar.specs.Calendar.{isMonth, isProper, isBusinessDay, nthAfter, dayOf, dueAfter, residualDue, upToLastDay, residualDueTold}
+use Rattle.calendar.specs.Calendar.{isMonth, isProper, isBusinessDay, nthAfter, dayOf, dueAfter, residualDue, upToLastDay, searchTold, residualDueTold}
 use Rattle.calendar.proofs.residual_due.Statement.{statement}
 use Rattle.calendar.proofs.residual_due.Tie as tie
 
@@ -31,14 +31,14 @@ judged : (c : tie.After-is-month) → c .is-month .result ≡ isMonth (positive 
 judged c = c .is-month .ensures ∙ ap₂ isMonth (year-read (c .before .before)) (month-read (c .before))
 
 returns : tie.Need-returns
-unfolding residualDueTold
+unfolding residualDueTold searchTold
 returns c = rw (sym (judged (c .before)) ∙ not-true _ (c .if1 .taken))
 
 is-proper-requires : tie.Need-is-proper-requires
 is-proper-requires c κs = search needs
 
 returns-2 : tie.Need-returns-2
-unfolding residualDueTold
+unfolding residualDueTold searchTold
 returns-2 c =
     let s = c .before .before .before in
     rw (sym (judged s) ∙ not-false _ (c .before .before .if1 .left), sym (c .before .is-proper .ensures) ∙ not-true _ (c .if2 .taken))
@@ -56,7 +56,7 @@ up-to-last-day-requires : tie.Need-up-to-last-day-requires
 up-to-last-day-requires c κs = search needs
 
 returns-3 : tie.Need-returns-3
-unfolding residualDueTold residualDue
+unfolding residualDueTold searchTold residualDue
 returns-3 c =
     let d = c .before .before in
     let k = d .before in
