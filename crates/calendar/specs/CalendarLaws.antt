@@ -19,7 +19,8 @@ use Rattle.rulebook.specs.Units.{lastDay}
 use Rattle.rulebook.specs.Numbers.{accepted, noSuchDate, badHolidays, pastLastDay}
 use Rattle.calendar.specs.CountLaws.{any-at, any-some}
 use Rattle.calendar.specs.DateLaws.{dayOf-dateOf, dateOf-dayOf, isDate-dateOf, dayOf-le, of-isDay, isDay-of, of-isMonth}
-use Rattle.calendar.specs.HolidayLaws.{entryAt, entry-is-day, entries-ascend}
+use Rattle.calendar.specs.Steps.{entryAt}
+use Rattle.calendar.specs.HolidayLaws.{entry-is-day, entries-ascend}
 use Rattle.calendar.specs.BusinessLaws.{of-isNth, nth-found, nth-none, nth-is, nth-nothing}
 use Rattle.calendar.specs.Calendar.{isDay, isDate, isMonth, dayOf, dateGiven, weekdayOf, inPlace, isProper, isEntry, isListed, isBusinessDay, daysAfter, isNthAfter, nthAfter, statementDay, finalStatement, dueAfter, residualDue, dateAccepted, dayAccepted, dayRefused, checked, upToLastDay, searchTold, dateTold, dayTold, finalStatementTold, residualDueTold}
 

@@ -1,8 +1,8 @@
 -- General laws of sums, counts and tests over the numbers below n that the calendar needs. Assumes nothing.
-use mathlib.Core.Path.{_≡_, refl}
+use mathlib.Core.Path.{_≡_, refl, ap, _∙_}
 use mathlib.Core.Bool.{Bool, true, false, cond, _&&_, _||_, or-true}
 use mathlib.Core.Logic.{⊎-elim}
-use Prim.Native.Nat.{ℕ, zero, suc, _+_, _≤_, _<_}
+use Prim.Native.Nat.{ℕ, zero, suc, _+_, _-_, _≤_, _<_}
 use native.Mathlib.Nat.{not-suc-le-zero}
 use native.Mathlib.Omega.{arith}
 use Rattle.integer.specs.Below.{fold, sumℕ, any, count}
@@ -20,12 +20,27 @@ sumℕ-mono m zero f l = let e : m ≡ 0 = omega arith in rw e (omega arith)
 sumℕ-mono m (suc n) f l =
     ⊎-elim (λ h. omega (arith, sumℕ-mono m n f (omega arith))) (λ (h : suc n ≤ m). let e : m ≡ suc n = omega arith in rw e (omega arith)) (lt-or-le m (suc n))
 
--- a number lies in one summand only
-pub sumℕ-place : (f : ℕ → ℕ) (x m n : ℕ) → sumℕ m f ≤ x → x < sumℕ m f + f m → sumℕ n f ≤ x → x < sumℕ n f + f n → m ≡ n
-sumℕ-place f x m n p q r s =
-    ⊎-elim (λ h. absurd (omega (arith, sumℕ-mono (m + 1) n f (omega arith), sumℕ-suc m f)))
-    (λ h. ⊎-elim (λ k. absurd (omega (arith, sumℕ-mono (n + 1) m f (omega arith), sumℕ-suc n f))) (λ k. omega arith) (lt-or-le n m))
-    (lt-or-le m n)
+-- the sum of f over the numbers from low to n
+module _ (f : ℕ → ℕ) (low : ℕ) where
+  abbrev pub sumFrom : ℕ → ℕ
+  sumFrom n = sumℕ (n - low) (λ k. f (low + k))
+
+  pub sumFrom-suc : (n : ℕ) → low ≤ n → sumFrom (n + 1) ≡ sumFrom n + f n
+  sumFrom-suc n l =
+      let g : ℕ → ℕ = λ k. f (low + k) in
+      let e : n + 1 - low ≡ n - low + 1 = omega arith in
+      let h : low + (n - low) ≡ n = omega arith in
+      ap (λ k. sumℕ k g) e ∙ sumℕ-suc (n - low) g ∙ ap (λ k. sumℕ (n - low) g + f k) h
+
+  pub sumFrom-mono : (m n : ℕ) → m ≤ n → sumFrom m ≤ sumFrom n
+  sumFrom-mono m n l = sumℕ-mono (m - low) (n - low) (λ k. f (low + k)) (omega arith)
+
+  -- a number lies in one summand only
+  pub sumFrom-place : (x m n : ℕ) → low ≤ m → low ≤ n → sumFrom m ≤ x → x < sumFrom m + f m → sumFrom n ≤ x → x < sumFrom n + f n → m ≡ n
+  sumFrom-place x m n lm ln p q r s =
+      ⊎-elim (λ h. absurd (omega (arith, sumFrom-mono (m + 1) n (omega arith), sumFrom-suc m lm)))
+      (λ h. ⊎-elim (λ k. absurd (omega (arith, sumFrom-mono (n + 1) m (omega arith), sumFrom-suc n ln))) (λ k. omega arith) (lt-or-le n m))
+      (lt-or-le m n)
 
 -- ---- Counts
 

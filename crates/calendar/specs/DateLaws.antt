@@ -1,90 +1,22 @@
 -- Laws of dates: the lengths of months and years, what lies before a date, and that day and date name each other. Assumes nothing.
-use mathlib.Core.Path.{_≡_, refl, sym, ap, _∙_}
-use mathlib.Core.Bool.{Bool, true, false, cond, _||_}
+use mathlib.Core.Path.{_≡_, refl, ap, _∙_}
+use mathlib.Core.Bool.{Bool, true, false}
 use mathlib.Core.Logic.{⊎-elim}
-use Prim.Native.Nat.{ℕ, zero, suc, _+_, _*_, _-_, _/_, _%_, _≤_, _<_}
+use Prim.Native.Nat.{ℕ, zero, suc, _+_, _-_, _≤_, _<_}
 use native.Mathlib.Omega.{arith}
-use borrow.Author.Tests.{ltb-true, ltb-false, leb-true, le-leb, eqb-true, eqb-false}
-use lib.Dec.{leb, ltb, eqb, leb·zero}
+use borrow.Author.Tests.{ltb-true, ltb-false, leb-true, le-leb}
+use lib.Dec.{leb, ltb, leb·zero}
 use lib.IntN.{ℤ, pos, negsuc}
+use mir.Syntax.{w64}
+use mir.Val.{SFits, toZ, ofZ}
+use mir.ValLaws.{toZ-ofZ}
 use Rattle.integer.specs.Integer.{positive}
-use Rattle.integer.specs.Below.{fold, sumℕ, turns}
-use Rattle.integer.specs.BelowLaws.{either, lt-or-le}
+use Rattle.integer.specs.Below.{fold, turns}
+use Rattle.integer.specs.BelowLaws.{lt-or-le}
 use Rattle.rulebook.specs.Units.{lastDay}
-use Rattle.calendar.specs.CountLaws.{sumℕ-suc, sumℕ-mono, sumℕ-place, both-true}
+use Rattle.calendar.specs.CountLaws.{sumFrom-place, both-true}
+use Rattle.calendar.specs.YearLaws.{daysInMonth-range, daysInYear-range, daysBeforeMonth-suc, daysBeforeMonth-within, daysBeforeYear-closed, daysBeforeYear-suc, december, january}
 use Rattle.calendar.specs.Calendar.{firstYear, lastYear, isLeap, daysInYear, daysInMonth, Date, within, isMonth, isDate, daysBeforeYear, daysBeforeMonth, dayOf, nextDate, dateOf, isDay}
-
--- ---- Months
-
-month-range : (february leap thirty : Bool) → (28 ≤ cond february (cond leap 29 28) (cond thirty 30 31)) × (cond february (cond leap 29 28) (cond thirty 30 31) ≤ 31)
-month-range true true c = omega arith
-month-range true false c = omega arith
-month-range false b true = omega arith
-month-range false b false = omega arith
-
-pub daysInMonth-range : (year month : ℕ) → (28 ≤ daysInMonth year month) × (daysInMonth year month ≤ 31)
-unfolding daysInMonth
-daysInMonth-range year month = month-range (eqb month 2) (isLeap year) (eqb month 4 || (eqb month 6 || (eqb month 9 || eqb month 11)))
-
--- the months make up the year
-pub months-of-year : (year : ℕ) → sumℕ 12 (λ k. daysInMonth year (1 + k)) ≡ daysInYear year
-unfolding fold daysInMonth daysInYear
-months-of-year year = ⊎-elim (λ e. rw e) (λ e. rw e) (either (isLeap year))
-
--- the first of the next month comes a month's days later
-pub daysBeforeMonth-suc : (year month : ℕ) → 1 ≤ month → daysBeforeMonth year (month + 1) ≡ daysBeforeMonth year month + daysInMonth year month
-unfolding daysBeforeMonth
-daysBeforeMonth-suc year month l =
-    let f : ℕ → ℕ = λ k. daysInMonth year (1 + k) in
-    let e : month + 1 - 1 ≡ month - 1 + 1 = omega arith in
-    let g : 1 + (month - 1) ≡ month = omega arith in
-    ap (λ n. sumℕ n f) e ∙ sumℕ-suc (month - 1) f ∙ ap (λ n. sumℕ (month - 1) f + daysInMonth year n) g
-
--- ---- Years
-
-leap-step : (k : ℕ) (leap : Bool) → eqb ((2000 + k) % 4) 0 ≡ leap → 365 * k + (k + 3) / 4 + cond leap 366 365 ≡ 365 * suc k + (suc k + 3) / 4
-leap-step k true e = omega (arith, eqb-true ((2000 + k) % 4) 0 e)
-leap-step k false e = omega (arith, eqb-false ((2000 + k) % 4) 0 e)
-
-pub daysInYear-range : (year : ℕ) → (365 ≤ daysInYear year) × (daysInYear year ≤ 366)
-unfolding daysInYear
-daysInYear-range year = ⊎-elim (λ e. rw e (omega arith)) (λ e. rw e (omega arith)) (either (isLeap year))
-
--- every fourth year from 2000 on has one day more
-pub years-closed : (k : ℕ) → sumℕ k (λ j. daysInYear (firstYear + j)) ≡ 365 * k + (k + 3) / 4
-unfolding fold daysInYear isLeap
-years-closed zero = refl
-years-closed (suc k) = rw (years-closed k) (leap-step k (eqb ((2000 + k) % 4) 0) refl)
-
-pub daysBeforeYear-closed : (year : ℕ) → daysBeforeYear year ≡ 365 * (year - 2000) + (year - 2000 + 3) / 4
-unfolding daysBeforeYear
-daysBeforeYear-closed year = years-closed (year - 2000)
-
-pub daysBeforeYear-suc : (year : ℕ) → firstYear ≤ year → daysBeforeYear (year + 1) ≡ daysBeforeYear year + daysInYear year
-unfolding daysBeforeYear
-daysBeforeYear-suc year l =
-    let f : ℕ → ℕ = λ k. daysInYear (firstYear + k) in
-    let e : year + 1 - firstYear ≡ year - firstYear + 1 = omega arith in
-    let g : firstYear + (year - firstYear) ≡ year = omega arith in
-    ap (λ n. sumℕ n f) e ∙ sumℕ-suc (year - firstYear) f ∙ ap (λ n. sumℕ (year - firstYear) f + daysInYear n) g
-
--- the months before one of the year lie within the year
-pub daysBeforeMonth-within : (year month : ℕ) → 1 ≤ month → month ≤ 12 → daysBeforeMonth year month + daysInMonth year month ≤ daysInYear year
-unfolding daysBeforeMonth
-daysBeforeMonth-within year month l h =
-    let f : ℕ → ℕ = λ k. daysInMonth year (1 + k) in
-    let e : 1 + (month - 1) ≡ month = omega arith in
-    let g : f (month - 1) ≡ daysInMonth year month = ap (daysInMonth year) e in
-    omega (arith, months-of-year year, sumℕ-suc (month - 1) f, sumℕ-mono (month - 1 + 1) 12 f (omega arith), g)
-
--- December ends the year
-pub december : (year : ℕ) → daysBeforeMonth year 12 + daysInMonth year 12 ≡ daysInYear year
-unfolding daysBeforeMonth
-december year = sym (sumℕ-suc 11 (λ k. daysInMonth year (1 + k))) ∙ months-of-year year
-
-pub january : (year : ℕ) → daysBeforeMonth year 1 ≡ 0
-unfolding daysBeforeMonth fold
-january year = refl
 
 -- ---- Dates
 
@@ -140,13 +72,6 @@ pub record Placed (date : Date) : Type 0 where
 pub placed : (date : Date) → IsDate date → Placed date
 unfolding dayOf
 placed date v = record { in-month = omega (arith, daysBeforeMonth-within (date .year) (date .month) (v .month-from) (v .month-to)); is = omega arith }
-
--- the year in which a day lies
-pub record InYear (d year : ℕ) : Type 0 where
-  pub year-from : firstYear ≤ year
-  pub year-to : year ≤ lastYear
-  pub day-from : daysBeforeYear year ≤ d
-  pub day-to : d < daysBeforeYear year + daysInYear year
 
 -- ---- The next date
 
@@ -240,33 +165,11 @@ dayOf-le date e =
 same-year : (s t : Date) → IsDate s → IsDate t → dayOf s ≡ dayOf t → s .year ≡ t .year
 unfolding daysBeforeYear
 same-year s t v w e =
-    omega (arith, sumℕ-place days (dayOf s) (s .year - firstYear) (t .year - firstYear) (from s v) (to s v) (omega (arith, from t w)) (omega (arith, to t w)), v .year-from, w .year-from)
-  where
-    days : ℕ → ℕ
-    days k = daysInYear (firstYear + k)
+    sumFrom-place daysInYear firstYear (dayOf s) (s .year) (t .year) (v .year-from) (w .year-from) (omega (arith, placed s v)) (omega (arith, placed s v)) (omega (arith, placed t w)) (omega (arith, placed t w))
 
-    from : (date : Date) → IsDate date → sumℕ (date .year - firstYear) days ≤ dayOf date
-    from date u = omega (arith, placed date u)
-
-    to : (date : Date) → IsDate date → dayOf date < sumℕ (date .year - firstYear) days + days (date .year - firstYear)
-    to date u =
-        let g : firstYear + (date .year - firstYear) ≡ date .year = omega (arith, u .year-from) in
-        let h : days (date .year - firstYear) ≡ daysInYear (date .year) = ap daysInYear g in
-        omega (arith, placed date u)
-
--- within a year, two dates so many days into it have one month
 same-month : (year m n a b : ℕ) → 1 ≤ m → 1 ≤ n → a < daysInMonth year m → b < daysInMonth year n → daysBeforeMonth year m + a ≡ daysBeforeMonth year n + b → m ≡ n
 unfolding daysBeforeMonth
-same-month year m n a b lm ln ha hb e =
-    let u = at m lm in
-    let v = at n ln in
-    omega (arith, sumℕ-place days (sumℕ (m - 1) days + a) (m - 1) (n - 1) (omega arith) (omega arith) (omega arith) (omega arith))
-  where
-    days : ℕ → ℕ
-    days k = daysInMonth year (1 + k)
-
-    at : (k : ℕ) → 1 ≤ k → days (k - 1) ≡ daysInMonth year k
-    at k l = ap (daysInMonth year) (omega arith)
+same-month year m n a b lm ln ha hb e = sumFrom-place (daysInMonth year) 1 (daysBeforeMonth year m + a) m n lm ln (omega arith) (omega arith) (omega arith) (omega arith)
 
 same-date : (s t : Date) → IsDate s → IsDate t → dayOf s ≡ dayOf t → s ≡ t
 same-date s t v w e = λ i. record { year = y i; month = m i; day = d i }
@@ -303,7 +206,11 @@ dateOf-in-year year month days a b c d e f =
     let g : daysBeforeYear year + days ≡ dayOf date = omega arith in
     ap dateOf g ∙ dateOf-dayOf date (isDate-of date v)
 
--- ---- The number given for a day
+-- ---- The numbers given
+
+-- what is read of a signed number is the number
+pub given {ℓ} : {A : Type ℓ} (f : ℤ → A) {z : ℤ} → SFits w64 z → f (toZ w64 (ofZ w64 z)) ≡ f z
+given f {z} fits = ap f (toZ-ofZ w64 z fits)
 
 -- a day is a number from 0 to 36,524
 pub record IsDay (z : ℤ) : Type 0 where

@@ -12,24 +12,14 @@ use lib.Dec.{eqb}
 use lib.IntN.{ℤ, pos}
 use lib.ListN.{length}
 use lib.Signed.{ltZ}
-use Rattle.integer.specs.Integer.{positive}
 use Rattle.integer.specs.Words.{word}
 use Rattle.integer.specs.BelowLaws.{either, lt-or-le, all-at}
 use Rattle.calendar.specs.CountLaws.{both-true, any-at, any-none}
+use Rattle.calendar.specs.Steps.{entryAt, FirstFrom}
 use Rattle.calendar.specs.DateLaws.{IsDay, of-isDay}
 use Rattle.calendar.specs.Calendar.{isDay, inPlace, isProper, isEntry, isListed}
 
--- an entry, as a number of days
-abbrev pub entryAt : List ℤ → ℕ → ℕ
-entryAt holidays i = positive (word holidays i)
-
--- the entries below r lie before day d, those from r on do not
-pub record FirstFrom (holidays : List ℤ) (d r : ℕ) : Type 0 where
-  pub within : r ≤ length holidays
-  pub below : (k : ℕ) → k < r → entryAt holidays k < d
-  pub above : (k : ℕ) → r ≤ k → k < length holidays → d ≤ entryAt holidays k
-
--- the same with entries from low to high yet to be looked at
+-- `FirstFrom` with the entries from low to high yet to be looked at
 pub record Bracket (holidays : List ℤ) (d low high : ℕ) : Type 0 where
   pub ordered : low ≤ high
   pub within : high ≤ length holidays

@@ -1,5 +1,7 @@
 pub mod Calendar
+pub mod Steps
 pub mod CountLaws
+pub mod YearLaws
 pub mod DateLaws
 pub mod HolidayLaws
 pub mod BusinessLaws

@@ -6,7 +6,7 @@ ghost use Prim.Native.Nat.{_+_, _≤_, _<_};
 ghost use Rattle.integer.specs.Integer.{positive};
 ghost use Rattle.rulebook.specs.Units.{lastDay};
 ghost use Rattle.calendar.specs.Calendar.{firstYear, lastYear, isDay, isLeap, daysInYear, daysInMonth, within, isDate, isMonth, daysBeforeYear, daysBeforeMonth, dayOf, dateOf, dueAfter, dateReturned, dateAccepted};
-ghost use Rattle.calendar.specs.DateLaws.{InYear};
+ghost use Rattle.calendar.specs.Steps.{InYear};
 
 // 31 December 2099.
 pub(crate) const LAST_DAY: usize = 36524;

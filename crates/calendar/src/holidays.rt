@@ -9,7 +9,7 @@ ghost use Prim.Native.Nat.{_≤_, _<_};
 ghost use lib.ListN.{length};
 ghost use lib.Signed.{ltZ};
 ghost use Rattle.calendar.specs.Calendar.{inPlace, isProper, isListed, isBusinessDay, nthAfter};
-ghost use Rattle.calendar.specs.HolidayLaws.{entryAt, FirstFrom};
+ghost use Rattle.calendar.specs.Steps.{entryAt, FirstFrom};
 
 // Saturday is 0.
 const MONDAY: usize = 2;

@@ -3,19 +3,18 @@ use mathlib.Core.Path.{_≡_, sym, ap, _∙_}
 use mathlib.Core.Bool.{true}
 use borrow.Author.Needs.{needs}
 use borrow.Author.Tests.{not-true, not-false}
-use mir.Syntax.{w64}
-use mir.ValLaws.{toZ-ofZ}
 use Rattle.integer.specs.Integer.{positive}
 use Rattle.calendar.specs.Calendar.{isDay, isProper, isBusinessDay, businessAccepted, businessTold}
+use Rattle.calendar.specs.DateLaws.{given}
 use Rattle.calendar.proofs.business_day.Statement.{statement}
 use Rattle.calendar.proofs.business_day.Tie as tie
 
 -- what is read of the number given
 judged : (c : tie.After-is-day) → c .is-day .result ≡ isDay (c .before .args .day)
-judged c = c .is-day .ensures ∙ ap isDay (toZ-ofZ w64 (c .before .args .day) (c .before .fits .day))
+judged c = c .is-day .ensures ∙ given isDay (c .before .fits .day)
 
 read : (c : tie.After-natural) → c .natural .result ≡ positive (c .before .before .before .before .before .args .day)
-read c = let s = c .before .before .before .before .before in c .natural .ensures ∙ ap positive (toZ-ofZ w64 (s .args .day) (s .fits .day))
+read c = let s = c .before .before .before .before .before in c .natural .ensures ∙ given positive (s .fits .day)
 
 -- both checks are met
 day-met : (c : tie.Else2) → isDay (c .before .before .before .before .args .day) ≡ true

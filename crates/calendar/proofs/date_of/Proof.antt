@@ -4,20 +4,18 @@ use Prim.Native.Nat.{_+_, _-_}
 use borrow.Author.Needs.{needs}
 use native.Mathlib.Omega.{arith}
 use borrow.Author.Tests.{not-true, not-false}
-use mir.Syntax.{w64}
-use mir.ValLaws.{toZ-ofZ}
 use Rattle.integer.specs.Integer.{positive}
 use Rattle.calendar.specs.Calendar.{isDay, daysBeforeYear, dateOf, dateAccepted, dateTold}
-use Rattle.calendar.specs.DateLaws.{of-isDay}
+use Rattle.calendar.specs.DateLaws.{given, of-isDay}
 use Rattle.calendar.proofs.date_of.Statement.{statement}
 use Rattle.calendar.proofs.date_of.Tie as tie
 
 -- what is read of the number given
 judged : (c : tie.After-is-day) → c .is-day .result ≡ isDay (c .before .args .day)
-judged c = c .is-day .ensures ∙ ap isDay (toZ-ofZ w64 (c .before .args .day) (c .before .fits .day))
+judged c = c .is-day .ensures ∙ given isDay (c .before .fits .day)
 
 read : (c : tie.After-natural) → c .natural .result ≡ positive (c .before .before .before .args .day)
-read c = let s = c .before .before .before in c .natural .ensures ∙ ap positive (toZ-ofZ w64 (s .args .day) (s .fits .day))
+read c = let s = c .before .before .before in c .natural .ensures ∙ given positive (s .fits .day)
 
 is-day-requires : tie.Need-is-day-requires
 is-day-requires c κs = search needs

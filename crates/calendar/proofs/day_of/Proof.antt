@@ -3,11 +3,10 @@ use mathlib.Core.Path.{_≡_, sym, ap, _∙_}
 use borrow.Author.Needs.{needs}
 use native.Mathlib.Omega.{arith}
 use borrow.Author.Tests.{not-true, not-false}
-use mir.Syntax.{w64}
-use mir.ValLaws.{toZ-ofZ}
 use Rattle.integer.specs.Integer.{positive}
 use Rattle.calendar.specs.Calendar.{Date, dayAccepted, dateGiven, dayTold}
-use Rattle.calendar.specs.DateLaws.{of-isDate, daysInMonth-range}
+use Rattle.calendar.specs.YearLaws.{daysInMonth-range}
+use Rattle.calendar.specs.DateLaws.{given, of-isDate}
 use Rattle.calendar.proofs.day_of.Statement.{statement}
 use Rattle.calendar.proofs.day_of.Tie as tie
 
@@ -30,9 +29,9 @@ date c = record { year = c .before .before .natural .result; month = c .before .
 read : (c : tie.After-natural3) → date c ≡ dateGiven (c .before .before .before .args .year) (c .before .before .before .args .month) (c .before .before .before .args .day)
 read c =
     let s = c .before .before .before in
-    let y = c .before .before .natural .ensures ∙ ap positive (toZ-ofZ w64 (s .args .year) (s .fits .year)) in
-    let m = c .before .natural2 .ensures ∙ ap positive (toZ-ofZ w64 (s .args .month) (s .fits .month)) in
-    let d = c .natural3 .ensures ∙ ap positive (toZ-ofZ w64 (s .args .day) (s .fits .day)) in
+    let y = c .before .before .natural .ensures ∙ given positive (s .fits .year) in
+    let m = c .before .natural2 .ensures ∙ given positive (s .fits .month) in
+    let d = c .natural3 .ensures ∙ given positive (s .fits .day) in
     λ i. record { year = y i; month = m i; day = d i }
 
 returns : tie.Need-returns

@@ -1,24 +1,21 @@
 -- `final_statement` meets its contract: both checks in their order, then the tenth business day after the statement day.
 use mathlib.Core.Path.{_≡_, sym, ap, _∙_}
 use mathlib.Core.Bool.{true}
-use Prim.Native.Nat.{_+_}
 use borrow.Author.Needs.{needs}
 use native.Mathlib.Omega.{arith}
 use borrow.Author.Tests.{not-true, not-false}
-use mir.Syntax.{w64}
-use mir.ValLaws.{toZ-ofZ}
 use Rattle.integer.specs.Integer.{positive}
-use Rattle.calendar.specs.Calendar.{isDay, isProper, isBusinessDay, nthAfter, statementDay, finalStatement, upToLastDay, searchTold, finalStatementTold}
-use Rattle.calendar.specs.DateLaws.{of-isDay}
+use Rattle.calendar.specs.Calendar.{isDay, isProper, statementDay, finalStatement, upToLastDay, searchTold, finalStatementTold}
+use Rattle.calendar.specs.DateLaws.{given, of-isDay}
 use Rattle.calendar.proofs.final_statement.Statement.{statement}
 use Rattle.calendar.proofs.final_statement.Tie as tie
 
 -- what is read of the number given
 judged : (c : tie.After-is-day) → c .is-day .result ≡ isDay (c .before .args .day)
-judged c = c .is-day .ensures ∙ ap isDay (toZ-ofZ w64 (c .before .args .day) (c .before .fits .day))
+judged c = c .is-day .ensures ∙ given isDay (c .before .fits .day)
 
 read : (c : tie.After-natural) → c .natural .result ≡ positive (c .before .before .before .before .before .args .day)
-read c = let s = c .before .before .before .before .before in c .natural .ensures ∙ ap positive (toZ-ofZ w64 (s .args .day) (s .fits .day))
+read c = let s = c .before .before .before .before .before in c .natural .ensures ∙ given positive (s .fits .day)
 
 -- both checks are met
 day-met : (c : tie.Else2) → isDay (c .before .before .before .before .args .day) ≡ true
@@ -63,7 +60,7 @@ returns-3 c =
     let n = c .before .before in
     let k = n .before in
     let xs = k .before .before .before .before .args .holidays .now in
-    rw (day-met k, list-met k) (c .up-to-last-day .ensures ∙ ap upToLastDay (c .before .nth-business-day .ensures ∙ ap (λ d. nthAfter (isBusinessDay xs) 10 (d + 75)) (read n)))
+    rw (day-met k, list-met k) (c .up-to-last-day .ensures ∙ ap upToLastDay (c .before .nth-business-day .ensures ∙ ap (finalStatement xs) (read n)))
 
 pub final-statement-spec : {M : Type 1} → statement M
 final-statement-spec = tie.close (tie.spec is-day-requires returns is-proper-requires returns-2 natural-requires add-nth-business-day nth-business-day-requires up-to-last-day-requires returns-3)

@@ -4,10 +4,9 @@ use mathlib.Core.Bool.{true}
 use borrow.Author.Needs.{needs}
 use native.Mathlib.Omega.{arith}
 use borrow.Author.Tests.{not-true, not-false}
-use mir.Syntax.{w64}
-use mir.ValLaws.{toZ-ofZ}
 use Rattle.integer.specs.Integer.{positive}
 use Rattle.calendar.specs.Calendar.{isMonth, isProper, isBusinessDay, nthAfter, dayOf, dueAfter, residualDue, upToLastDay, searchTold, residualDueTold}
+use Rattle.calendar.specs.DateLaws.{given}
 use Rattle.calendar.proofs.residual_due.Statement.{statement}
 use Rattle.calendar.proofs.residual_due.Tie as tie
 
@@ -22,10 +21,10 @@ is-month-requires c κs = search needs
 
 -- what is read of the numbers given
 year-read : (c : tie.After-natural) → c .natural .result ≡ positive (c .before .args .year)
-year-read c = c .natural .ensures ∙ ap positive (toZ-ofZ w64 (c .before .args .year) (c .before .fits .year))
+year-read c = c .natural .ensures ∙ given positive (c .before .fits .year)
 
 month-read : (c : tie.After-natural2) → c .natural2 .result ≡ positive (c .before .before .args .month)
-month-read c = let s = c .before .before in c .natural2 .ensures ∙ ap positive (toZ-ofZ w64 (s .args .month) (s .fits .month))
+month-read c = let s = c .before .before in c .natural2 .ensures ∙ given positive (s .fits .month)
 
 judged : (c : tie.After-is-month) → c .is-month .result ≡ isMonth (positive (c .before .before .before .args .year)) (positive (c .before .before .before .args .month))
 judged c = c .is-month .ensures ∙ ap₂ isMonth (year-read (c .before .before)) (month-read (c .before))

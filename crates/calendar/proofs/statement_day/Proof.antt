@@ -1,24 +1,21 @@
 -- `statement_day` meets its contract: a day plus 75, compared with the last day.
 use mathlib.Core.Path.{_≡_, sym, ap, _∙_}
-use Prim.Native.Nat.{_+_}
 use borrow.Author.Needs.{needs}
 use native.Mathlib.Omega.{arith}
 use borrow.Author.Tests.{not-true, not-false, lt-leb, le-leb}
-use mir.Syntax.{w64}
-use mir.ValLaws.{toZ-ofZ}
 use Rattle.integer.specs.Integer.{positive}
 use Rattle.rulebook.specs.Units.{lastDay}
 use Rattle.calendar.specs.Calendar.{isDay, statementDay, dayAccepted, statementTold}
-use Rattle.calendar.specs.DateLaws.{of-isDay}
+use Rattle.calendar.specs.DateLaws.{given, of-isDay}
 use Rattle.calendar.proofs.statement_day.Statement.{statement}
 use Rattle.calendar.proofs.statement_day.Tie as tie
 
 -- what is read of the number given
 judged : (c : tie.After-is-day) → c .is-day .result ≡ isDay (c .before .args .day)
-judged c = c .is-day .ensures ∙ ap isDay (toZ-ofZ w64 (c .before .args .day) (c .before .fits .day))
+judged c = c .is-day .ensures ∙ given isDay (c .before .fits .day)
 
 read : (c : tie.After-natural) → c .natural .result ≡ positive (c .before .before .before .args .day)
-read c = let s = c .before .before .before in c .natural .ensures ∙ ap positive (toZ-ofZ w64 (s .args .day) (s .fits .day))
+read c = let s = c .before .before .before in c .natural .ensures ∙ given positive (s .fits .day)
 
 is-day-requires : tie.Need-is-day-requires
 is-day-requires c κs = search needs
@@ -39,15 +36,15 @@ returns-2 : tie.Need-returns-2
 unfolding statementTold statementDay
 returns-2 c =
     let s = c .before .before .before in
-    let p = lt-leb (positive (s .before .args .day) + 75) lastDay (omega (arith, read (c .before))) in
+    let p = lt-leb (statementDay (positive (s .before .args .day))) lastDay (omega (arith, read (c .before))) in
     rw (sym (judged s) ∙ not-false _ (c .before .before .if1 .left), p)
 
 returns-3 : tie.Need-returns-3
 unfolding statementTold statementDay
 returns-3 c =
     let s = c .before .before .before in
-    let p = le-leb (positive (s .before .args .day) + 75) lastDay (omega (arith, read (c .before))) in
-    rw (sym (judged s) ∙ not-false _ (c .before .before .if1 .left), p) (ap (λ n. dayAccepted (n + 75)) (read (c .before)))
+    let p = le-leb (statementDay (positive (s .before .args .day))) lastDay (omega (arith, read (c .before))) in
+    rw (sym (judged s) ∙ not-false _ (c .before .before .if1 .left), p) (ap (λ n. dayAccepted (statementDay n)) (read (c .before)))
 
 pub statement-day-spec : {M : Type 1} → statement M
 statement-day-spec = tie.close (tie.spec is-day-requires returns natural-requires add-d returns-2 returns-3)
