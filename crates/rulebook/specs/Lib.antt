@@ -13,6 +13,10 @@ pub mod Judging
 pub mod Submit
 pub mod Close
 pub mod Numbers
+pub mod NamedRows
+pub mod Encoding
+pub mod Proper
+pub mod FileTable
 pub mod Calls
 pub mod History
 pub mod Promises
@@ -36,6 +40,11 @@ pub mod LedgerLaws
 pub mod FileLaws
 pub mod JudgingLaws
 pub mod SoundLaws
+pub mod ListLaws
+pub mod IntervalLaws
+pub mod PositionLaws
+pub mod SectionRowsLaws
+pub mod WholeLaws
 pub mod KeptLaws
 pub mod FormLaws
 pub mod SizeLaws
