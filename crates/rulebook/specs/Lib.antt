@@ -45,6 +45,11 @@ pub mod IntervalLaws
 pub mod PositionLaws
 pub mod SectionRowsLaws
 pub mod WholeLaws
+pub mod VerdictLaws
+pub mod RangeLaws
+pub mod FromLaws
+pub mod EncodedLaws
+pub mod EncodedFileLaws
 pub mod KeptLaws
 pub mod FormLaws
 pub mod SizeLaws
