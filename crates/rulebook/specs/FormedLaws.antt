@@ -15,6 +15,7 @@ use Rattle.rulebook.specs.declared.Section.{Section}
 use Rattle.rulebook.specs.declared.Terms.{Terms}
 use Rattle.rulebook.specs.Units.{lastDay, between, positive}
 use Rattle.rulebook.specs.DayAmount.{residualDue, postedAmount}
+use Rattle.rulebook.specs.Terms.{InTerms}
 use Rattle.rulebook.specs.Sections.{accountsOf}
 use Rattle.rulebook.specs.Layout.{width, place, ring, size, intervalSize, slot, intervalWord, rowWord, markWord, accountsWord, lagWord, horizonWord, firstDayWord, nextDayWord, msslWord, balanceWord, accountSpare, headerSpare, headerSpares, accountSpares}
 use Rattle.rulebook.specs.BookData.{termsOf, nextDay, entriesOf, bookData}
@@ -26,7 +27,7 @@ use Rattle.rulebook.specs.RingLaws.{turn-of, turned, turn-inside}
 use Rattle.rulebook.specs.WalkLaws.{days-walk}
 use Rattle.rulebook.specs.LedgerLaws.{Ledger, Holds, Padding, padding-fits}
 use Rattle.rulebook.specs.KeptLaws.{absent-fits}
-use Rattle.rulebook.specs.FormLaws.{InTerms, Fit, ring-pos}
+use Rattle.rulebook.specs.FormLaws.{Fit, ring-pos}
 use Rattle.rulebook.specs.SizeLaws.{data-sized, posted-size}
 use Rattle.rulebook.specs.SlotLaws.{row-in-interval, is-zero, is-number, interval-padding, undated-blank, closed-there, row-fits-at, entries-ranged}
 
@@ -82,14 +83,14 @@ module _ (w : List ℤ) (t : T (wellFormed w)) where
 
   pub opened-of : InTerms (termsOf w)
   opened-of = record {
-    accounts1 = accounts-of .1;
-    accounts32 = accounts-of .2;
-    lag1 = lag-of .1;
-    lag75 = lag-of .2;
-    horizon1 = horizon-of .1;
-    horizon92 = horizon-of .2;
-    first1 = first-of .1;
-    last = first-of .2;
+    accountsFrom = accounts-of .1;
+    accountsTo = accounts-of .2;
+    lagFrom = lag-of .1;
+    lagTo = lag-of .2;
+    horizonFrom = horizon-of .1;
+    horizonTo = horizon-of .2;
+    firstFrom = first-of .1;
+    firstTo = first-of .2;
   }
 
   long-of : size (termsOf w) ≤ length w
