@@ -14,15 +14,17 @@ use Rattle.rulebook.specs.declared.Section.the-variants.{Vesting, Meter}
 use Rattle.rulebook.specs.declared.Terms.{Terms}
 use Rattle.rulebook.specs.declared.Verdict.{Verdict}
 use Rattle.rulebook.specs.declared.Verdict.the-variants.{Accepted, Refused}
-use Rattle.rulebook.specs.Layout.{flag, termsOf, nextDay}
+use Rattle.rulebook.specs.Layout.{flagIndex}
+use Rattle.rulebook.specs.BookData.{termsOf, nextDay}
 use Rattle.rulebook.specs.WellFormed.{isZero, rowFits, wellFormed}
 use Rattle.rulebook.specs.File.{Row, fileRows}
 use Rattle.rulebook.specs.Judging.{limitsOf, judged}
 use Rattle.rulebook.specs.Submit.{entry, rowsStored, taken, submitted}
 use Rattle.rulebook.specs.History.{lastFor}
+use Rattle.rulebook.specs.TestLaws.{T-path}
 use Rattle.rulebook.specs.LedgerLaws.{Ledger, IsFor, overlaid, submittedTo, rows-held}
 use Rattle.rulebook.specs.SoundLaws.{Sound, file-sound}
-use Rattle.rulebook.specs.KeptLaws.{there-fits, flag-more, nonzero, T-path}
+use Rattle.rulebook.specs.KeptLaws.{there-fits, flag-more, nonzero}
 use Rattle.rulebook.specs.FormLaws.{Fit, ring-pos, fits-same, well-formed}
 use Rattle.rulebook.specs.FormedLaws.{ledgerOf, formed-holds, formed-fit, opened-of, next-of}
 use Rattle.rulebook.specs.StepLaws.{last-one, sound-day, storable, over, overlaid-last}
@@ -37,8 +39,8 @@ module _ (o : Terms) (b : Ledger) (q : Fit o b) (h : 1 ≤ o .horizon) (rs : Lis
       go none e = old
       go (some r) e = let z = last-one (Sound (limitsOf o (o .first + b .closed))) rs s a d r x e in new r (z .0) (z .1)
 
-  there : (s : Section) (a d i : ℕ) → T (not (isZero (b .entries s a d i (flag s)))) → T (not (isZero (overlaid rs (b .entries) s a d i (flag s))))
-  there s a d i old = rw (overlaid-last rs (b .entries) s a d i (flag s)) (by-row (λ f. T (not (isZero (f (flag s))))) s a d i old
+  there : (s : Section) (a d i : ℕ) → T (not (isZero (b .entries s a d i (flagIndex s)))) → T (not (isZero (overlaid rs (b .entries) s a d i (flagIndex s))))
+  there s a d i old = rw (overlaid-last rs (b .entries) s a d i (flagIndex s)) (by-row (λ f. T (not (isZero (f (flagIndex s))))) s a d i old
       (λ r y z. nonzero (flag-more s i r (z .section) (y .ranged) .1)))
 
   pub file-fit : Fit o (submittedTo rs b)
@@ -65,8 +67,8 @@ submitted-formed w file t = rw (T-path (wellFormed w) t) (go (judged (limitsOf (
     go Accepted e =
         let q = opened-of w t in
         let x : Each (Sound (limitsOf (termsOf w) (termsOf w .first + (nextDay w - termsOf w .first)))) (fileRows file)
-        = subst (λ (C : ℕ). Each (Sound (limitsOf (termsOf w) C)) (fileRows file)) (sym day) (file-sound (limitsOf (termsOf w) (nextDay w)) (q .accounts1) file e) in
+        = subst (λ (C : ℕ). Each (Sound (limitsOf (termsOf w) C)) (fileRows file)) (sym day) (file-sound (limitsOf (termsOf w) (nextDay w)) (q .accountsFrom) file e) in
         well-formed (termsOf w) q (submittedTo (fileRows file) (ledgerOf w)) (rowsStored (termsOf w) (fileRows file) w)
-        (rows-held (termsOf w) (ring-pos (termsOf w) q) (fileRows file) (ledgerOf w) w (storable (termsOf w) (nextDay w - termsOf w .first) (q .horizon1) (fileRows file) x) (formed-holds w t))
-        (file-fit (termsOf w) (ledgerOf w) (formed-fit w t) (q .horizon1) (fileRows file) x)
+        (rows-held (termsOf w) (ring-pos (termsOf w) q) (fileRows file) (ledgerOf w) w (storable (termsOf w) (nextDay w - termsOf w .first) (q .horizonFrom) (fileRows file) x) (formed-holds w t))
+        (file-fit (termsOf w) (ledgerOf w) (formed-fit w t) (q .horizonFrom) (fileRows file) x)
     go (Refused why at) e = t

@@ -15,13 +15,13 @@ use Rattle.rulebook.specs.declared.Section.{Section}
 use Rattle.rulebook.specs.declared.Section.the-variants.{Vesting, Meter, Residual, Ncc}
 use Rattle.rulebook.specs.declared.Terms.{Terms}
 use Rattle.rulebook.specs.declared.Verdict.the-variants.{Accepted}
+use Rattle.rulebook.specs.Terms.{InTerms}
 use Rattle.rulebook.specs.Sections.{sameSection}
 use Rattle.rulebook.specs.File.{accountAt, dayAt, rowPos, sectionEnd, meterPos, residualPos, nccPos, endPos}
 use Rattle.rulebook.specs.Judging.{limitsOf, given, rowAfter, judgedRow, judgedSection, judged}
 use Rattle.rulebook.specs.NamedRows.{NamedRow, namedRows}
 use Rattle.rulebook.specs.Encoding.{bytes, rowBytes, ofSection, sectionBytes, encoded}
 use Rattle.rulebook.specs.Proper.{Proper, sameKey, Once, ProperRows, Alike, AllAlike}
-use Rattle.rulebook.specs.FormLaws.{InTerms}
 use Rattle.rulebook.specs.ListLaws.{each-at}
 use Rattle.rulebook.specs.VerdictLaws.{up-all}
 use Rattle.rulebook.specs.PositionLaws.{pos-zero, pos-suc}

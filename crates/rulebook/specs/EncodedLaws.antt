@@ -14,13 +14,13 @@ use Rattle.rulebook.specs.declared.Section.the-variants.{Vesting, Meter,
 use Rattle.rulebook.specs.declared.Terms.{Terms}
 use Rattle.rulebook.specs.declared.Why.the-variants.{OutOfRange, DayNotOpen}
 use Rattle.rulebook.specs.declared.Verdict.the-variants.{Accepted}
+use Rattle.rulebook.specs.Terms.{InTerms}
 use Rattle.rulebook.specs.Sections.{leastCount, mostCount, perInterval}
 use Rattle.rulebook.specs.File.{num, accountBytes, countBytes, dayPos, countPos, valuesPos, accountAt, dayAt, countAt, valueAt, rowAt, rowEnd, figureOf}
 use Rattle.rulebook.specs.Judging.{openFrom, limitsOf, value, key, rest}
 use Rattle.rulebook.specs.NamedRows.{NamedRow, named}
 use Rattle.rulebook.specs.Encoding.{bytes, valueBytes, figures, heading, intervalBytes, rowBytes}
 use Rattle.rulebook.specs.Proper.{AccountOf, OpenDay, CountInRange, FigureInRange, Proper, Alike}
-use Rattle.rulebook.specs.FormLaws.{InTerms}
 use Rattle.rulebook.specs.SoundLaws.{kind-turn}
 use Rattle.rulebook.specs.ListLaws.{each-of}
 use Rattle.rulebook.specs.VerdictLaws.{up-all, field-fine}
@@ -91,7 +91,7 @@ module _ (o : Terms) (terms : InTerms o) (C : ℕ) (s : List ℕ) (at : ℕ) (r 
       × From s values (flatMap (intervalBytes r) (tabulate 48 (λ i. i)) ++ xs)
   unfolding rowBytes
   headed =
-      from-heading s (r .section) (r .account) (r .day) (r .count) at _ o (terms .accounts32) (p .account) (let l = day-within o C (r .section) (r .day) (p .day) .1 in omega arith) (p .count)
+      from-heading s (r .section) (r .account) (r .day) (r .count) at _ o (terms .accountsTo) (p .account) (let l = day-within o C (r .section) (r .day) (p .day) .1 in omega arith) (p .count)
       (from-is (append-assoc (heading (r .section) (r .account) (r .day) (r .count)) _ xs) f)
 
   ranged : (h k : ℕ) → h < 48 → k < many → FigureInRange (figureNo (r .section) k) (r .figure h (figureNo (r .section) k))

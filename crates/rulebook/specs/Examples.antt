@@ -12,7 +12,7 @@ use Rattle.rulebook.specs.declared.Section.the-variants.{Vesting, Meter,
 use Rattle.rulebook.specs.declared.Terms.{Terms}
 use Rattle.rulebook.specs.Sections.{valueInRange}
 use Rattle.rulebook.specs.Layout.{size, base, ring, intervalSize, slot, intervalWord, rowWord, flagWord}
-use Rattle.rulebook.specs.WellFormed.{rowFits, rowBlank, rowCounts, numberFits, headerFits}
+use Rattle.rulebook.specs.WellFormed.{rowFits, rowBlank, rowCounts, headerFits}
 use Rattle.rulebook.specs.File.{num, signed32, valueAt, rowEnd, rowPos, sectionEnd, sectionRows, fileRows}
 use Rattle.rulebook.specs.Judging.{rest}
 
@@ -105,7 +105,7 @@ pub record RowExamples : Type 0 where
   pub loadAbsent : rowFits Ncc (words (pos 550 ∷ pos 0 ∷ [])) ≡ false
 
 pub row-examples : RowExamples
-unfolding rowFits rowBlank rowCounts numberFits fold
+unfolding rowFits rowBlank rowCounts fold
 row-examples = record {
   absent = refl;
   noTranche = refl;
@@ -123,7 +123,7 @@ row-examples = record {
 
 -- a header, N, L, H, F, C and the words after
 abbrev headed : ℤ → ℤ → ℤ → ℤ → ℤ → ℤ → List ℤ → Bool
-headed m n l h f c rest = headerFits two (m ∷ n ∷ l ∷ h ∷ f ∷ c ∷ rest)
+headed m n l h f c rest = headerFits (m ∷ n ∷ l ∷ h ∷ f ∷ c ∷ rest)
 
 pub record Headers : Type 0 where
   pub fine : headed (pos 395) (pos 32) (pos 75) (pos 92) (pos 9497) (pos 36525) (minus 7 ∷ []) ≡ true

@@ -1,90 +1,80 @@
 -- Figures by name: of cells that agree, and of the rows in force. Assumes nothing.
-use mathlib.Core.Path.{_≡_, refl, sym, ap, _∙_, subst}
+use mathlib.Core.Path.{_≡_, refl, ap, subst}
 use mathlib.Core.Option.{Option, none, some}
-use Prim.Native.Nat.{ℕ, zero, _+_, _-_, _*_, _≤_, _<_}
+use Prim.Native.Nat.{ℕ, zero, _-_, _≤_, _<_}
 use native.Mathlib.Omega.{arith}
 use lib.IntN.{ℤ, pos}
 use lib.Dec.{T}
 use Rattle.rulebook.specs.declared.Section.{Section}
-use Rattle.rulebook.specs.declared.Section.the-variants.{Vesting, Meter, Residual, Ncc}
+use Rattle.rulebook.specs.declared.Section.the-variants.{Meter}
 use Rattle.rulebook.specs.declared.Terms.{Terms}
 use Rattle.rulebook.specs.Units.{positive, asQuantity}
-use Rattle.rulebook.specs.Sections.{accountsOf, mostCount, valueInRange, sameSection}
-use Rattle.rulebook.specs.Layout.{Entries, dataOf, width, numberWord, flag, present}
-use Rattle.rulebook.specs.File.{Row, Figure, BVQ, BVP, TVQ, TVP, MEP, IEQ, UEGQ, MQ, RVP1, RVP2, NccLoad, figureSection, figurePlace, figureOf, numberOf}
+use Rattle.rulebook.specs.Sections.{accountsOf, mostCount, valueInRange, figureSection, figurePlace}
+use Rattle.rulebook.specs.Layout.{width, present, flagIndex, figureIndex}
+use Rattle.rulebook.specs.BookData.{Entries, dataOf, entryNamed}
+use Rattle.rulebook.specs.File.{Row, Figure, BVQ, BVP, TVQ, TVP, MEP, IEQ, UEGQ, MQ, RVP1, RVP2, NccLoad, figureSection, figurePlace, numberOf}
 use Rattle.rulebook.specs.Submit.{entry}
 use Rattle.rulebook.specs.History.{RowsInForce, figureIn, countIn, dataInForce}
 use Rattle.rulebook.specs.AmountLaws.{Agree}
-use Rattle.rulebook.specs.LedgerLaws.{section-self, entryOf, entriesIn}
+use Rattle.rulebook.specs.RowWordLaws.{Usable, figure-word, flag-inside}
+use Rattle.rulebook.specs.LedgerLaws.{entryOf, entriesIn}
 use Rattle.rulebook.specs.SoundLaws.{Ranged}
-use Rattle.rulebook.specs.KeptLaws.{Kept, T-path, zero-ranged, number-ranged, entry-number, entry-flag}
+use Rattle.rulebook.specs.KeptLaws.{Kept, zero-ranged, number-ranged, entry-flag, own-figure, entry-figure}
 use Rattle.rulebook.specs.SizeLaws.{RangedEntries}
 
 -- cells that agree on day d, with few facilities, agree by name
 pub data-agree : (n : ℕ) (c c′ : Entries) (d : ℕ) → zero < n → ((s : Section) (a i j : ℕ) → a < accountsOf s n → i < 48 → j < width s → c s a d i j ≡ c′ s a d i j)
-    → ((a i : ℕ) → a < n → i < 48 → positive (c Meter a d i 0) ≤ 4) → Agree n (dataOf c) (dataOf c′) d
+    → ((a i : ℕ) → a < n → i < 48 → positive (c Meter a d i (flagIndex Meter)) ≤ 4) → Agree n (dataOf c) (dataOf c′) d
 data-agree n c c′ d p e few = record {
   accounts = λ a i ha hi. record {
-    bvq = ap asQuantity (e Vesting a i 1 ha hi (omega arith));
-    bvp = e Vesting a i 2 ha hi (omega arith);
-    tvq = λ t h. ap asQuantity (e Vesting a i (3 + 2 * t) ha hi (omega arith));
-    tvp = λ t h. e Vesting a i (4 + 2 * t) ha hi (omega arith);
-    facilities = ap positive (e Meter a i 0 ha hi (omega arith));
+    bvq = ap asQuantity (named BVQ a i tt ha hi);
+    bvp = named BVP a i tt ha hi;
+    tvq = λ t h. ap asQuantity (named (TVQ t) a i h ha hi);
+    tvp = λ t h. named (TVP t) a i h ha hi;
+    facilities = ap positive (e Meter a i (flagIndex Meter) ha hi (flag-inside Meter));
     few = few a i ha hi;
-    mep = λ k h. e Meter a i (1 + 2 * k) ha hi (omega arith);
-    ieq = λ k h. e Meter a i (2 + 2 * k) ha hi (omega arith);
-    uegq = ap asQuantity (e Residual a i 1 ha hi (omega arith));
-    mq = ap asQuantity (e Residual a i 2 ha hi (omega arith));
-    rvp1 = e Residual a i 3 ha hi (omega arith);
-    rvp2 = e Residual a i 4 ha hi (omega arith);
+    mep = λ f h. named (MEP f) a i h ha hi;
+    ieq = λ f h. named (IEQ f) a i h ha hi;
+    uegq = ap asQuantity (named UEGQ a i tt ha hi);
+    mq = ap asQuantity (named MQ a i tt ha hi);
+    rvp1 = named RVP1 a i tt ha hi;
+    rvp2 = named RVP2 a i tt ha hi;
   };
-  loads = λ i hi. ap asQuantity (e Ncc 0 i 0 (omega arith) hi (omega arith));
+  loads = λ i hi. ap asQuantity (named NccLoad 0 i tt (omega arith) hi);
 }
-
--- a row's own figure is the number at its place
-own-figure : (r : Row) (i : ℕ) (g : Figure) → r .section ≡ figureSection g → figureOf r i g ≡ numberOf r i (figurePlace g)
-unfolding figureOf
-own-figure r i g e = rw (e, T-path (sameSection (figureSection g) (figureSection g)) (section-self (figureSection g)))
+  where
+    named : (g : Figure) (a i : ℕ) → Usable g → a < accountsOf (figureSection g) n → i < 48 → entryNamed c a d i g ≡ entryNamed c′ a d i g
+    named g a i u ha hi = e (figureSection g) a i (figureIndex g) ha hi (figure-word g u .inside)
 
 module _ (o : Terms) (k : ℕ) (rows : RowsInForce) (balance : ℕ → ℤ) (q : Kept o k rows balance) (d : ℕ) where
-  -- a word of a row in force is the figure whose place in the file's order it has
-  figure-entry : (g : Figure) (a i : ℕ) → figurePlace g < width (figureSection g) - 1
-      → entriesIn rows (figureSection g) a d i (numberWord (figureSection g) (figurePlace g)) ≡ figureIn (rows (figureSection g) a d) i g
-  figure-entry g a i h = go (rows (figureSection g) a d) (q .section (figureSection g) a d)
+  -- a word of a row in force is its figure of that name
+  figure-entry : (g : Figure) (a i : ℕ) → Usable g → entryNamed (entriesIn rows) a d i g ≡ figureIn (rows (figureSection g) a d) i g
+  figure-entry g a i u = go (rows (figureSection g) a d) (q .section (figureSection g) a d)
     where
-      go : (x : Option Row) → ((r : Row) → x ≡ some r → r .section ≡ figureSection g) → entryOf x i (numberWord (figureSection g) (figurePlace g)) ≡ figureIn x i g
+      go : (x : Option Row) → ((r : Row) → x ≡ some r → r .section ≡ figureSection g) → entryOf x i (figureIndex g) ≡ figureIn x i g
       go none f = refl
-      go (some r) f =
-          let e = f r refl in
-          subst (λ (y : Section). entry r i (numberWord y (figurePlace g)) ≡ numberOf r i (figurePlace g)) e (entry-number r i (figurePlace g) (subst (λ (y : Section). figurePlace g < width y - 1) (sym e) h))
-          ∙ sym (own-figure r i g e)
+      go (some r) f = entry-figure r i g u (f r refl)
 
-  -- the same, at the word's own index
-  figure-at : (g : Figure) (a i j : ℕ) → j ≡ numberWord (figureSection g) (figurePlace g) → figurePlace g < width (figureSection g) - 1
-      → entriesIn rows (figureSection g) a d i j ≡ figureIn (rows (figureSection g) a d) i g
-  figure-at g a i j e h = ap (λ (y : ℕ). entriesIn rows (figureSection g) a d i y) e ∙ figure-entry g a i h
-
-  count-cell : (a i : ℕ) → positive (entriesIn rows Meter a d i 0) ≡ countIn (rows Meter a d)
+  count-cell : (a i : ℕ) → positive (entriesIn rows Meter a d i (flagIndex Meter)) ≡ countIn (rows Meter a d)
   count-cell a i = go (rows Meter a d) (q .section Meter a d)
     where
-      go : (x : Option Row) → ((r : Row) → x ≡ some r → r .section ≡ Meter) → positive (entryOf x i 0) ≡ countIn x
+      go : (x : Option Row) → ((r : Row) → x ≡ some r → r .section ≡ Meter) → positive (entryOf x i (flagIndex Meter)) ≡ countIn x
       go none f = refl
-      go (some r) f = ap asQuantity (subst (λ (y : Section). entry r i (flag y) ≡ pos (present y (r .count))) (f r refl) (entry-flag r i))
+      go (some r) f = ap asQuantity (subst (λ (y : Section). entry r i (flagIndex y) ≡ pos (present y (r .count))) (f r refl) (entry-flag r i))
 
-  -- the cells of the rows in force are in range
+  -- the words of the rows in force are in range
   pub rows-ranged : RangedEntries (o .accounts) (entriesIn rows) d
   rows-ranged = record {
-    ranged = λ s a i j ha hi hj. number s a i j hi hj (rows s a d) (q .section s a d) (q .ranged s a d);
+    ranged = λ g a i u ha hi. rw (figure-entry g a i u) (ranged g i hi (rows (figureSection g) a d) (q .section (figureSection g) a d) (q .ranged (figureSection g) a d));
     few = λ a i ha hi. rw (count-cell a i) (few (rows Meter a d) (q .section Meter a d) (q .ranged Meter a d));
   }
     where
-      number : (s : Section) (a i j : ℕ) → i < 48 → j < width s - 1 → (x : Option Row) → ((r : Row) → x ≡ some r → r .section ≡ s) → ((r : Row) → x ≡ some r → Ranged r)
-          → T (valueInRange s j (entryOf x i (numberWord s j)))
-      number s a i j hi hj none f g = zero-ranged s j
-      number s a i j hi hj (some r) f g =
+      ranged : (g : Figure) (i : ℕ) → i < 48 → (x : Option Row) → ((r : Row) → x ≡ some r → r .section ≡ figureSection g) → ((r : Row) → x ≡ some r → Ranged r)
+          → T (valueInRange (figureSection g) (figurePlace g) (figureIn x i g))
+      ranged g i hi none f h = zero-ranged (figureSection g) (figurePlace g)
+      ranged g i hi (some r) f h =
           let e = f r refl in
-          subst (λ (y : Section). T (valueInRange y j (entry r i (numberWord y j)))) e
-          (rw (entry-number r i j (subst (λ (y : Section). j < width y - 1) (sym e) hj)) (number-ranged r (g r refl) i j hi))
+          rw (own-figure r i g e) (subst (λ (y : Section). T (valueInRange y (figurePlace g) (numberOf r i (figurePlace g)))) e (number-ranged r (h r refl) i (figurePlace g) hi))
 
       few : (x : Option Row) → ((r : Row) → x ≡ some r → r .section ≡ Meter) → ((r : Row) → x ≡ some r → Ranged r) → countIn x ≤ 4
       few none f g = omega arith
@@ -94,18 +84,18 @@ module _ (o : Terms) (k : ℕ) (rows : RowsInForce) (balance : ℕ → ℤ) (q :
   pub rows-agree : Agree (o .accounts) (dataOf (entriesIn rows)) (dataInForce rows) d
   rows-agree = record {
     accounts = λ a i ha hi. record {
-      bvq = ap asQuantity (figure-entry BVQ a i (omega arith));
-      bvp = figure-entry BVP a i (omega arith);
-      tvq = λ t h. ap asQuantity (figure-at (TVQ t) a i (3 + 2 * t) (omega arith) (omega arith));
-      tvp = λ t h. figure-at (TVP t) a i (4 + 2 * t) (omega arith) (omega arith);
+      bvq = ap asQuantity (figure-entry BVQ a i tt);
+      bvp = figure-entry BVP a i tt;
+      tvq = λ t h. ap asQuantity (figure-entry (TVQ t) a i h);
+      tvp = λ t h. figure-entry (TVP t) a i h;
       facilities = count-cell a i;
       few = rows-ranged .few a i ha hi;
-      mep = λ f h. figure-at (MEP f) a i (1 + 2 * f) (omega arith) (omega arith);
-      ieq = λ f h. figure-at (IEQ f) a i (2 + 2 * f) (omega arith) (omega arith);
-      uegq = ap asQuantity (figure-entry UEGQ a i (omega arith));
-      mq = ap asQuantity (figure-entry MQ a i (omega arith));
-      rvp1 = figure-entry RVP1 a i (omega arith);
-      rvp2 = figure-entry RVP2 a i (omega arith);
+      mep = λ f h. figure-entry (MEP f) a i h;
+      ieq = λ f h. figure-entry (IEQ f) a i h;
+      uegq = ap asQuantity (figure-entry UEGQ a i tt);
+      mq = ap asQuantity (figure-entry MQ a i tt);
+      rvp1 = figure-entry RVP1 a i tt;
+      rvp2 = figure-entry RVP2 a i tt;
     };
-    loads = λ i hi. ap asQuantity (figure-entry NccLoad 0 i (omega arith));
+    loads = λ i hi. ap asQuantity (figure-entry NccLoad 0 i tt);
   }

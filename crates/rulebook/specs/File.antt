@@ -11,6 +11,8 @@ use Rattle.rulebook.specs.declared.Section.{Section}
 use Rattle.rulebook.specs.declared.Section.the-variants.{Vesting, Meter, Residual, Ncc}
 use Rattle.rulebook.specs.Units.{intervals}
 use Rattle.rulebook.specs.Sections.{perInterval, sameSection}
+-- the figures' names
+pub use Rattle.rulebook.specs.Sections.{Figure, BVQ, BVP, TVQ, TVP, MEP, IEQ, UEGQ, MQ, RVP1, RVP2, NccLoad, figureSection, figurePlace}
 
 -- ---- Fields
 
@@ -130,42 +132,6 @@ numberOf row i k = cond (ltb k (perInterval (row .section) (row .count)))
     (word (row .numbers) (i * perInterval (row .section) (row .count) + k)) (pos 0)
 
 -- ---- Figures of a row, by document 01's names
-
--- tender t of 0 to 2, facility f of 0 to 3
-pub data Figure : Type 0 where
-  BVQ BVP : Figure
-  TVQ TVP : ℕ → Figure
-  MEP IEQ : ℕ → Figure
-  UEGQ MQ RVP1 RVP2 : Figure
-  NccLoad : Figure
-
--- whose rows have it
-abbrev pub figureSection : Figure → Section
-figureSection BVQ = Vesting
-figureSection BVP = Vesting
-figureSection (TVQ t) = Vesting
-figureSection (TVP t) = Vesting
-figureSection (MEP f) = Meter
-figureSection (IEQ f) = Meter
-figureSection UEGQ = Residual
-figureSection MQ = Residual
-figureSection RVP1 = Residual
-figureSection RVP2 = Residual
-figureSection NccLoad = Ncc
-
--- which of its interval's numbers it is
-abbrev pub figurePlace : Figure → ℕ
-figurePlace BVQ = 0
-figurePlace BVP = 1
-figurePlace (TVQ t) = 2 + 2 * t
-figurePlace (TVP t) = 3 + 2 * t
-figurePlace (MEP f) = 2 * f
-figurePlace (IEQ f) = 1 + 2 * f
-figurePlace UEGQ = 0
-figurePlace MQ = 1
-figurePlace RVP1 = 2
-figurePlace RVP2 = 3
-figurePlace NccLoad = 0
 
 -- a row's figure at interval i; zero where the row has no such figure
 unfoldable pub figureOf : Row → ℕ → Figure → ℤ

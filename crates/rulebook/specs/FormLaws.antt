@@ -1,38 +1,33 @@
 -- A book that holds a fitting ledger is well formed. Assumes nothing.
 use mathlib.Core.Path.{_≡_, refl, ap, _∙_}
-use mathlib.Core.Bool.{Bool, true, false, cond, _&&_, _||_, not}
+use mathlib.Core.Bool.{Bool, true, false, _&&_, _||_, not}
 use mathlib.Core.List.{List}
 use Prim.Native.Nat.{ℕ, zero, suc, _+_, _-_, _*_, _≤_, _<_}
-use native.Mathlib.Nat.{mod-lt, add-sub-cancel-left, add-mod-right, one-mul}
+use native.Mathlib.Nat.{mod-lt, add-sub-cancel-left, one-mul}
 use native.Mathlib.Omega.{arith}
 use native.Mathlib.Decide.{decLe}
 use lib.IntN.{ℤ, pos, natAbs}
 use lib.Dec.{T, ltb, le→leb, ltb→lt, nltb→le}
-use lib.ListN.{length}
+use lib.ListN.{length, getD}
 use Rattle.integer.specs.Below.{all, any}
 use Rattle.integer.specs.Words.{word}
 use Rattle.rulebook.specs.declared.Section.{Section}
 use Rattle.rulebook.specs.declared.Section.the-variants.{Vesting, Meter, Residual, Ncc}
 use Rattle.rulebook.specs.declared.Terms.{Terms}
 use Rattle.rulebook.specs.Units.{lastDay, between, positive}
-use Rattle.rulebook.specs.Sections.{accountsOf, mostCount, perInterval, valueInRange}
-use Rattle.rulebook.specs.Layout.{width, flag, intervalSize, ring, size, slot, intervalWord, rowWord, windowSlot, numberWord, termsOf, nextDay}
-use Rattle.rulebook.specs.WellFormed.{isZero, rowFits, rowBlank, rowCounts, numberFits, isThere, intervalBlank, slotBlank, slotRow, accountWordsFit, intervalFits, bothThere, closedRowsThere, windowSlotFits, accountFits, balanceFits, headerFits, fits, wellFormed, dayBound}
-use Rattle.rulebook.specs.TestLaws.{all-same, any-same, all-yes, between-yes, cond-yes}
+use Rattle.rulebook.specs.Terms.{InTerms}
+use Rattle.rulebook.specs.Sections.{accountsOf, mostCount}
+use Rattle.rulebook.specs.Layout.{width, intervalSize, ring, size, slot, intervalWord, rowWord, Word, spare, isSpare, intervalTable, accountTable, intervalWords, accountWords, accountPlace, wordName, flagIndex, msslWord, markWord, accountsWord, lagWord, horizonWord, firstDayWord, nextDayWord, balanceWord, accountSpare, headerSpare, headerSpares, accountSpares}
+use Rattle.rulebook.specs.BookData.{termsOf, nextDay}
+use Rattle.rulebook.specs.WellFormed.{isZero, rowFits, rowBlank, rowCounts, wordFits, sparesZero, isThere, intervalBlank, slotBlank, slotRow, accountWordsFit, intervalFits, bothThere, closedRowsThere, accountFits, balanceFits, headerFits, fits, wellFormed, dayBound}
+use Rattle.rulebook.specs.TestLaws.{all-same, any-same, all-yes, between-yes, cond-yes, and-both, or-cases, nor-left}
+use Rattle.rulebook.specs.RowWordLaws.{flag-inside}
+use Rattle.rulebook.specs.WindowWalk.{windowSlot, windowSlotFits}
 use Rattle.rulebook.specs.LayoutLaws.{InWindow}
-use Rattle.rulebook.specs.LedgerLaws.{Ledger, Holds, Padding, third, fourth, cell, and-both}
-use Rattle.rulebook.specs.KeptLaws.{flag-inside, number-inside, Cover, ofRow, ofPadding, cover}
-
--- an accepted opening's terms
-pub record InTerms (o : Terms) : Type 0 where
-  pub accounts1 : 1 ≤ o .accounts
-  pub accounts32 : o .accounts ≤ 32
-  pub lag1 : 1 ≤ o .lag
-  pub lag75 : o .lag ≤ 75
-  pub horizon1 : 1 ≤ o .horizon
-  pub horizon92 : o .horizon ≤ 92
-  pub first1 : 9497 ≤ o .first
-  pub last : o .first ≤ lastDay
+use Rattle.rulebook.specs.RingLaws.{place-slot, place-day}
+use Rattle.rulebook.specs.WalkLaws.{walk-days}
+use Rattle.rulebook.specs.LedgerLaws.{Ledger, Holds, Padding, ofInterval, ofAccount}
+use Rattle.rulebook.specs.CoverLaws.{Cover, ofRow, ofPadding, cover}
 
 pub ring-pos : (o : Terms) → InTerms o → zero < ring o
 unfolding ring
@@ -40,19 +35,6 @@ ring-pos o t = omega arith
 
 pub zero-yes : {z : ℤ} → z ≡ pos 0 → T (isZero z)
 zero-yes e = rw e tt
-
--- either side of a test
-pub or-cases : {X : Type 0} (a b : Bool) → T (a || b) → (T a → X) → (T b → X) → X
-or-cases true b t f g = f tt
-or-cases false b t f g = g t
-
-pub nor-left : (a b : Bool) → T (not (a || b)) → T (not a)
-nor-left true b t = t
-nor-left false b t = tt
-
-pub nor-right : (a b : Bool) → T (not (a || b)) → T (not b)
-nor-right true b t = absurd t
-nor-right false b t = t
 
 not-or : (a b : Bool) → (T a → T b) → T (not a || b)
 not-or true b f = f tt
@@ -62,22 +44,27 @@ not-or false b f = tt
 pub record Fit (o : Terms) (b : Ledger) : Type 0 where
   pub rows : (s : Section) (a d i : ℕ) → InWindow o (b .closed) d → a < accountsOf s (o .accounts) → i < 48 → T (rowFits s (b .entries s a d i))
   pub undated : (s : Section) (a d i j : ℕ) → InWindow o (b .closed) d → lastDay < d → a < accountsOf s (o .accounts) → i < 48 → j < width s → b .entries s a d i j ≡ pos 0
-  pub vestings : (a d i : ℕ) → InWindow o (b .closed) d → d < o .first + b .closed → a < o .accounts → i < 48 → T (not (isZero (b .entries Vesting a d i 0)))
-  pub meters : (a d i : ℕ) → InWindow o (b .closed) d → d < o .first + b .closed → a < o .accounts → i < 48 → T (not (isZero (b .entries Meter a d i 0)))
+  pub vestings : (a d i : ℕ) → InWindow o (b .closed) d → d < o .first + b .closed → a < o .accounts → i < 48 → T (not (isZero (b .entries Vesting a d i (flagIndex Vesting))))
+  pub meters : (a d i : ℕ) → InWindow o (b .closed) d → d < o .first + b .closed → a < o .accounts → i < 48 → T (not (isZero (b .entries Meter a d i (flagIndex Meter))))
   pub bounded : (a : ℕ) → a < o .accounts → natAbs (b .balance a) ≤ b .closed * dayBound
   pub mssl : natAbs (b .mssl) ≤ o .accounts * (b .closed * dayBound)
   pub begun : o .first + b .closed ≤ suc lastDay
 
 -- rows with the same words fit alike
 pub fits-same : (s : Section) (f g : ℕ → ℤ) → ((j : ℕ) → j < width s → f j ≡ g j) → T (rowFits s g) → T (rowFits s f)
-unfolding rowFits rowBlank rowCounts numberFits
+unfolding rowFits rowBlank rowCounts
 fits-same s f g e t =
     let blank : rowBlank s f ≡ rowBlank s g = all-same (width s) (λ j. isZero (f j)) (λ j. isZero (g j)) (λ j hj. ap isZero (e j hj)) in
-    let numbers : (c : ℕ) → all (width s - 1) (numberFits s f c) ≡ all (width s - 1) (numberFits s g c)
-    = λ c. all-same (width s - 1) (numberFits s f c) (numberFits s g c) (λ i hi. ap (λ (z : ℤ). cond (ltb i (perInterval s c)) (valueInRange s i z) (isZero z)) (e (numberWord s i) (number-inside s i hi))) in
+    let words : (c : ℕ) → all (width s) (λ j. wordFits s c (wordName s j) (f j)) ≡ all (width s) (λ j. wordFits s c (wordName s j) (g j))
+    = λ c. all-same (width s) (λ j. wordFits s c (wordName s j) (f j)) (λ j. wordFits s c (wordName s j) (g j)) (λ j hj. ap (wordFits s c (wordName s j)) (e j hj)) in
     let counts : any (suc (mostCount s)) (rowCounts s f) ≡ any (suc (mostCount s)) (rowCounts s g)
-    = any-same (suc (mostCount s)) (rowCounts s f) (rowCounts s g) (λ c hc. rw (e (flag s) (flag-inside s), numbers c)) in
+    = any-same (suc (mostCount s)) (rowCounts s f) (rowCounts s g) (λ c hc. rw (words c)) in
     rw (blank, counts) t
+
+-- a table's spare words
+spares-zero : (table : List Word) (f : ℕ → ℤ) → ((q : ℕ) → q < length table → T (isSpare (getD table q spare)) → T (isZero (f q))) → T (sparesZero table f)
+unfolding sparesZero
+spares-zero table f h = all-yes (length table) (λ q. not (isSpare (getD table q spare)) || isZero (f q)) (λ q hq. not-or (isSpare (getD table q spare)) (isZero (f q)) (h q hq))
 
 module _ (o : Terms) (t : InTerms o) (b : Ledger) (w : List ℤ) (h : Holds o b w) (q : Fit o b) where
   abbrev k : ℕ
@@ -92,14 +79,12 @@ module _ (o : Terms) (t : InTerms o) (b : Ledger) (w : List ℤ) (h : Holds o b 
     day = o .first + (k + u - o .lag)
 
     day-slot : windowSlot o k u ≡ slot o day
-    unfolding windowSlot slot ring day
-    day-slot =
-        let e : k + u + o .horizon ≡ (o .first + (k + u - o .lag) - o .first) + (o .lag + o .horizon) = omega arith in
-        rw e (add-mod-right (o .first + (k + u - o .lag) - o .first) (o .lag + o .horizon))
+    unfolding day
+    day-slot = place-slot o k u hu late
 
     day-window : InWindow o k day
-    unfolding day ring
-    day-window = omega arith
+    unfolding day
+    day-window = place-day o k u hu late
 
     slot-row : (s : Section) (a i j : ℕ) → a < accountsOf s (o .accounts) → i < 48 → j < width s
         → slotRow o w (windowSlot o k u) i s a j ≡ b .entries s a day i j
@@ -116,7 +101,7 @@ module _ (o : Terms) (t : InTerms o) (b : Ledger) (w : List ℤ) (h : Holds o b 
     cell-fits : (a i : ℕ) → a < o .accounts → i < 48 → T (accountWordsFit o w (windowSlot o k u) i a)
     unfolding accountWordsFit
     cell-fits a i ha hi =
-        let x = slot-padding i (27 + 24 * a) hi (cell a ha) in
+        let x = spares-zero accountTable (λ q. word w (intervalWord o (windowSlot o k u) i (accountPlace a q))) (λ q hq t. slot-padding i (accountPlace a q) hi (ofAccount a q ha hq t)) in
         let v = section-fits Vesting a i ha hi in
         let m = section-fits Meter a i ha hi in
         let r = section-fits Residual a i ha hi in
@@ -125,8 +110,7 @@ module _ (o : Terms) (t : InTerms o) (b : Ledger) (w : List ℤ) (h : Holds o b 
     interval-fits : (i : ℕ) → i < 48 → T (intervalFits o w (windowSlot o k u) i)
     unfolding intervalFits
     interval-fits i hi =
-        let x = slot-padding i 2 hi third in
-        let y = slot-padding i 3 hi fourth in
+        let x = spares-zero intervalTable (λ q. word w (intervalWord o (windowSlot o k u) i q)) (λ q hq t. slot-padding i q hi (ofInterval q hq t)) in
         let n = section-fits Ncc 0 i (omega arith) hi in
         let c = all-yes (o .accounts) (accountWordsFit o w (windowSlot o k u) i) (λ a ha. cell-fits a i ha hi) in
         search and-both
@@ -135,10 +119,10 @@ module _ (o : Terms) (t : InTerms o) (b : Ledger) (w : List ℤ) (h : Holds o b 
     unfolding closedRowsThere bothThere isThere day
     closed-there x i hi = all-yes (o .accounts) (bothThere o w (windowSlot o k u) i) (λ a ha. and-both
         (isThere o w Vesting a (windowSlot o k u) i) (isThere o w Meter a (windowSlot o k u) i)
-        (rw (slot-row Vesting a i 0 ha hi (omega arith)) (q .vestings a day i day-window (omega arith) ha hi))
-        (rw (slot-row Meter a i 0 ha hi (omega arith)) (q .meters a day i day-window (omega arith) ha hi)))
+        (rw (slot-row Vesting a i (flagIndex Vesting) ha hi (flag-inside Vesting)) (q .vestings a day i day-window (omega arith) ha hi))
+        (rw (slot-row Meter a i (flagIndex Meter) ha hi (flag-inside Meter)) (q .meters a day i day-window (omega arith) ha hi)))
 
-    past-blank : lastDay < day → (i m : ℕ) → i < 48 → m < 4 + 24 * o .accounts → word w (intervalWord o (windowSlot o k u) i m) ≡ pos 0
+    past-blank : lastDay < day → (i m : ℕ) → i < 48 → m < intervalWords + accountWords * o .accounts → word w (intervalWord o (windowSlot o k u) i m) ≡ pos 0
     unfolding windowSlot
     past-blank x i m hi hm = go (cover (o .accounts) m hm)
       where
@@ -171,36 +155,37 @@ module _ (o : Terms) (t : InTerms o) (b : Ledger) (w : List ℤ) (h : Holds o b 
           (not-or (ltb u (o .lag)) (all 48 (closedRowsThere o w (windowSlot o k u)))
           (λ z. all-yes 48 (closedRowsThere o w (windowSlot o k u)) (closed-there u hu y (ltb→lt u (o .lag) z))))
 
-  header-fits : T (headerFits o w)
+  header-fits : T (headerFits w)
   unfolding headerFits
   header-fits =
-      let m : T (between (pos 395) (pos 395) (word w 0)) = rw (h .mark) tt in
-      let a : T (between (pos 1) (pos 32) (word w 1)) = rw (h .accounts) (between-yes 1 32 (o .accounts) (omega arith) (omega arith)) in
-      let l : T (between (pos 1) (pos 75) (word w 2)) = rw (h .lag) (between-yes 1 75 (o .lag) (omega arith) (omega arith)) in
-      let z : T (between (pos 1) (pos 92) (word w 3)) = rw (h .horizon) (between-yes 1 92 (o .horizon) (omega arith) (omega arith)) in
-      let f : T (between (pos 9497) (pos 36524) (word w 4)) = rw (h .first) (between-yes 9497 36524 (o .first) (omega arith) (omega arith)) in
-      let c : T (between (word w 4) (pos 36525) (word w 5)) = rw (h .first, h .next) (between-yes (o .first) 36525 (o .first + k) (omega arith) (omega (arith, q .begun))) in
-      let s : T (all 57 (λ n. isZero (word w (7 + n)))) = all-yes 57 (λ n. isZero (word w (7 + n))) (λ n hn. zero-yes (h .spare n hn)) in
+      let m : T (between (pos 395) (pos 395) (word w markWord)) = rw (h .mark) tt in
+      let a : T (between (pos 1) (pos 32) (word w accountsWord)) = rw (h .accounts) (between-yes 1 32 (o .accounts) (omega arith) (omega arith)) in
+      let l : T (between (pos 1) (pos 75) (word w lagWord)) = rw (h .lag) (between-yes 1 75 (o .lag) (omega arith) (omega arith)) in
+      let z : T (between (pos 1) (pos 92) (word w horizonWord)) = rw (h .horizon) (between-yes 1 92 (o .horizon) (omega arith) (omega arith)) in
+      let f : T (between (pos 9497) (pos 36524) (word w firstDayWord)) = rw (h .first) (between-yes 9497 36524 (o .first) (omega arith) (omega arith)) in
+      let c : T (between (word w firstDayWord) (pos 36525) (word w nextDayWord)) = rw (h .first, h .next) (between-yes (o .first) 36525 (o .first + k) (omega arith) (omega (arith, q .begun))) in
+      let s : T (all headerSpares (λ n. isZero (word w (headerSpare n)))) = all-yes headerSpares (λ n. isZero (word w (headerSpare n))) (λ n hn. zero-yes (h .spare n hn)) in
       search and-both depth 8
 
-  account-fits : (a : ℕ) → a < o .accounts → T (accountFits o w k a)
+  account-fits : (a : ℕ) → a < o .accounts → T (accountFits w k a)
   unfolding accountFits balanceFits
-  account-fits a ha = and-both (balanceFits o w 1 k (word w (64 + 8 * a))) (all 7 (λ j. isZero (word w (65 + 8 * a + j))))
+  account-fits a ha = and-both (balanceFits 1 k (word w (balanceWord a))) (all accountSpares (λ j. isZero (word w (accountSpare a j))))
       (rw (h .balances a ha) (le→leb (natAbs (b .balance a)) (1 * (k * dayBound)) (rw one-mul (q .bounded a ha))))
-      (all-yes 7 (λ j. isZero (word w (65 + 8 * a + j))) (λ j hj. zero-yes (h .spares a j ha hj)))
+      (all-yes accountSpares (λ j. isZero (word w (accountSpare a j))) (λ j hj. zero-yes (h .spares a j ha hj)))
 
-  mssl-fits : T (balanceFits o w (o .accounts) k (word w 6))
+  mssl-fits : T (balanceFits (o .accounts) k (word w msslWord))
   unfolding balanceFits
   mssl-fits = rw (h .mssl) (le→leb (natAbs (b .mssl)) (o .accounts * (k * dayBound)) (q .mssl))
 
-  fits-yes : T (fits o w k)
+  fits-yes : T (fits o w (o .first + k))
   unfolding fits
   fits-yes =
+      let n : o .first + k - o .first ≡ k = add-sub-cancel-left (o .first) k in
       let a = header-fits in
       let l = le→leb (size o) (length w) (h .long) in
-      let c = mssl-fits in
-      let d = all-yes (o .accounts) (accountFits o w k) account-fits in
-      let e = all-yes (ring o) (windowSlotFits o w k) window-fits in
+      let c : T (balanceFits (o .accounts) (o .first + k - o .first) (word w msslWord)) = rw n mssl-fits in
+      let d : T (all (o .accounts) (accountFits w (o .first + k - o .first))) = rw n (all-yes (o .accounts) (accountFits w k) account-fits) in
+      let e = walk-days o w k (t .horizonFrom) (all-yes (ring o) (windowSlotFits o w k) window-fits) in
       search and-both depth 6
 
   pub terms-of : termsOf w ≡ o
@@ -211,6 +196,4 @@ module _ (o : Terms) (t : InTerms o) (b : Ledger) (w : List ℤ) (h : Holds o b 
 
   pub well-formed : T (wellFormed w)
   unfolding wellFormed
-  well-formed =
-      let e : nextDay w - termsOf w .first ≡ k = rw (h .first, h .next) (add-sub-cancel-left (o .first) k) in
-      rw (e, terms-of) fits-yes
+  well-formed = rw (terms-of, next-day) fits-yes

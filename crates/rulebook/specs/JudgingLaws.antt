@@ -20,7 +20,7 @@ use Rattle.rulebook.specs.Units.{inRange}
 use Rattle.rulebook.specs.Sections.{leastCount, mostCount, kindOf}
 use Rattle.rulebook.specs.File.{num, accountBytes, countBytes, dayPos, countPos, valuesPos, accountAt, dayAt, valuesIn, valueAt, rowPos, rowsIn, meterPos, residualPos, nccPos, endPos}
 use Rattle.rulebook.specs.Judging.{openFrom, require, _andThen_, upTo, fieldIn, value, key, given, rest, rowAfter, judgedRow, judgedSection, judged}
-use Rattle.rulebook.specs.WordLaws.{below-suc}
+use Rattle.rulebook.specs.TestLaws.{below-suc}
 
 -- ---- Checks
 

@@ -1,13 +1,12 @@
 -- The rows in force are in range, of days not past the window, and complete for closed days; a book that holds such rows is well formed. Assumes nothing.
 use mathlib.Core.Path.{_≡_, refl, sym, ap, _∙_, subst}
 use mathlib.Core.Logic.{_≢_, _⊎_, inl, inr}
-use mathlib.Core.Bool.{Bool, true, false, cond, _&&_, not}
+use mathlib.Core.Bool.{Bool, true, false, cond, not}
 use mathlib.Core.Option.{Option, none, some}
-use Prim.Native.Nat.{ℕ, zero, suc, _+_, _-_, _*_, _/_, _%_, _≤_, _<_}
+use Prim.Native.Nat.{ℕ, zero, suc, _+_, _-_, _*_, _≤_, _<_}
 use native.Mathlib.Omega.{arith}
-use native.Mathlib.Decide.{ℕ-discrete, decLt}
 use lib.IntN.{ℤ, pos, natAbs}
-use lib.Dec.{T, eqb, leb, ltb, eqb-refl, leb→le, le→leb, ltb→lt, eqb·suc-zero, not-T}
+use lib.Dec.{T, leb, ltb, leb→le, le→leb, ltb→lt, not-T}
 use Rattle.integer.specs.Below.{all, any}
 use Rattle.integer.specs.Words.{word}
 use Rattle.rulebook.specs.declared.Section.{Section}
@@ -15,15 +14,17 @@ use Rattle.rulebook.specs.declared.Section.the-variants.{Vesting, Meter,
 use Rattle.rulebook.specs.declared.Kind.{Kind}
 use Rattle.rulebook.specs.declared.Kind.the-variants.{Quantity, Price, Injection, Load}
 use Rattle.rulebook.specs.declared.Terms.{Terms}
-use Rattle.rulebook.specs.Units.{lastDay, inRange, between}
-use Rattle.rulebook.specs.Sections.{accountsOf, kindOf, perInterval, leastCount, mostCount, valueInRange}
-use Rattle.rulebook.specs.Layout.{width, place, flag, numberWord, numberIndex, present}
-use Rattle.rulebook.specs.WellFormed.{dayBound, isZero, rowFits, rowBlank, rowCounts, numberFits}
-use Rattle.rulebook.specs.File.{Row, numberOf}
-use Rattle.rulebook.specs.Submit.{entry}
+use Rattle.rulebook.specs.Units.{lastDay, inRange}
+use Rattle.rulebook.specs.Sections.{kindOf, perInterval, leastCount, mostCount, valueInRange, sameSection, Figure, figureSection, figurePlace}
+use Rattle.rulebook.specs.Layout.{width, place, present, Word, flag, figure, spare, flagIndex, figureIndex, wordName}
+use Rattle.rulebook.specs.WellFormed.{dayBound, isZero, rowFits, rowBlank, rowCounts, wordFits}
+use Rattle.rulebook.specs.File.{Row, numberOf, figureOf}
+use Rattle.rulebook.specs.Submit.{entry, wordOf}
 use Rattle.rulebook.specs.History.{RowsInForce}
-use Rattle.rulebook.specs.TestLaws.{or-left, or-right, all-yes, any-yes, between-yes, cond-yes}
-use Rattle.rulebook.specs.LedgerLaws.{entryOf, Padding, third, fourth, cell, and-both, and-right}
+use Rattle.rulebook.specs.TestLaws.{or-left, or-right, all-yes, any-yes, between-yes, cond-yes, and-both, and-right, T-path}
+use Rattle.rulebook.specs.SectionsLaws.{section-self}
+use Rattle.rulebook.specs.RowWordLaws.{Usable, figure-word, flag-named}
+use Rattle.rulebook.specs.LedgerLaws.{entryOf}
 use Rattle.rulebook.specs.SoundLaws.{Ranged}
 
 pub record Kept (o : Terms) (k : ℕ) (rows : RowsInForce) (balance : ℕ → ℤ) : Type 0 where
@@ -38,30 +39,18 @@ pub record Kept (o : Terms) (k : ℕ) (rows : RowsInForce) (balance : ℕ → �
 
 -- ---- a row's words at an interval
 
-flag-no : (s : Section) (k : ℕ) → k < width s - 1 → eqb (numberWord s k) (flag s) ≡ false
-flag-no Vesting k h = eqb·suc-zero k
-flag-no Meter k h = eqb·suc-zero k
-flag-no Residual k h = eqb·suc-zero k
-flag-no Ncc zero h = refl
-flag-no Ncc (suc k) h = absurd (omega arith)
+-- a row's own figure is the number at its place
+pub own-figure : (r : Row) (i : ℕ) (g : Figure) → r .section ≡ figureSection g → figureOf r i g ≡ numberOf r i (figurePlace g)
+unfolding figureOf
+own-figure r i g e = rw (e, T-path (sameSection (figureSection g) (figureSection g)) (section-self (figureSection g)))
 
-index-back : (s : Section) (k : ℕ) → numberIndex s (numberWord s k) ≡ k
-index-back Vesting k = omega arith
-index-back Meter k = omega arith
-index-back Residual k = omega arith
-index-back Ncc k = refl
-
-pub entry-number : (r : Row) (i k : ℕ) → k < width (r .section) - 1 → entry r i (numberWord (r .section) k) ≡ numberOf r i k
+pub entry-figure : (r : Row) (i : ℕ) (g : Figure) → Usable g → r .section ≡ figureSection g → entry r i (figureIndex g) ≡ figureOf r i g
 unfolding entry
-entry-number r i k h = rw (flag-no (r .section) k h, index-back (r .section) k)
+entry-figure r i g u e = rw (e, figure-word g u .named)
 
-pub T-path : (b : Bool) → T b → b ≡ true
-T-path true t = refl
-T-path false t = absurd t
-
-pub entry-flag : (r : Row) (i : ℕ) → entry r i (flag (r .section)) ≡ pos (present (r .section) (r .count))
+pub entry-flag : (r : Row) (i : ℕ) → entry r i (flagIndex (r .section)) ≡ pos (present (r .section) (r .count))
 unfolding entry
-entry-flag r i = rw (T-path (eqb (flag (r .section)) (flag (r .section))) (eqb-refl (flag (r .section))))
+entry-flag r i = rw (flag-named (r .section))
 
 zero-kind : (k : Kind) → T (inRange k (pos 0))
 zero-kind Quantity = tt
@@ -94,36 +83,35 @@ pub absent-fits : (s : Section) (f : ℕ → ℤ) → ((j : ℕ) → j < width s
 unfolding rowFits rowBlank
 absent-fits s f h = or-left (rowBlank s f) (any (suc (mostCount s)) (rowCounts s f)) (all-yes (width s) (λ j. isZero (f j)) (λ j hj. rw (h j hj) tt))
 
-pub number-inside : (s : Section) (k : ℕ) → k < width s - 1 → numberWord s k < width s
-number-inside Vesting k h = omega arith
-number-inside Meter k h = omega arith
-number-inside Residual k h = omega arith
-number-inside Ncc k h = omega arith
+-- a figure of a row is in range where the row has it, and zero where not
+figure-fits : (r : Row) → Ranged r → (i : ℕ) → i < 48 → (g : Figure)
+    → T (cond (ltb (figurePlace g) (perInterval (r .section) (r .count))) (valueInRange (r .section) (figurePlace g) (figureOf r i g)) (isZero (figureOf r i g)))
+unfolding figureOf
+figure-fits r h i hi g = go (sameSection (r .section) (figureSection g))
+  where
+    c : ℕ
+    c = perInterval (r .section) (r .count)
 
-pub flag-inside : (s : Section) → flag s < width s
-flag-inside Vesting = omega arith
-flag-inside Meter = omega arith
-flag-inside Residual = omega arith
-flag-inside Ncc = omega arith
+    go : (b : Bool) → T (cond (ltb (figurePlace g) (perInterval (r .section) (r .count))) (valueInRange (r .section) (figurePlace g) (cond b (numberOf r i (figurePlace g)) (pos 0)))
+        (isZero (cond b (numberOf r i (figurePlace g)) (pos 0))))
+    go true = cond-yes (ltb (figurePlace g) (perInterval (r .section) (r .count))) (valueInRange (r .section) (figurePlace g) (numberOf r i (figurePlace g))) (isZero (numberOf r i (figurePlace g)))
+        (λ t. number-ranged r h i (figurePlace g) hi) (λ t. rw (number-none r i (figurePlace g) t) tt)
+    go false = cond-yes (ltb (figurePlace g) (perInterval (r .section) (r .count))) (valueInRange (r .section) (figurePlace g) (pos 0)) (isZero (pos 0))
+        (λ t. zero-ranged (r .section) (figurePlace g)) (λ t. tt)
 
-numbers-fit : (r : Row) → Ranged r → (f : ℕ → ℤ) (i : ℕ) → i < 48 → ((j : ℕ) → j < width (r .section) → f j ≡ entry r i j)
-    → (k : ℕ) → k < width (r .section) - 1 → T (numberFits (r .section) f (r .count) k)
-unfolding numberFits
-numbers-fit r h f i hi e k hk =
-    let q : f (numberWord (r .section) k) ≡ numberOf r i k = e (numberWord (r .section) k) (number-inside (r .section) k hk) ∙ entry-number r i k hk in
-    cond-yes (ltb k (perInterval (r .section) (r .count))) (valueInRange (r .section) k (f (numberWord (r .section) k))) (isZero (f (numberWord (r .section) k)))
-    (λ t. rw q (number-ranged r h i k hi)) (λ t. rw (q, number-none r i k t) tt)
+word-fits : (r : Row) → Ranged r → (i : ℕ) → i < 48 → (n : Word) → T (wordFits (r .section) (r .count) n (wordOf r i n))
+word-fits r h i hi (flag s) = between-yes _ _ (present (r .section) (r .count)) (omega arith) (omega arith)
+word-fits r h i hi (figure g) = figure-fits r h i hi g
+word-fits r h i hi spare = tt
 
 pub there-fits : (r : Row) → Ranged r → (f : ℕ → ℤ) (i : ℕ) → i < 48 → ((j : ℕ) → j < width (r .section) → f j ≡ entry r i j) → T (rowFits (r .section) f)
-unfolding rowFits rowCounts
+unfolding rowFits rowCounts entry
 there-fits r h f i hi e =
     let s : Section = r .section in
     let c : ℕ = r .count in
-    let q : f (flag s) ≡ pos (present s c) = e (flag s) (flag-inside s) ∙ entry-flag r i in
     or-right (rowBlank s f) (any (suc (mostCount s)) (rowCounts s f)) (any-yes (suc (mostCount s)) (rowCounts s f) c (omega (arith, h .most))
-    (and-both (leb (leastCount s) c && between (pos (present s c)) (pos (present s c)) (f (flag s))) (all (width s - 1) (numberFits s f c))
-    (and-both (leb (leastCount s) c) (between (pos (present s c)) (pos (present s c)) (f (flag s))) (le→leb _ _ (h .least)) (rw q (between-yes _ _ (present s c) (omega arith) (omega arith))))
-    (all-yes (width s - 1) (numberFits s f c) (numbers-fit r h f i hi e))))
+    (and-both (leb (leastCount s) c) (all (width s) (λ j. wordFits s c (wordName s j) (f j))) (le→leb _ _ (h .least))
+    (all-yes (width s) (λ j. wordFits s c (wordName s j) (f j)) (λ j hj. rw (e j hj) (word-fits r h i hi (wordName s j))))))
 
 pub row-fits : (s : Section) (x : Option Row) → ((r : Row) → x ≡ some r → (r .section ≡ s) × Ranged r) → (f : ℕ → ℤ) (i : ℕ) → i < 48
     → ((j : ℕ) → j < width s → f j ≡ entryOf x i j) → T (rowFits s f)
@@ -139,40 +127,14 @@ present-more Meter (suc c) h = (c, refl)
 present-more Residual c h = (0, refl)
 present-more Ncc c h = (0, refl)
 
--- a word of an interval is a row's or padding
-pub data Cover (n m : ℕ) : Type 0 where
-  ofRow : (s : Section) (a j : ℕ) → a < accountsOf s n → j < width s → m ≡ place s a j → Cover n m
-  ofPadding : (m′ : ℕ) → Padding n m′ → m ≡ m′ → Cover n m
-
-pub cover : (n m : ℕ) → m < 4 + 24 * n → Cover n m
-cover n m h = low (decLt m 2) (ℕ-discrete m 2) (ℕ-discrete m 3)
-  where
-    a : ℕ
-    a = (m - 4) / 24
-
-    q : ℕ
-    q = (m - 4) % 24
-
-    high : 4 ≤ m → Dec (q < 9) → Dec (q < 18) → Dec (q < 23) → Cover n m
-    high b (yes x) y z = ofRow Vesting a q (omega arith) x (omega arith)
-    high b (no x) (yes y) z = ofRow Meter a (q - 9) (omega arith) (omega arith) (omega arith)
-    high b (no x) (no y) (yes z) = ofRow Residual a (q - 18) (omega arith) (omega arith) (omega arith)
-    high b (no x) (no y) (no z) = ofPadding (27 + 24 * a) (cell a (omega arith)) (omega arith)
-
-    low : Dec (m < 2) → Dec (m ≡ 2) → Dec (m ≡ 3) → Cover n m
-    low (yes x) y z = ofRow Ncc 0 m (omega arith) x (omega arith)
-    low (no x) (yes y) z = ofPadding 2 third y
-    low (no x) (no y) (yes z) = ofPadding 3 fourth z
-    low (no x) (no y) (no z) = high (omega arith) (decLt q 9) (decLt q 18) (decLt q 23)
-
 pub none-or : {A : Type 0} (x : Option A) → (x ≡ none) ⊎ ((r : A) × (x ≡ some r))
 none-or none = inl refl
 none-or (some r) = inr (r, refl)
 
-pub flag-more : (s : Section) (i : ℕ) (r : Row) → r .section ≡ s → Ranged r → (n : ℕ) × (entry r i (flag s) ≡ pos (suc n))
+pub flag-more : (s : Section) (i : ℕ) (r : Row) → r .section ≡ s → Ranged r → (n : ℕ) × (entry r i (flagIndex s) ≡ pos (suc n))
 flag-more s i r e h =
     let x = present-more (r .section) (r .count) (h .least) in
-    (x .0, subst (λ (y : Section). entry r i (flag y) ≡ pos (suc (x .0))) e (entry-flag r i ∙ ap pos (x .1)))
+    (x .0, subst (λ (y : Section). entry r i (flagIndex y) ≡ pos (suc (x .0))) e (entry-flag r i ∙ ap pos (x .1)))
 
 pub nonzero : {z : ℤ} {n : ℕ} → z ≡ pos (suc n) → T (not (isZero z))
 nonzero {z} {n} e = rw e (not-T (isZero (pos (suc n))) (λ x. not-zero (leb→le (suc n) 0 (and-right (leb 0 (suc n)) (leb (suc n) 0) x))))

@@ -1,14 +1,16 @@
 -- Document 01, "The book": where each word stands. No later chapter has a word's index. Assumes nothing.
-use mathlib.Core.List.{List}
-use Prim.Native.Nat.{ℕ, zero, suc, _+_, _-_, _*_, _%_}
+use mathlib.Core.Bool.{Bool, true, false}
+use mathlib.Core.List.{List, [], _∷_}
+use Prim.Native.Nat.{ℕ, zero, suc, _+_, _-_, _*_, _%_, min, max}
 use lib.IntN.{ℤ}
-use lib.ListN.{set}
+use lib.Dec.{eqb}
+use lib.ListN.{length, getD, set}
 use Rattle.integer.specs.Words.{word}
 use Rattle.rulebook.specs.declared.Section.{Section}
 use Rattle.rulebook.specs.declared.Section.the-variants.{Vesting, Meter, Residual, Ncc}
 use Rattle.rulebook.specs.declared.Terms.{Terms}
-use Rattle.rulebook.specs.Units.{intervals, positive, asQuantity}
-use Rattle.rulebook.specs.DayAmount.{AccountData, SettlementData}
+use Rattle.rulebook.specs.Units.{lastDay, intervals}
+use Rattle.rulebook.specs.Sections.{sameSection, Figure, BVQ, BVP, TVQ, TVP, MEP, IEQ, UEGQ, MQ, RVP1, RVP2, NccLoad, figureSection, figurePlace}
 
 -- ---- Words
 
@@ -63,62 +65,122 @@ accountSpares = 7
 abbrev pub accountSpare : ℕ → ℕ → ℕ
 accountSpare a j = 65 + 8 * a + j
 
--- ---- A row's words at an interval
+-- ---- An interval's words, by name
 
--- how many
-abbrev pub width : Section → ℕ
-width Vesting = 9
-width Meter = 9
-width Residual = 5
-width Ncc = 2
+-- a row's flag, one of its figures, or none of these: such a word is zero
+pub data Word : Type 0 where
+  flag : Section → Word
+  figure : Figure → Word
+  spare : Word
 
--- where word j of a row stands among its interval's words
-abbrev pub place : Section → ℕ → ℕ → ℕ
-place Vesting a j = 4 + 24 * a + j
-place Meter a j = 13 + 24 * a + j
-place Residual a j = 22 + 24 * a + j
-place Ncc a j = j
+-- first the interval's own
+abbrev pub intervalTable : List Word
+intervalTable = figure NccLoad ∷ flag Ncc ∷ spare ∷ spare ∷ []
 
--- the two words after the NCC row, and the word after an account's rows, are zero
-abbrev pub loadPadding : ℕ → ℕ
-loadPadding j = 2 + j
+-- then those of each account
+abbrev pub accountTable : List Word
+accountTable =
+    flag Vesting ∷ figure BVQ ∷ figure BVP ∷ figure (TVQ 0) ∷ figure (TVP 0) ∷ figure (TVQ 1) ∷ figure (TVP 1) ∷ figure (TVQ 2) ∷ figure (TVP 2)
+    ∷ flag Meter ∷ figure (MEP 0) ∷ figure (IEQ 0) ∷ figure (MEP 1) ∷ figure (IEQ 1) ∷ figure (MEP 2) ∷ figure (IEQ 2) ∷ figure (MEP 3) ∷ figure (IEQ 3)
+    ∷ flag Residual ∷ figure UEGQ ∷ figure MQ ∷ figure RVP1 ∷ figure RVP2 ∷ spare ∷ []
 
-abbrev pub paddingPlace : ℕ → ℕ
-paddingPlace a = 27 + 24 * a
+abbrev pub intervalWords : ℕ
+intervalWords = length intervalTable
 
--- which word of a row says that it is there
-abbrev pub flag : Section → ℕ
-flag Vesting = 0
-flag Meter = 0
-flag Residual = 0
-flag Ncc = 1
+abbrev pub accountWords : ℕ
+accountWords = length accountTable
 
--- the flag of a row that is there, of a count
+-- where word q of account a's stands in its interval
+abbrev pub accountPlace : ℕ → ℕ → ℕ
+accountPlace a q = intervalWords + accountWords * a + q
+
+-- the flag of a row that is there, of a count; that of a row that is absent is 0
 abbrev pub present : Section → ℕ → ℕ
-present Vesting t = 1 + t
-present Meter f = f
-present Residual c = 1
-present Ncc c = 1
+present Vesting tranches = 1 + tranches
+present Meter facilities = facilities
+present Residual count = 1
+present Ncc count = 1
 
--- where number k of a row's interval stands among the row's words, numbers in the file's order
-abbrev pub numberWord : Section → ℕ → ℕ
-numberWord Vesting k = suc k
-numberWord Meter k = suc k
-numberWord Residual k = suc k
-numberWord Ncc k = k
+-- ---- A row's words at an interval, read off the tables
 
--- and back: which number stands at word j
-abbrev pub numberIndex : Section → ℕ → ℕ
-numberIndex Vesting j = j - 1
-numberIndex Meter j = j - 1
-numberIndex Residual j = j - 1
-numberIndex Ncc j = j
+-- one more, where the test holds
+abbrev pub consIf : {A : Type 0} → Bool → A → List A → List A
+consIf true x xs = x ∷ xs
+consIf false x xs = xs
+
+-- the elements of a list that pass a test, and their places, counted from n
+abbrev pub those : {A : Type 0} → (A → Bool) → List A → List A
+those p [] = []
+those p (x ∷ xs) = consIf (p x) x (those p xs)
+
+abbrev pub placesFrom : {A : Type 0} → ℕ → (A → Bool) → List A → List ℕ
+placesFrom n p [] = []
+placesFrom n p (x ∷ xs) = consIf (p x) n (placesFrom (suc n) p xs)
+
+-- the place of the first that passes
+abbrev pub firstPlace : {A : Type 0} → (A → Bool) → List A → ℕ
+firstPlace p xs = getD (placesFrom 0 p xs) 0 0
+
+abbrev pub isFlag : Word → Bool
+isFlag (flag s) = true
+isFlag (figure g) = false
+isFlag spare = false
+
+abbrev pub isSpare : Word → Bool
+isSpare (flag s) = false
+isSpare (figure g) = false
+isSpare spare = true
+
+-- a row of section s has this word
+abbrev pub ofSection : Section → Word → Bool
+ofSection s (flag t) = sameSection t s
+ofSection s (figure g) = sameSection (figureSection g) s
+ofSection s spare = false
+
+-- the word is the figure of its row at this place
+abbrev pub ofPlace : ℕ → Word → Bool
+ofPlace k (flag t) = false
+ofPlace k (figure g) = eqb (figurePlace g) k
+ofPlace k spare = false
+
+abbrev pub tableOf : Section → List Word
+tableOf Vesting = accountTable
+tableOf Meter = accountTable
+tableOf Residual = accountTable
+tableOf Ncc = intervalTable
+
+-- a row's words in order, how many, and word j's name
+abbrev pub rowTable : Section → List Word
+rowTable s = those (ofSection s) (tableOf s)
+
+abbrev pub width : Section → ℕ
+width s = length (rowTable s)
+
+abbrev pub wordName : Section → ℕ → Word
+wordName s j = getD (rowTable s) j spare
+
+-- which of a row's words is its flag, and which a figure
+abbrev pub flagIndex : Section → ℕ
+flagIndex s = firstPlace isFlag (rowTable s)
+
+abbrev pub figureIndex : Figure → ℕ
+figureIndex g = firstPlace (ofPlace (figurePlace g)) (rowTable (figureSection g))
+
+-- where word j of a row stands in its table, and for account a in its interval
+abbrev pub tablePlace : Section → ℕ → ℕ
+tablePlace s j = getD (placesFrom 0 (ofSection s) (tableOf s)) j 0
+
+abbrev pub place : Section → ℕ → ℕ → ℕ
+place Vesting a j = accountPlace a (tablePlace Vesting j)
+place Meter a j = accountPlace a (tablePlace Meter j)
+place Residual a j = accountPlace a (tablePlace Residual j)
+place Ncc a j = tablePlace Ncc j
 
 -- ---- Slots
 
 module _ (o : Terms) where
   unfoldable pub intervalSize : ℕ
-  intervalSize = 4 + 24 * o .accounts
+  intervalSize = intervalWords + accountWords * o .accounts
 
   unfoldable pub ring : ℕ
   ring = o .lag + o .horizon
@@ -132,9 +194,15 @@ module _ (o : Terms) where
   unfoldable pub slot : ℕ → ℕ
   slot d = (d - o .first) % ring
 
-  -- the slot of day C + u − L, where k days are closed, C = F + k
-  unfoldable pub windowSlot : ℕ → ℕ → ℕ
-  windowSlot k u = (k + u + o .horizon) % ring
+  -- the window: the days that have a slot, C being the next day to close; how many they are
+  abbrev pub windowFrom : ℕ → ℕ
+  windowFrom C = max (o .first) (C - o .lag)
+
+  abbrev pub windowTo : ℕ → ℕ
+  windowTo C = min (C + o .horizon - 1) lastDay
+
+  abbrev pub windowDays : ℕ → ℕ
+  windowDays C = suc (windowTo C) - windowFrom C
 
   -- word m of interval i of slot t
   unfoldable pub intervalWord : ℕ → ℕ → ℕ → ℕ
@@ -145,43 +213,4 @@ module _ (o : Terms) where
   rowWord s a d i j = intervalWord (slot d) i (place s a j)
 
   abbrev pub flagWord : Section → ℕ → ℕ → ℕ → ℕ
-  flagWord s a d i = rowWord s a d i (flag s)
-
--- ---- A book read
-
-abbrev pub termsOf : List ℤ → Terms
-termsOf w = record { accounts = positive (word w accountsWord); lag = positive (word w lagWord); horizon = positive (word w horizonWord); first = positive (word w firstDayWord) }
-
--- C, the next day to close
-abbrev pub nextDay : List ℤ → ℕ
-nextDay w = positive (word w nextDayWord)
-
--- what stands in each row's words: section, account, day, interval, word
-abbrev pub Entries : Type 0
-Entries = Section → ℕ → ℕ → ℕ → ℕ → ℤ
-
-abbrev pub entriesOf : Terms → List ℤ → Entries
-entriesOf o w s a d i j = word w (rowWord o s a d i j)
-
--- the same by name
-abbrev pub accountDataOf : Entries → ℕ → ℕ → ℕ → AccountData
-accountDataOf c a d i = record {
-  bvq = asQuantity (c Vesting a d i 1);
-  bvp = c Vesting a d i 2;
-  tvq = λ t. asQuantity (c Vesting a d i (3 + 2 * t));
-  tvp = λ t. c Vesting a d i (4 + 2 * t);
-  facilities = positive (c Meter a d i 0);
-  mep = λ f. c Meter a d i (1 + 2 * f);
-  ieq = λ f. c Meter a d i (2 + 2 * f);
-  uegq = asQuantity (c Residual a d i 1);
-  mq = asQuantity (c Residual a d i 2);
-  rvp1 = c Residual a d i 3;
-  rvp2 = c Residual a d i 4;
-}
-
-abbrev pub dataOf : Entries → SettlementData
-dataOf c = record { account = accountDataOf c; load = λ d i. asQuantity (c Ncc 0 d i 0) }
-
--- a book's figures
-abbrev pub bookData : Terms → List ℤ → SettlementData
-bookData o w = dataOf (entriesOf o w)
+  flagWord s a d i = rowWord s a d i (flagIndex s)

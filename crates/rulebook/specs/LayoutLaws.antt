@@ -1,14 +1,17 @@
 -- Where words stand: no two words of the book have one index, and no two days of a window of L + H days one slot. Assumes nothing.
-use mathlib.Core.Path.{_≡_, refl, sym, ap, _∙_}
+use mathlib.Core.Path.{_≡_, refl, sym, ap, _∙_, subst}
+use mathlib.Core.List.{List}
 use Prim.Native.Nat.{ℕ, zero, _+_, _-_, _*_, _/_, _%_, _≤_, _<_}
 use native.Mathlib.Nat.{div-add-mod', mul-comm, add-left-cancel, mod-lt}
 use native.Mathlib.Omega.{arith}
 use lib.Arith.{digits-div, digits-mod, digits-lt}
+use lib.ListN.{length}
 use Rattle.rulebook.specs.declared.Section.{Section}
 use Rattle.rulebook.specs.declared.Section.the-variants.{Vesting, Meter, Residual, Ncc}
 use Rattle.rulebook.specs.declared.Terms.{Terms}
 use Rattle.rulebook.specs.Sections.{accountsOf}
-use Rattle.rulebook.specs.Layout.{width, place, intervalSize, ring, base, size, slot, intervalWord, rowWord}
+use Rattle.rulebook.specs.Layout.{width, place, intervalSize, ring, base, size, slot, intervalWord, rowWord, Word, tableOf, accountTable, tablePlace, accountPlace, intervalWords, accountWords}
+use Rattle.rulebook.specs.RowWordLaws.{row-word, places-apart}
 
 -- two digits of a number are its own
 pub quotient : (q q′ : ℕ) {m r r′ : ℕ} → r < m → r′ < m → q * m + r ≡ q′ * m + r′ → q ≡ q′
@@ -31,43 +34,53 @@ pub record SameRow (s : Section) (a j : ℕ) (s′ : Section) (a′ j′ : ℕ) 
   pub account : a ≡ a′
   pub word : j ≡ j′
 
-pub data Either (A B : Type 0) : Type 0 where
-  left : A → Either A B
-  right : B → Either A B
-
-pub account-words-apart : (a a′ k k′ : ℕ) → k < 24 → k′ < 24 → 24 * a + k ≡ 24 * a′ + k′ → (a ≡ a′) × (k ≡ k′)
+pub account-words-apart : (a a′ k k′ : ℕ) → k < accountWords → k′ < accountWords → accountWords * a + k ≡ accountWords * a′ + k′ → (a ≡ a′) × (k ≡ k′)
 account-words-apart a a′ k k′ h h′ e =
     let x : a * 24 + k ≡ a′ * 24 + k′ = omega arith in
     (quotient a a′ h h′ x, remainder a a′ h h′ x)
 
-apart : {X : Type 0} (a a′ k k′ : ℕ) → k < 24 → k′ < 24 → 24 * a + k ≡ 24 * a′ + k′ → (k ≡ k′ → ⊥) → X
-apart a a′ k k′ h h′ e f = absurd (f (account-words-apart a a′ k k′ h h′ e .1))
+accounts-apart : (s s′ : Section) (a a′ j j′ : ℕ) → tableOf s ≡ accountTable → tableOf s′ ≡ accountTable → j < width s → j′ < width s′
+    → accountPlace a (tablePlace s j) ≡ accountPlace a′ (tablePlace s′ j′) → SameRow s a j s′ a′ j′
+accounts-apart s s′ a a′ j j′ t t′ h h′ e =
+    let b : tablePlace s j < accountWords = subst (λ (table : List Word). tablePlace s j < length table) t (row-word s j h .inside) in
+    let b′ : tablePlace s′ j′ < accountWords = subst (λ (table : List Word). tablePlace s′ j′ < length table) t′ (row-word s′ j′ h′ .inside) in
+    let x = account-words-apart a a′ (tablePlace s j) (tablePlace s′ j′) b b′ (omega arith) in
+    let y = places-apart s s′ j j′ (t ∙ sym t′) h h′ (x .1) in
+    record { section = y .0; account = x .0; word = y .1 }
+
+-- the interval's own words stand before the accounts'
+own-before : {X : Type 0} (a j q : ℕ) → j < width Ncc → tablePlace Ncc j ≡ accountPlace a q → X
+own-before a j q h e = let x = row-word Ncc j h .inside in absurd (omega arith)
 
 pub row-words-apart : (n : ℕ) (s s′ : Section) (a a′ j j′ : ℕ) → a < accountsOf s n → a′ < accountsOf s′ n → j < width s → j′ < width s′
     → place s a j ≡ place s′ a′ j′ → SameRow s a j s′ a′ j′
-row-words-apart n Vesting Vesting a a′ j j′ b b′ h h′ e = let x = account-words-apart a a′ j j′ (omega arith) (omega arith) (omega arith) in record { section = refl; account = x .0; word = x .1 }
-row-words-apart n Vesting Meter a a′ j j′ b b′ h h′ e = apart a a′ j (9 + j′) (omega arith) (omega arith) (omega arith) (λ c. omega arith)
-row-words-apart n Vesting Residual a a′ j j′ b b′ h h′ e = apart a a′ j (18 + j′) (omega arith) (omega arith) (omega arith) (λ c. omega arith)
-row-words-apart n Vesting Ncc a a′ j j′ b b′ h h′ e = absurd (omega arith)
-row-words-apart n Meter Vesting a a′ j j′ b b′ h h′ e = apart a a′ (9 + j) j′ (omega arith) (omega arith) (omega arith) (λ c. omega arith)
-row-words-apart n Meter Meter a a′ j j′ b b′ h h′ e = let x = account-words-apart a a′ j j′ (omega arith) (omega arith) (omega arith) in record { section = refl; account = x .0; word = x .1 }
-row-words-apart n Meter Residual a a′ j j′ b b′ h h′ e = apart a a′ (9 + j) (18 + j′) (omega arith) (omega arith) (omega arith) (λ c. omega arith)
-row-words-apart n Meter Ncc a a′ j j′ b b′ h h′ e = absurd (omega arith)
-row-words-apart n Residual Vesting a a′ j j′ b b′ h h′ e = apart a a′ (18 + j) j′ (omega arith) (omega arith) (omega arith) (λ c. omega arith)
-row-words-apart n Residual Meter a a′ j j′ b b′ h h′ e = apart a a′ (18 + j) (9 + j′) (omega arith) (omega arith) (omega arith) (λ c. omega arith)
-row-words-apart n Residual Residual a a′ j j′ b b′ h h′ e = let x = account-words-apart a a′ j j′ (omega arith) (omega arith) (omega arith) in record { section = refl; account = x .0; word = x .1 }
-row-words-apart n Residual Ncc a a′ j j′ b b′ h h′ e = absurd (omega arith)
-row-words-apart n Ncc Vesting a a′ j j′ b b′ h h′ e = absurd (omega arith)
-row-words-apart n Ncc Meter a a′ j j′ b b′ h h′ e = absurd (omega arith)
-row-words-apart n Ncc Residual a a′ j j′ b b′ h h′ e = absurd (omega arith)
-row-words-apart n Ncc Ncc a a′ j j′ b b′ h h′ e = record { section = refl; account = omega arith; word = omega arith }
+row-words-apart n Vesting Vesting a a′ j j′ b b′ h h′ e = accounts-apart Vesting Vesting a a′ j j′ refl refl h h′ e
+row-words-apart n Vesting Meter a a′ j j′ b b′ h h′ e = accounts-apart Vesting Meter a a′ j j′ refl refl h h′ e
+row-words-apart n Vesting Residual a a′ j j′ b b′ h h′ e = accounts-apart Vesting Residual a a′ j j′ refl refl h h′ e
+row-words-apart n Vesting Ncc a a′ j j′ b b′ h h′ e = own-before a j′ (tablePlace Vesting j) h′ (sym e)
+row-words-apart n Meter Vesting a a′ j j′ b b′ h h′ e = accounts-apart Meter Vesting a a′ j j′ refl refl h h′ e
+row-words-apart n Meter Meter a a′ j j′ b b′ h h′ e = accounts-apart Meter Meter a a′ j j′ refl refl h h′ e
+row-words-apart n Meter Residual a a′ j j′ b b′ h h′ e = accounts-apart Meter Residual a a′ j j′ refl refl h h′ e
+row-words-apart n Meter Ncc a a′ j j′ b b′ h h′ e = own-before a j′ (tablePlace Meter j) h′ (sym e)
+row-words-apart n Residual Vesting a a′ j j′ b b′ h h′ e = accounts-apart Residual Vesting a a′ j j′ refl refl h h′ e
+row-words-apart n Residual Meter a a′ j j′ b b′ h h′ e = accounts-apart Residual Meter a a′ j j′ refl refl h h′ e
+row-words-apart n Residual Residual a a′ j j′ b b′ h h′ e = accounts-apart Residual Residual a a′ j j′ refl refl h h′ e
+row-words-apart n Residual Ncc a a′ j j′ b b′ h h′ e = own-before a j′ (tablePlace Residual j) h′ (sym e)
+row-words-apart n Ncc Vesting a a′ j j′ b b′ h h′ e = own-before a′ j (tablePlace Vesting j′) h e
+row-words-apart n Ncc Meter a a′ j j′ b b′ h h′ e = own-before a′ j (tablePlace Meter j′) h e
+row-words-apart n Ncc Residual a a′ j j′ b b′ h h′ e = own-before a′ j (tablePlace Residual j′) h e
+row-words-apart n Ncc Ncc a a′ j j′ b b′ h h′ e = record { section = refl; account = omega arith; word = places-apart Ncc Ncc j j′ refl h h′ e .1 }
+
+-- an account's word is the interval's
+pub account-inside : (n a q : ℕ) → a < n → q < accountWords → accountPlace a q < intervalWords + accountWords * n
+account-inside n a q h k = omega arith
 
 -- a row's words are the interval's
-pub row-inside : (n : ℕ) (s : Section) (a j : ℕ) → a < accountsOf s n → j < width s → place s a j < 4 + 24 * n
-row-inside n Vesting a j h k = omega arith
-row-inside n Meter a j h k = omega arith
-row-inside n Residual a j h k = omega arith
-row-inside n Ncc a j h k = omega arith
+pub row-inside : (n : ℕ) (s : Section) (a j : ℕ) → a < accountsOf s n → j < width s → place s a j < intervalWords + accountWords * n
+row-inside n Vesting a j h k = account-inside n a (tablePlace Vesting j) h (row-word Vesting j k .inside)
+row-inside n Meter a j h k = account-inside n a (tablePlace Meter j) h (row-word Meter j k .inside)
+row-inside n Residual a j h k = account-inside n a (tablePlace Residual j) h (row-word Residual j k .inside)
+row-inside n Ncc a j h k = let x = row-word Ncc j k .inside in omega arith
 
 module _ (o : Terms) where
   -- two words of intervals with one index are the same word

@@ -1,6 +1,6 @@
 -- A book's words hold a ledger: closed days, figures and balances. Storing a file's rows keeps it so. Assumes nothing.
 use mathlib.Core.Path.{_≡_, refl, sym, ap, _∙_, subst}
-use mathlib.Core.Bool.{Bool, true, false, cond, _&&_}
+use mathlib.Core.Bool.{Bool, true, false, cond}
 use mathlib.Core.List.{List, [], _∷_}
 use mathlib.Core.Option.{Option, none, some}
 use Prim.Native.Nat.{ℕ, zero, _+_, _-_, _*_, _≤_, _<_}
@@ -8,25 +8,29 @@ use native.Mathlib.Nat.{zero-add}
 use native.Mathlib.Omega.{arith}
 use lib.IntN.{ℤ, pos}
 use lib.Dec.{T, eqb→eq, eqb-refl}
-use lib.ListN.{length}
+use lib.ListN.{length, getD}
 use Rattle.integer.specs.Below.{Each}
 use Rattle.integer.specs.Words.{word}
 use Rattle.rulebook.specs.declared.Section.{Section}
 use Rattle.rulebook.specs.declared.Section.the-variants.{Vesting, Meter, Residual, Ncc}
 use Rattle.rulebook.specs.declared.Terms.{Terms}
-use Rattle.rulebook.specs.Sections.{accountsOf, sameSection}
-use Rattle.rulebook.specs.Layout.{Entries, width, place, intervalSize, ring, base, size, slot, intervalWord, rowWord, windowSlot}
+use Rattle.rulebook.specs.Sections.{accountsOf}
+use Rattle.rulebook.specs.Layout.{width, place, intervalSize, ring, base, size, slot, intervalWord, rowWord, Word, spare, isSpare, tableOf, intervalTable, accountTable, tablePlace, accountPlace, intervalWords, accountWords, markWord, accountsWord, lagWord, horizonWord, firstDayWord, nextDayWord, msslWord, balanceWord, accountSpare, headerSpare, headerSpares, accountSpares}
+use Rattle.rulebook.specs.BookData.{Entries}
 use Rattle.rulebook.specs.File.{Row}
 use Rattle.rulebook.specs.Submit.{entry, rowStored, rowsStored}
 use Rattle.rulebook.specs.History.{isFor, RowsInForce}
+use Rattle.rulebook.specs.TestLaws.{and-left, and-right, and-both}
+use Rattle.rulebook.specs.SectionsLaws.{same-section, section-self}
+use Rattle.rulebook.specs.RowWordLaws.{row-word, not-spare}
+use Rattle.rulebook.specs.WindowWalk.{windowSlot}
 use Rattle.rulebook.specs.LayoutLaws.{rows-apart, InWindow, days-apart, window-apart, interval-apart, row-inside, account-words-apart}
 use Rattle.rulebook.specs.WordLaws.{row-out, row-in, length-rowStored}
 
 -- the words of an interval that belong to no row
 pub data Padding (n : ℕ) : ℕ → Type 0 where
-  third : Padding n 2
-  fourth : Padding n 3
-  cell : (a : ℕ) → a < n → Padding n (27 + 24 * a)
+  ofInterval : (q : ℕ) → q < intervalWords → T (isSpare (getD intervalTable q spare)) → Padding n q
+  ofAccount : (a q : ℕ) → a < n → q < accountWords → T (isSpare (getD accountTable q spare)) → Padding n (accountPlace a q)
 
 -- a book told apart from its words: closed days, what stands in each row, and balances in cents
 pub record Ledger : Type 0 where
@@ -38,16 +42,16 @@ pub record Ledger : Type 0 where
 -- the words w hold the ledger b
 pub record Holds (o : Terms) (b : Ledger) (w : List ℤ) : Type 0 where
   pub long : size o ≤ length w
-  pub mark : word w 0 ≡ pos 395
-  pub accounts : word w 1 ≡ pos (o .accounts)
-  pub lag : word w 2 ≡ pos (o .lag)
-  pub horizon : word w 3 ≡ pos (o .horizon)
-  pub first : word w 4 ≡ pos (o .first)
-  pub next : word w 5 ≡ pos (o .first + b .closed)
-  pub mssl : word w 6 ≡ b .mssl
-  pub spare : (n : ℕ) → n < 57 → word w (7 + n) ≡ pos 0
-  pub balances : (a : ℕ) → a < o .accounts → word w (64 + 8 * a) ≡ b .balance a
-  pub spares : (a j : ℕ) → a < o .accounts → j < 7 → word w (65 + 8 * a + j) ≡ pos 0
+  pub mark : word w markWord ≡ pos 395
+  pub accounts : word w accountsWord ≡ pos (o .accounts)
+  pub lag : word w lagWord ≡ pos (o .lag)
+  pub horizon : word w horizonWord ≡ pos (o .horizon)
+  pub first : word w firstDayWord ≡ pos (o .first)
+  pub next : word w nextDayWord ≡ pos (o .first + b .closed)
+  pub mssl : word w msslWord ≡ b .mssl
+  pub spare : (n : ℕ) → n < headerSpares → word w (headerSpare n) ≡ pos 0
+  pub balances : (a : ℕ) → a < o .accounts → word w (balanceWord a) ≡ b .balance a
+  pub spares : (a j : ℕ) → a < o .accounts → j < accountSpares → word w (accountSpare a j) ≡ pos 0
   -- a day of the window: each word of each row
   pub held : (s : Section) (a d i j : ℕ) → InWindow o (b .closed) d → a < accountsOf s (o .accounts) → i < 48 → j < width s
       → word w (rowWord o s a d i j) ≡ b .entries s a d i j
@@ -76,42 +80,6 @@ held-same {o} {b} {c} {w} k f e m h = record {
 }
 
 -- ---- a row's key
-
-same-section : (s t : Section) → T (sameSection s t) → s ≡ t
-same-section Vesting Vesting h = refl
-same-section Vesting Meter h = absurd h
-same-section Vesting Residual h = absurd h
-same-section Vesting Ncc h = absurd h
-same-section Meter Vesting h = absurd h
-same-section Meter Meter h = refl
-same-section Meter Residual h = absurd h
-same-section Meter Ncc h = absurd h
-same-section Residual Vesting h = absurd h
-same-section Residual Meter h = absurd h
-same-section Residual Residual h = refl
-same-section Residual Ncc h = absurd h
-same-section Ncc Vesting h = absurd h
-same-section Ncc Meter h = absurd h
-same-section Ncc Residual h = absurd h
-same-section Ncc Ncc h = refl
-
-pub section-self : (s : Section) → T (sameSection s s)
-section-self Vesting = tt
-section-self Meter = tt
-section-self Residual = tt
-section-self Ncc = tt
-
-pub and-left : (a b : Bool) → T (a && b) → T a
-and-left true b t = tt
-and-left false b t = t
-
-pub and-right : (a b : Bool) → T (a && b) → T b
-and-right true b t = t
-and-right false b t = absurd t
-
-pub and-both : (a b : Bool) → T a → T b → T (a && b)
-and-both true b t u = u
-and-both false b t u = t
 
 pub record IsFor (s : Section) (a d : ℕ) (row : Row) : Type 0 where
   pub section : row .section ≡ s
@@ -151,24 +119,26 @@ abbrev pub submittedTo : List Row → Ledger → Ledger
 submittedTo rs b = record { closed = b .closed; entries = overlaid rs (b .entries); balance = b .balance; mssl = b .mssl }
 
 -- no row's word is padding, below the intervals, or in the slot of no day
-row-padding : (n : ℕ) (s : Section) (a j m : ℕ) → a < accountsOf s n → j < width s → Padding n m → m ≡ place s a j → ⊥
-row-padding n Vesting a j m ha hj third e = omega arith
-row-padding n Meter a j m ha hj third e = omega arith
-row-padding n Residual a j m ha hj third e = omega arith
-row-padding n Ncc a j m ha hj third e = omega arith
-row-padding n Vesting a j m ha hj fourth e = omega arith
-row-padding n Meter a j m ha hj fourth e = omega arith
-row-padding n Residual a j m ha hj fourth e = omega arith
-row-padding n Ncc a j m ha hj fourth e = omega arith
-row-padding n Vesting a j m ha hj (cell b hb) e = let x = account-words-apart b a 23 j (omega arith) (omega arith) (omega arith) in omega arith
-row-padding n Meter a j m ha hj (cell b hb) e = let x = account-words-apart b a 23 (9 + j) (omega arith) (omega arith) (omega arith) in omega arith
-row-padding n Residual a j m ha hj (cell b hb) e = let x = account-words-apart b a 23 (18 + j) (omega arith) (omega arith) (omega arith) in omega arith
-row-padding n Ncc a j m ha hj (cell b hb) e = omega arith
+account-padding : (s : Section) (a j b q : ℕ) → tableOf s ≡ accountTable → j < width s → q < accountWords → T (isSpare (getD accountTable q spare))
+    → accountPlace b q ≡ accountPlace a (tablePlace s j) → ⊥
+account-padding s a j b q t h hq x e =
+    let l : tablePlace s j < accountWords = subst (λ (table : List Word). tablePlace s j < length table) t (row-word s j h .inside) in
+    let y = account-words-apart b a q (tablePlace s j) hq l (omega arith) in
+    not-spare s j q h (sym (y .1)) (subst (λ (table : List Word). T (isSpare (getD table q spare))) (sym t) x)
 
-pub padding-inside : (n m : ℕ) → Padding n m → m < 4 + 24 * n
-padding-inside n m third = omega arith
-padding-inside n m fourth = omega arith
-padding-inside n m (cell a ha) = omega arith
+row-padding : (n : ℕ) (s : Section) (a j m : ℕ) → a < accountsOf s n → j < width s → Padding n m → m ≡ place s a j → ⊥
+row-padding n Vesting a j m ha hj (ofInterval q h x) e = omega arith
+row-padding n Meter a j m ha hj (ofInterval q h x) e = omega arith
+row-padding n Residual a j m ha hj (ofInterval q h x) e = omega arith
+row-padding n Ncc a j m ha hj (ofInterval q h x) e = not-spare Ncc j q hj (sym e) x
+row-padding n Vesting a j m ha hj (ofAccount b q hb h x) e = account-padding Vesting a j b q refl hj h x e
+row-padding n Meter a j m ha hj (ofAccount b q hb h x) e = account-padding Meter a j b q refl hj h x e
+row-padding n Residual a j m ha hj (ofAccount b q hb h x) e = account-padding Residual a j b q refl hj h x e
+row-padding n Ncc a j m ha hj (ofAccount b q hb h x) e = let l = row-word Ncc j hj .inside in omega arith
+
+pub padding-inside : (n m : ℕ) → Padding n m → m < intervalWords + accountWords * n
+padding-inside n m (ofInterval q h x) = omega arith
+padding-inside n m (ofAccount a q ha h x) = omega arith
 
 pub padding-fits : (o : Terms) (m : ℕ) → Padding (o .accounts) m → m < intervalSize o
 unfolding intervalSize
@@ -212,16 +182,16 @@ module _ (o : Terms) (p : zero < ring o) where
     unfolding base
     row-held w h = record {
       long = omega (arith, length-rowStored o row 48 w, h .long);
-      mark = front w 0 (omega arith) ∙ h .mark;
-      accounts = front w 1 (omega arith) ∙ h .accounts;
-      lag = front w 2 (omega arith) ∙ h .lag;
-      horizon = front w 3 (omega arith) ∙ h .horizon;
-      first = front w 4 (omega arith) ∙ h .first;
-      next = front w 5 (omega arith) ∙ h .next;
-      mssl = front w 6 (omega arith) ∙ h .mssl;
-      spare = λ n x. front w (7 + n) (omega arith) ∙ h .spare n x;
-      balances = λ a x. front w (64 + 8 * a) (omega arith) ∙ h .balances a x;
-      spares = λ a j x y. front w (65 + 8 * a + j) (omega arith) ∙ h .spares a j x y;
+      mark = front w markWord (omega arith) ∙ h .mark;
+      accounts = front w accountsWord (omega arith) ∙ h .accounts;
+      lag = front w lagWord (omega arith) ∙ h .lag;
+      horizon = front w horizonWord (omega arith) ∙ h .horizon;
+      first = front w firstDayWord (omega arith) ∙ h .first;
+      next = front w nextDayWord (omega arith) ∙ h .next;
+      mssl = front w msslWord (omega arith) ∙ h .mssl;
+      spare = λ n x. front w (headerSpare n) (omega arith) ∙ h .spare n x;
+      balances = λ a x. front w (balanceWord a) (omega arith) ∙ h .balances a x;
+      spares = λ a j x y. front w (accountSpare a j) (omega arith) ∙ h .spares a j x y;
       held = λ s a d i j x ha hi hj. decide w h s a d i j x ha hi hj (isFor s a d row) refl;
       early = λ u i m x hi hm. elsewhere w _ i m hi hm (λ j hj e f. early-apart (b .closed) u (row .day) x day e) ∙ h .early u i m x hi hm;
       padding = λ t i m ht hi hm. elsewhere w t i m hi (padding-fits o m hm)

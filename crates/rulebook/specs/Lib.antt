@@ -6,6 +6,7 @@ pub mod DayAmount
 pub mod Terms
 pub mod Sections
 pub mod Layout
+pub mod BookData
 pub mod WellFormed
 pub mod Opening
 pub mod File
@@ -32,11 +33,17 @@ pub mod SharesLaws
 pub mod TranchesLaws
 pub mod DayAmountLaws
 pub mod TestLaws
+pub mod SectionsLaws
 pub mod AmountLaws
+pub mod RowWordLaws
+pub mod WindowWalk
 pub mod LayoutLaws
 pub mod RingLaws
+pub mod WalkLaws
+pub mod WindowLaws
 pub mod WordLaws
 pub mod LedgerLaws
+pub mod CoverLaws
 pub mod FileLaws
 pub mod JudgingLaws
 pub mod SoundLaws

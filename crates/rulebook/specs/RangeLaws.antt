@@ -13,6 +13,7 @@ use Rattle.rulebook.specs.declared.Kind.the-variants.{Quantity, Injectio
 use Rattle.rulebook.specs.Units.{between, inRange}
 use Rattle.rulebook.specs.File.{Figure, BVQ, BVP, TVQ, TVP, MEP, IEQ, UEGQ, MQ, RVP1, RVP2, NccLoad}
 use Rattle.rulebook.specs.Proper.{least, most, FigureInRange}
+use Rattle.rulebook.specs.TestLaws.{T-path}
 use Rattle.rulebook.specs.IntervalLaws.{kindOfFigure}
 
 -- the test of a kind is that of the figure's two ends
@@ -32,17 +33,13 @@ kind-range NccLoad v = refl
 passes : {b : Bool} → b ≡ true → T b
 passes e = subst T (sym e) tt
 
-passed : (b : Bool) → T b → b ≡ true
-passed true t = refl
-passed false t = absurd t
-
 pub in-range : (g : Figure) (v : ℤ) → inRange (kindOfFigure g) v ≡ true → FigureInRange g v
 in-range g v e =
     let b = and-true (leZ (least g) v) (leZ v (most g)) (rw (kind-range g v) at e) in
     record { low = record { le = passes (b .0) }; high = record { le = passes (b .1) } }
 
 pub range-in : (g : Figure) (v : ℤ) → FigureInRange g v → inRange (kindOfFigure g) v ≡ true
-range-in g v f = rw (kind-range g v, passed (leZ (least g) v) (f .low .le), passed (leZ v (most g)) (f .high .le))
+range-in g v f = rw (kind-range g v, T-path (leZ (least g) v) (f .low .le), T-path (leZ v (most g)) (f .high .le))
 
 never {ℓ} : {P : Type ℓ} → false ≡ true → P
 never e = absurd (let z : _≡_ {A = ℕ} 0 1 = cc in omega arith)

@@ -4,10 +4,10 @@ use mathlib.Core.Logic.{_≢_, _⊎_, inl, inr, ⊎-elim}
 use mathlib.Core.Bool.{Bool, true, false, cond, not}
 use mathlib.Core.List.{List}
 use mathlib.Core.Option.{Option, none, some}
-use Prim.Native.Nat.{ℕ, _+_, _-_, _≤_, _<_}
+use Prim.Native.Nat.{ℕ, _+_, _-_, _<_}
 use native.Mathlib.Omega.{arith}
 use lib.IntN.{ℤ}
-use lib.Dec.{T, leb→le, le→leb}
+use lib.Dec.{T, leb→le}
 use Rattle.integer.specs.declared.Found.{Found}
 use Rattle.integer.specs.declared.Found.the-variants.{At, Nothing}
 use Rattle.integer.specs.Below.{first, orElse}
@@ -17,18 +17,20 @@ use Rattle.rulebook.specs.declared.Section.{Section}
 use Rattle.rulebook.specs.declared.Section.the-variants.{Vesting, Meter, Residual, Ncc}
 use Rattle.rulebook.specs.declared.Terms.{Terms}
 use Rattle.rulebook.specs.DayAmount.{residualDue}
+use Rattle.rulebook.specs.Terms.{InTerms}
 use Rattle.rulebook.specs.Sections.{accountsOf}
-use Rattle.rulebook.specs.Layout.{flag, rowWord, flagWord}
+use Rattle.rulebook.specs.Layout.{flagIndex, rowWord, flagWord}
 use Rattle.rulebook.specs.WellFormed.{isZero}
 use Rattle.rulebook.specs.File.{Row}
 use Rattle.rulebook.specs.Close.{absentFlag, missingAt, firstMissing}
 use Rattle.rulebook.specs.History.{RowsInForce}
 use Rattle.rulebook.specs.Demand3.{Needed, vestingOf, meterOf, nccOf, residualOf}
 use Rattle.rulebook.specs.Companion.{flagLacking}
+use Rattle.rulebook.specs.RowWordLaws.{flag-inside}
 use Rattle.rulebook.specs.LayoutLaws.{InWindow}
 use Rattle.rulebook.specs.LedgerLaws.{entriesIn, entryOf, Holds}
-use Rattle.rulebook.specs.KeptLaws.{Kept, flag-inside, none-or, flag-more, nonzero}
-use Rattle.rulebook.specs.FormLaws.{InTerms, zero-yes}
+use Rattle.rulebook.specs.KeptLaws.{Kept, none-or, flag-more, nonzero}
+use Rattle.rulebook.specs.FormLaws.{zero-yes}
 
 pub nothing-at : {X : Type 0} {v : ℕ} {x : Found} → x ≡ Nothing → x ≡ At v → X
 nothing-at e f = let z : _≡_ {A = ℕ} 0 1 = cc in absurd (omega arith)
@@ -47,23 +49,15 @@ module _ (o : Terms) (t : InTerms o) (k : ℕ) (rows : RowsInForce) (balance : �
   unfolding residualDue
   back x = let y = leb→le (o .first + o .lag) (o .first + k) x in omega arith
 
-  residual-yes : o .first + o .lag ≤ o .first + k → T (residualDue o (o .first + k))
-  unfolding residualDue
-  residual-yes x = le→leb (o .first + o .lag) (o .first + k) x
-
-  pub residual-begun : T (residualDue o (o .first + k)) → o .first + o .lag ≤ o .first + k
-  unfolding residualDue
-  residual-begun x = leb→le (o .first + o .lag) (o .first + k) x
-
   module _ (s : Section) (a d i : ℕ) (hd : InWindow o k d) (ha : a < accountsOf s (o .accounts)) (hi : i < 48) where
-    flag-word : word w (rowWord o s a d i (flag s)) ≡ entryOf (rows s a d) i (flag s)
-    flag-word = h .held s a d i (flag s) hd ha hi (flag-inside s)
+    flag-word : word w (rowWord o s a d i (flagIndex s)) ≡ entryOf (rows s a d) i (flagIndex s)
+    flag-word = h .held s a d i (flagIndex s) hd ha hi (flag-inside s)
 
     flag-none : absentFlag o w (o .first + k) s a d i ≡ Nothing → rows s a d ≢ none
     unfolding absentFlag
-    flag-none e f = go (isZero (word w (rowWord o s a d i (flag s)))) (zero-yes (flag-word ∙ ap (λ (x : Option Row). entryOf x i (flag s)) f)) e
+    flag-none e f = go (isZero (word w (rowWord o s a d i (flagIndex s)))) (zero-yes (flag-word ∙ ap (λ (x : Option Row). entryOf x i (flagIndex s)) f)) e
       where
-        go : (b : Bool) → T b → _≡_ {A = Found} (cond b (At (rowWord o s a d i (flag s))) Nothing) Nothing → ⊥
+        go : (b : Bool) → T b → _≡_ {A = Found} (cond b (At (rowWord o s a d i (flagIndex s))) Nothing) Nothing → ⊥
         go true x y = nothing-at y refl
         go false x y = x
 
@@ -71,14 +65,14 @@ module _ (o : Terms) (t : InTerms o) (k : ℕ) (rows : RowsInForce) (balance : �
     unfolding absentFlag
     flag-some v e = go (none-or (rows s a d))
       where
-        clash : (b : Bool) → T (not b) → cond b (At (rowWord o s a d i (flag s))) Nothing ≡ At v → rows s a d ≡ none
+        clash : (b : Bool) → T (not b) → cond b (At (rowWord o s a d i (flagIndex s))) Nothing ≡ At v → rows s a d ≡ none
         clash true x y = absurd x
         clash false x y = nothing-at refl y
 
         go : (rows s a d ≡ none) ⊎ ((r : Row) × (rows s a d ≡ some r)) → rows s a d ≡ none
         go (inl x) = x
-        go (inr x) = clash (isZero (word w (rowWord o s a d i (flag s))))
-            (nonzero (flag-word ∙ ap (λ (y : Option Row). entryOf y i (flag s)) (x .1) ∙ flag-more s i (x .0) (q .section s a d (x .0) (x .1)) (q .ranged s a d (x .0) (x .1)) .1)) e
+        go (inr x) = clash (isZero (word w (rowWord o s a d i (flagIndex s))))
+            (nonzero (flag-word ∙ ap (λ (y : Option Row). entryOf y i (flagIndex s)) (x .1) ∙ flag-more s i (x .0) (q .section s a d (x .0) (x .1)) (q .ranged s a d (x .0) (x .1)) .1)) e
 
   -- nothing missing: each row that is needed is there
   pub all-there : firstMissing o w (o .first + k) ≡ Nothing → (s : Section) (a d : ℕ) → Needed o (o .first + k) s a d → rows s a d ≢ none
@@ -97,14 +91,14 @@ module _ (o : Terms) (t : InTerms o) (k : ℕ) (rows : RowsInForce) (balance : �
       then true x y = orElse-nothing _ _ y
       then false x y = absurd x
 
-      tail : o .first + o .lag ≤ o .first + k → (absentFlag o w (o .first + k) Ncc 0 (o .first + k - o .lag) 0 ≡ Nothing) × (first (o .accounts) (λ a. absentFlag o w (o .first + k) Residual a (o .first + k - o .lag) 0) ≡ Nothing)
-      tail x = then (residualDue o (o .first + k)) (residual-yes x) (orElse-nothing _ _ at0 .1)
+      tail : T (residualDue o (o .first + k)) → (absentFlag o w (o .first + k) Ncc 0 (o .first + k - o .lag) 0 ≡ Nothing) × (first (o .accounts) (λ a. absentFlag o w (o .first + k) Residual a (o .first + k - o .lag) 0) ≡ Nothing)
+      tail x = then (residualDue o (o .first + k)) x (orElse-nothing _ _ at0 .1)
 
       go : {s : Section} {a d : ℕ} → Needed o (o .first + k) s a d → rows s a d ≢ none
       go (vestingOf {a = b} ha) = flag-none Vesting b (o .first + k) 0 today ha (omega arith) (orElse-nothing _ _ (vested b ha) .0)
       go (meterOf {a = b} ha) = flag-none Meter b (o .first + k) 0 today ha (omega arith) (orElse-nothing _ _ (vested b ha) .1)
-      go (nccOf x) = flag-none Ncc 0 (o .first + k - o .lag) 0 (back (residual-yes x)) (omega arith) (omega arith) (tail x .0)
-      go (residualOf {a = b} x ha) = flag-none Residual b (o .first + k - o .lag) 0 (back (residual-yes x)) ha (omega arith)
+      go (nccOf x) = flag-none Ncc 0 (o .first + k - o .lag) 0 (back x) (omega arith) (omega arith) (tail x .0)
+      go (residualOf {a = b} x ha) = flag-none Residual b (o .first + k - o .lag) 0 (back x) ha (omega arith)
           (first-nothing (o .accounts) _ (tail x .1) b ha)
 
   -- a row that is needed and not there
@@ -132,10 +126,10 @@ module _ (o : Terms) (t : InTerms o) (k : ℕ) (rows : RowsInForce) (balance : �
 
       older : (i : ℕ) → i < 48 → T (residualDue o (o .first + k))
           → (absentFlag o w (o .first + k) Ncc 0 (o .first + k - o .lag) i ≡ At v) ⊎ (first (o .accounts) (λ a. absentFlag o w (o .first + k) Residual a (o .first + k - o .lag) i) ≡ At v) → Lacking
-      older i hi r (inl y) = lack Ncc 0 (o .first + k - o .lag) i (back r) (omega arith) hi (nccOf (residual-begun r)) y
+      older i hi r (inl y) = lack Ncc 0 (o .first + k - o .lag) i (back r) (omega arith) hi (nccOf r) y
       older i hi r (inr y) =
           let z = somewhere (o .accounts) (λ a. absentFlag o w (o .first + k) Residual a (o .first + k - o .lag) i) v y in
-          lack Residual (z .0) (o .first + k - o .lag) i (back r) (z .1) hi (residualOf (residual-begun r) (z .1)) (z .2)
+          lack Residual (z .0) (o .first + k - o .lag) i (back r) (z .1) hi (residualOf r (z .1)) (z .2)
 
       residuals : (i : ℕ) → i < 48 → (b : Bool) → residualDue o (o .first + k) ≡ b
           → cond b (orElse (absentFlag o w (o .first + k) Ncc 0 (o .first + k - o .lag) i) (first (o .accounts) (λ a. absentFlag o w (o .first + k) Residual a (o .first + k - o .lag) i))) Nothing ≡ At v → Lacking
@@ -171,10 +165,10 @@ module _ (o : Terms) (t : InTerms o) (k : ℕ) (rows : RowsInForce) (balance : �
       not-zero false x = refl
 
       go : (rows s a d ≡ none) ⊎ ((r : Row) × (rows s a d ≡ some r)) → cond (isZero (word w (flagWord o s a d i))) (At (flagWord o s a d i)) Nothing ≡ flagLacking (rows s a d) (flagWord o s a d i)
-      go (inl x) = yes-zero (isZero (word w (flagWord o s a d i))) (zero-yes (flag-word s a d i hd ha hi ∙ ap (λ (y : Option Row). entryOf y i (flag s)) x))
+      go (inl x) = yes-zero (isZero (word w (flagWord o s a d i))) (zero-yes (flag-word s a d i hd ha hi ∙ ap (λ (y : Option Row). entryOf y i (flagIndex s)) x))
           ∙ ap (λ (y : Option Row). flagLacking y (flagWord o s a d i)) (sym x)
       go (inr x) = not-zero (isZero (word w (flagWord o s a d i)))
-          (nonzero (flag-word s a d i hd ha hi ∙ ap (λ (y : Option Row). entryOf y i (flag s)) (x .1) ∙ flag-more s i (x .0) (q .section s a d (x .0) (x .1)) (q .ranged s a d (x .0) (x .1)) .1))
+          (nonzero (flag-word s a d i hd ha hi ∙ ap (λ (y : Option Row). entryOf y i (flagIndex s)) (x .1) ∙ flag-more s i (x .0) (q .section s a d (x .0) (x .1)) (q .ranged s a d (x .0) (x .1)) .1))
           ∙ ap (λ (y : Option Row). flagLacking y (flagWord o s a d i)) (sym (x .1))
 
   lack : Section → ℕ → ℕ → ℕ → Found

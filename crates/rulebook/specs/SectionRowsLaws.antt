@@ -1,9 +1,9 @@
 -- The rows of one section among all rows, and those of a file by section. Assumes nothing.
-use mathlib.Core.Path.{_≡_, refl, ap, _∙_}
+use mathlib.Core.Path.{_≡_, refl, sym, ap, _∙_, subst}
 use mathlib.Core.Bool.{Bool, true, false, cond}
 use mathlib.Core.List.{List, [], _∷_, _++_, append-nil}
 use Prim.Native.Nat.{ℕ, zero, suc, _+_}
-use native.Mathlib.Omega.{arith}
+use lib.Dec.{T}
 use Rattle.integer.specs.Below.{tabulate, Each}
 use Rattle.rulebook.specs.declared.Section.{Section}
 use Rattle.rulebook.specs.declared.Section.the-variants.{Vesting, Meter, Residual, Ncc}
@@ -12,38 +12,14 @@ use Rattle.rulebook.specs.File.{rowAt, rowPos, rowsIn, sectionRows, file
 use Rattle.rulebook.specs.NamedRows.{NamedRow, named, namedRows}
 use Rattle.rulebook.specs.Encoding.{ofSection}
 use Rattle.rulebook.specs.Proper.{sameKey, Once}
+use Rattle.rulebook.specs.TestLaws.{T-path}
+use Rattle.rulebook.specs.SectionsLaws.{same-section, section-self}
 use Rattle.rulebook.specs.ListLaws.{map-tabulate, map-append}
 
--- ---- sameSection
+-- ---- ofSection
 
 pub same-self : (sec : Section) → sameSection sec sec ≡ true
-same-self Vesting = refl
-same-self Meter = refl
-same-self Residual = refl
-same-self Ncc = refl
-
-never {ℓ} : {P : Type ℓ} → false ≡ true → P
-never e = absurd (let z : _≡_ {A = ℕ} 0 1 = cc in omega arith)
-
-same-sections : (a b : Section) → sameSection a b ≡ true → b ≡ a
-same-sections Vesting Vesting e = refl
-same-sections Vesting Meter e = never e
-same-sections Vesting Residual e = never e
-same-sections Vesting Ncc e = never e
-same-sections Meter Vesting e = never e
-same-sections Meter Meter e = refl
-same-sections Meter Residual e = never e
-same-sections Meter Ncc e = never e
-same-sections Residual Vesting e = never e
-same-sections Residual Meter e = never e
-same-sections Residual Residual e = refl
-same-sections Residual Ncc e = never e
-same-sections Ncc Vesting e = never e
-same-sections Ncc Meter e = never e
-same-sections Ncc Residual e = never e
-same-sections Ncc Ncc e = refl
-
--- ---- ofSection
+same-self sec = T-path (sameSection sec sec) (section-self sec)
 
 of-one : (sec : Section) (r : NamedRow) (rs : List NamedRow) (b : Bool) → sameSection sec (r .section) ≡ b → ofSection sec (r ∷ rs) ≡ cond b (r ∷ ofSection sec rs) (ofSection sec rs)
 unfolding ofSection
@@ -87,7 +63,7 @@ of-once sec (r ∷ rs) o = by (sameSection sec (r .section)) (of-each (λ q. sam
 pub of-own : (sec : Section) (rs : List NamedRow) → Each (λ r. r .section ≡ sec) (ofSection sec rs)
 unfolding ofSection
 of-own sec [] = tt
-of-own sec (r ∷ rs) = by (sameSection sec (r .section)) (same-sections sec (r .section)) (of-own sec rs)
+of-own sec (r ∷ rs) = by (sameSection sec (r .section)) (λ e. sym (same-section sec (r .section) (subst T (sym e) tt))) (of-own sec rs)
   where
     by : (b : Bool) → (b ≡ true → r .section ≡ sec) → Each (λ r. r .section ≡ sec) (ofSection sec rs) → Each (λ r. r .section ≡ sec) (cond b (r ∷ ofSection sec rs) (ofSection sec rs))
     by true h e = (h refl, e)

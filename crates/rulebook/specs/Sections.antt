@@ -55,3 +55,41 @@ accountsOf Vesting n = n
 accountsOf Meter n = n
 accountsOf Residual n = n
 accountsOf Ncc n = 1
+
+-- ---- Figures, by document 01's names
+
+-- of tender t of 0 to 2, facility f of 0 to 3
+pub data Figure : Type 0 where
+  BVQ BVP : Figure
+  TVQ TVP : ℕ → Figure
+  MEP IEQ : ℕ → Figure
+  UEGQ MQ RVP1 RVP2 : Figure
+  NccLoad : Figure
+
+-- whose rows have it
+abbrev pub figureSection : Figure → Section
+figureSection BVQ = Vesting
+figureSection BVP = Vesting
+figureSection (TVQ t) = Vesting
+figureSection (TVP t) = Vesting
+figureSection (MEP f) = Meter
+figureSection (IEQ f) = Meter
+figureSection UEGQ = Residual
+figureSection MQ = Residual
+figureSection RVP1 = Residual
+figureSection RVP2 = Residual
+figureSection NccLoad = Ncc
+
+-- which of its interval's values it is
+abbrev pub figurePlace : Figure → ℕ
+figurePlace BVQ = 0
+figurePlace BVP = 1
+figurePlace (TVQ t) = 2 + 2 * t
+figurePlace (TVP t) = 3 + 2 * t
+figurePlace (MEP f) = 2 * f
+figurePlace (IEQ f) = 1 + 2 * f
+figurePlace UEGQ = 0
+figurePlace MQ = 1
+figurePlace RVP1 = 2
+figurePlace RVP2 = 3
+figurePlace NccLoad = 0

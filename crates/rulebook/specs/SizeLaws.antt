@@ -1,6 +1,7 @@
 -- The amounts of figures in range are in range. Assumes nothing.
+use mathlib.Core.Path.{_≡_, subst}
 use mathlib.Core.Bool.{Bool, true, false, cond}
-use Prim.Native.Nat.{ℕ, zero, suc, _+_, _-_, _*_, _≤_, _<_}
+use Prim.Native.Nat.{ℕ, _+_, _-_, _*_, _≤_, _<_, _%_}
 use native.Mathlib.Omega.{arith}
 use lib.IntN.{ℤ, pos, negsuc, _+ℤ_, _-ℤ_, _*ℤ_, natAbs}
 use lib.Dec.{T, leb, leb→le}
@@ -9,19 +10,22 @@ use Rattle.integer.specs.Below.{sumℤ}
 use Rattle.integer.specs.BelowLaws.{abs-sumℤ}
 use Rattle.integer.specs.NearestLaws.{nearest-abs}
 use Rattle.rulebook.specs.declared.Section.{Section}
-use Rattle.rulebook.specs.declared.Section.the-variants.{Vesting, Meter, Residual}
+use Rattle.rulebook.specs.declared.Section.the-variants.{Vesting, Meter}
 use Rattle.rulebook.specs.declared.Kind.the-variants.{Quantity, Price}
 use Rattle.rulebook.specs.declared.Terms.{Terms}
+use Rattle.rulebook.specs.declared.Kind.{Kind}
 use Rattle.rulebook.specs.Units.{inRange, mostQuantity, mostPrice, nearest, positive, asQuantity}
 use Rattle.rulebook.specs.Tranches.{tranche1, tranche2}
 use Rattle.rulebook.specs.DayAmount.{AccountData, SettlementData, referencePriceOf, vestingAmount, residualLoad, rvq, residualAmount, residualDue, residualDay, intervalAmount, exactAmount, postedAmount}
-use Rattle.rulebook.specs.Sections.{accountsOf, valueInRange}
-use Rattle.rulebook.specs.Layout.{Entries, dataOf, width, numberWord}
+use Rattle.rulebook.specs.Sections.{accountsOf, valueInRange, kindOf, Figure, BVQ, BVP, TVQ, TVP, MEP, UEGQ, RVP1, RVP2, figureSection, figurePlace}
+use Rattle.rulebook.specs.Layout.{flagIndex}
+use Rattle.rulebook.specs.BookData.{Entries, entryNamed, dataOf}
 use Rattle.rulebook.specs.WellFormed.{dayBound}
 use Rattle.rulebook.specs.ReferencePriceLaws.{price-size}
 use Rattle.rulebook.specs.SharesLaws.{share-le}
 use Rattle.rulebook.specs.TranchesLaws.{tranche-split}
-use Rattle.rulebook.specs.LedgerLaws.{and-left, and-right}
+use Rattle.rulebook.specs.TestLaws.{and-left, and-right}
+use Rattle.rulebook.specs.RowWordLaws.{Usable}
 
 -- ---- One interval
 
@@ -104,39 +108,33 @@ price-bound : (z : ℤ) → T (inRange Price z) → natAbs z ≤ mostPrice
 price-bound (pos n) t = leb→le n 1000000 t
 price-bound (negsuc n) t = omega (arith, leb→le n 999999 (and-left (leb n 999999) true t))
 
--- the cells of day d are in range
+-- the words of day d are in range
 pub record RangedEntries (n : ℕ) (c : Entries) (d : ℕ) : Type 0 where
-  pub ranged : (s : Section) (a i k : ℕ) → a < accountsOf s n → i < 48 → k < width s - 1 → T (valueInRange s k (c s a d i (numberWord s k)))
-  pub few : (a i : ℕ) → a < n → i < 48 → positive (c Meter a d i 0) ≤ 4
+  pub ranged : (g : Figure) (a i : ℕ) → Usable g → a < accountsOf (figureSection g) n → i < 48 → T (valueInRange (figureSection g) (figurePlace g) (entryNamed c a d i g))
+  pub few : (a i : ℕ) → a < n → i < 48 → positive (c Meter a d i (flagIndex Meter)) ≤ 4
+
+quantity-place : (s : Section) (k : ℕ) (z : ℤ) → kindOf s k ≡ Quantity → T (valueInRange s k z) → asQuantity z ≤ mostQuantity
+quantity-place s k z e t = quantity-size z (subst (λ (y : Kind). T (inRange y z)) e t)
+
+price-place : (s : Section) (k : ℕ) (z : ℤ) → kindOf s k ≡ Price → T (valueInRange s k z) → natAbs z ≤ mostPrice
+price-place s k z e t = price-bound z (subst (λ (y : Kind). T (inRange y z)) e t)
+
+-- what a place's remainder says of its kind
+even : (k : ℕ) → k % 2 ≡ 0 → (kindOf Vesting k ≡ Quantity) × (kindOf Meter k ≡ Price)
+even k e = (rw e, rw e)
+
+odd : (k : ℕ) → k % 2 ≡ 1 → kindOf Vesting k ≡ Price
+odd k e = rw e
 
 pub data-sized : (n : ℕ) (c : Entries) (d : ℕ) → RangedEntries n c d → SizedDay n (dataOf c) d
 data-sized n c d h a i ha hi = record {
-  bvq = quantity-size (c Vesting a d i 1) (h .ranged Vesting a i 0 ha hi (omega arith));
-  bvp = price-bound (c Vesting a d i 2) (h .ranged Vesting a i 1 ha hi (omega arith));
-  tvq = tvq;
-  tvp = tvp;
+  bvq = quantity-size (entryNamed c a d i BVQ) (h .ranged BVQ a i tt ha hi);
+  bvp = price-bound (entryNamed c a d i BVP) (h .ranged BVP a i tt ha hi);
+  tvq = λ t b. quantity-place Vesting (2 + 2 * t) (entryNamed c a d i (TVQ t)) (even (2 + 2 * t) (omega arith) .0) (h .ranged (TVQ t) a i b ha hi);
+  tvp = λ t b. price-place Vesting (3 + 2 * t) (entryNamed c a d i (TVP t)) (odd (3 + 2 * t) (omega arith)) (h .ranged (TVP t) a i b ha hi);
   few = h .few a i ha hi;
-  mep = mep;
-  uegq = quantity-size (c Residual a d i 1) (h .ranged Residual a i 0 ha hi (omega arith));
-  rvp1 = price-bound (c Residual a d i 3) (h .ranged Residual a i 2 ha hi (omega arith));
-  rvp2 = price-bound (c Residual a d i 4) (h .ranged Residual a i 3 ha hi (omega arith));
+  mep = λ f b. price-place Meter (2 * f) (entryNamed c a d i (MEP f)) (even (2 * f) (omega arith) .1) (h .ranged (MEP f) a i b ha hi);
+  uegq = quantity-size (entryNamed c a d i UEGQ) (h .ranged UEGQ a i tt ha hi);
+  rvp1 = price-bound (entryNamed c a d i RVP1) (h .ranged RVP1 a i tt ha hi);
+  rvp2 = price-bound (entryNamed c a d i RVP2) (h .ranged RVP2 a i tt ha hi);
 }
-  where
-    tvq : (t : ℕ) → t < 3 → asQuantity (c Vesting a d i (3 + 2 * t)) ≤ mostQuantity
-    tvq zero b = quantity-size (c Vesting a d i 3) (h .ranged Vesting a i 2 ha hi (omega arith))
-    tvq (suc zero) b = quantity-size (c Vesting a d i 5) (h .ranged Vesting a i 4 ha hi (omega arith))
-    tvq (suc (suc zero)) b = quantity-size (c Vesting a d i 7) (h .ranged Vesting a i 6 ha hi (omega arith))
-    tvq (suc (suc (suc t))) b = absurd (omega arith)
-
-    tvp : (t : ℕ) → t < 3 → natAbs (c Vesting a d i (4 + 2 * t)) ≤ mostPrice
-    tvp zero b = price-bound (c Vesting a d i 4) (h .ranged Vesting a i 3 ha hi (omega arith))
-    tvp (suc zero) b = price-bound (c Vesting a d i 6) (h .ranged Vesting a i 5 ha hi (omega arith))
-    tvp (suc (suc zero)) b = price-bound (c Vesting a d i 8) (h .ranged Vesting a i 7 ha hi (omega arith))
-    tvp (suc (suc (suc t))) b = absurd (omega arith)
-
-    mep : (f : ℕ) → f < 4 → natAbs (c Meter a d i (1 + 2 * f)) ≤ mostPrice
-    mep zero b = price-bound (c Meter a d i 1) (h .ranged Meter a i 0 ha hi (omega arith))
-    mep (suc zero) b = price-bound (c Meter a d i 3) (h .ranged Meter a i 2 ha hi (omega arith))
-    mep (suc (suc zero)) b = price-bound (c Meter a d i 5) (h .ranged Meter a i 4 ha hi (omega arith))
-    mep (suc (suc (suc zero))) b = price-bound (c Meter a d i 7) (h .ranged Meter a i 6 ha hi (omega arith))
-    mep (suc (suc (suc (suc f)))) b = absurd (omega arith)

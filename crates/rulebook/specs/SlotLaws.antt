@@ -3,45 +3,33 @@ use mathlib.Core.Path.{_≡_, refl, sym, ap, subst}
 use mathlib.Core.Logic.{_⊎_, inl, inr}
 use mathlib.Core.Bool.{Bool, true, false, cond, _&&_, _||_, not}
 use mathlib.Core.List.{List}
-use Prim.Native.Nat.{ℕ, zero, suc, _+_, _-_, _*_, _≤_, _<_}
-use native.Mathlib.Nat.{not-suc-le-zero, add-mod-right}
+use Prim.Native.Nat.{ℕ, zero, suc, _+_, _-_, _≤_, _<_}
 use native.Mathlib.Omega.{arith}
 use lib.IntN.{ℤ, pos, negsuc}
 use lib.Dec.{T, leb, ltb, leb→le, lt→ltb, ltb→lt}
-use lib.ListN.{length}
-use Rattle.integer.specs.Below.{fold, all, any}
+use lib.ListN.{length, getD}
+use Rattle.integer.specs.Below.{all, any}
 use Rattle.integer.specs.Words.{word}
 use Rattle.rulebook.specs.declared.Section.{Section}
 use Rattle.rulebook.specs.declared.Section.the-variants.{Vesting, Meter, Residual, Ncc}
 use Rattle.rulebook.specs.declared.Terms.{Terms}
 use Rattle.rulebook.specs.Units.{lastDay, between, positive}
-use Rattle.rulebook.specs.Sections.{accountsOf, perInterval, leastCount, mostCount, valueInRange}
-use Rattle.rulebook.specs.Layout.{width, place, flag, ring, size, intervalSize, slot, intervalWord, rowWord, windowSlot, numberWord, present, entriesOf}
-use Rattle.rulebook.specs.WellFormed.{isZero, rowBlank, numberFits, rowCounts, rowFits, isThere, bothThere, slotRow, accountWordsFit, slotBlank, intervalFits, closedRowsThere, windowSlotFits, accountFits, balanceFits, headerFits, fits}
+use Rattle.rulebook.specs.Sections.{accountsOf, perInterval, leastCount, mostCount, valueInRange, Figure, figureSection, figurePlace}
+use Rattle.rulebook.specs.Layout.{width, place, ring, intervalSize, slot, intervalWord, rowWord, Word, spare, isSpare, intervalTable, accountTable, accountPlace, wordName, flagIndex, figureIndex}
+use Rattle.rulebook.specs.BookData.{entriesOf}
+use Rattle.rulebook.specs.WellFormed.{isZero, rowBlank, wordFits, sparesZero, rowCounts, rowFits, isThere, bothThere, slotRow, accountWordsFit, slotBlank, intervalFits, closedRowsThere, fits}
+use Rattle.rulebook.specs.TestLaws.{and-left, and-right, or-cases, all-at, any-at}
+use Rattle.rulebook.specs.RowWordLaws.{Usable, figure-word, flag-inside}
+use Rattle.rulebook.specs.WindowWalk.{windowSlot, windowSlotFits}
 use Rattle.rulebook.specs.LayoutLaws.{InWindow, row-inside}
-use Rattle.rulebook.specs.WordLaws.{below-suc}
-use Rattle.rulebook.specs.LedgerLaws.{Padding, third, fourth, cell, and-left, and-right}
-use Rattle.rulebook.specs.KeptLaws.{zero-ranged, number-inside}
-use Rattle.rulebook.specs.FormLaws.{or-cases}
+use Rattle.rulebook.specs.RingLaws.{placeOf, day-place}
+use Rattle.rulebook.specs.LedgerLaws.{Padding, ofInterval, ofAccount}
+use Rattle.rulebook.specs.KeptLaws.{zero-ranged}
 use Rattle.rulebook.specs.SizeLaws.{RangedEntries}
 
 pub row-in-interval : (o : Terms) (s : Section) (a j : ℕ) → a < accountsOf s (o .accounts) → j < width s → place s a j < intervalSize o
 unfolding intervalSize
 row-in-interval o s a j ha hj = row-inside (o .accounts) s a j ha hj
-
-pub all-at : (n : ℕ) (p : ℕ → Bool) → T (all n p) → (i : ℕ) → i < n → T (p i)
-unfolding fold
-all-at zero p t i h = absurd (not-suc-le-zero h)
-all-at (suc n) p t i h = go (λ x. all-at n p (and-left (all n p) (p n) t) i x) (below-suc h)
-  where
-    go : (i < n → T (p i)) → (i < n) ⊎ (i ≡ n) → T (p i)
-    go ih (inl x) = ih x
-    go ih (inr x) = subst (λ (y : ℕ). T (p y)) (sym x) (and-right (all n p) (p n) t)
-
-pub any-at : (n : ℕ) (p : ℕ → Bool) → T (any n p) → (i : ℕ) × (i < n) × T (p i)
-unfolding fold
-any-at zero p t = absurd t
-any-at (suc n) p t = or-cases (any n p) (p n) t (λ x. let y = any-at n p x in (y .0, omega (arith, y .1), y .2)) (λ x. (n, omega arith, x))
 
 pub is-zero : (z : ℤ) → T (isZero z) → z ≡ pos 0
 is-zero (pos n) t = ap pos (omega (arith, leb→le n 0 (and-right (leb 0 n) (leb n 0) t)))
@@ -51,27 +39,51 @@ pub is-number : (n : ℕ) (z : ℤ) → T (between (pos n) (pos n) z) → z ≡ 
 is-number n (pos m) t = ap pos (omega (arith, leb→le n m (and-left (leb n m) (leb m n) t), leb→le m n (and-right (leb n m) (leb m n) t)))
 is-number n (negsuc m) t = absurd t
 
--- a row that fits has its numbers in range
-fit-ranged : (s : Section) (f : ℕ → ℤ) → T (rowFits s f) → (k : ℕ) → k < width s - 1 → T (valueInRange s k (f (numberWord s k)))
-unfolding rowFits rowBlank rowCounts numberFits
-fit-ranged s f t k hk = or-cases (rowBlank s f) (any (suc (mostCount s)) (rowCounts s f)) t
-    (λ x. rw (is-zero (f (numberWord s k)) (all-at (width s) (λ j. isZero (f j)) x (numberWord s k) (number-inside s k hk))) (zero-ranged s k))
+-- the words of a row that fits: all zero, or by name those of some count
+fit-words : (s : Section) (f : ℕ → ℤ) → T (rowFits s f)
+    → ((j : ℕ) → j < width s → T (isZero (f j))) ⊎ ((c : ℕ) × (c < suc (mostCount s)) × ((j : ℕ) → j < width s → T (wordFits s c (wordName s j) (f j))))
+unfolding rowFits rowBlank rowCounts
+fit-words s f t = or-cases (rowBlank s f) (any (suc (mostCount s)) (rowCounts s f)) t
+    (λ x. inl (all-at (width s) (λ j. isZero (f j)) x))
     (λ x. let c = any-at (suc (mostCount s)) (rowCounts s f) x in
-    go (c .0) (ltb k (perInterval s (c .0))) (all-at (width s - 1) (numberFits s f (c .0)) (and-right (leb (leastCount s) (c .0) && between (pos (present s (c .0))) (pos (present s (c .0))) (f (flag s))) (all (width s - 1) (numberFits s f (c .0))) (c .2)) k hk))
+    inr (c .0, c .1, all-at (width s) (λ j. wordFits s (c .0) (wordName s j) (f j)) (and-right (leb (leastCount s) (c .0)) (all (width s) (λ j. wordFits s (c .0) (wordName s j) (f j))) (c .2))))
+
+-- a row that fits has its figures in range
+fit-ranged : (g : Figure) (f : ℕ → ℤ) → Usable g → T (rowFits (figureSection g) f) → T (valueInRange (figureSection g) (figurePlace g) (f (figureIndex g)))
+fit-ranged g f u t = go (fit-words s f t)
   where
-    go : (c : ℕ) (b : Bool) → T (cond b (valueInRange s k (f (numberWord s k))) (isZero (f (numberWord s k)))) → T (valueInRange s k (f (numberWord s k)))
-    go c true y = y
-    go c false y = rw (is-zero (f (numberWord s k)) y) (zero-ranged s k)
+    s : Section
+    s = figureSection g
+
+    zero-in : T (isZero (f (figureIndex g))) → T (valueInRange (figureSection g) (figurePlace g) (f (figureIndex g)))
+    zero-in x = rw (is-zero (f (figureIndex g)) x) (zero-ranged (figureSection g) (figurePlace g))
+
+    used : (b : Bool) → T (cond b (valueInRange (figureSection g) (figurePlace g) (f (figureIndex g))) (isZero (f (figureIndex g)))) → T (valueInRange (figureSection g) (figurePlace g) (f (figureIndex g)))
+    used true x = x
+    used false x = zero-in x
+
+    go : ((j : ℕ) → j < width (figureSection g) → T (isZero (f j))) ⊎ ((c : ℕ) × (c < suc (mostCount (figureSection g))) × ((j : ℕ) → j < width (figureSection g) → T (wordFits (figureSection g) c (wordName (figureSection g) j) (f j))))
+        → T (valueInRange (figureSection g) (figurePlace g) (f (figureIndex g)))
+    go (inl x) = zero-in (x (figureIndex g) (figure-word g u .inside))
+    go (inr x) = used (ltb (figurePlace g) (perInterval (figureSection g) (x .0)))
+        (subst (λ (n : Word). T (wordFits (figureSection g) (x .0) n (f (figureIndex g)))) (figure-word g u .named) (x .2 (figureIndex g) (figure-word g u .inside)))
 
 -- a meter row that fits has at most four facilities
-fit-few : (f : ℕ → ℤ) → T (rowFits Meter f) → positive (f 0) ≤ 4
-unfolding rowFits rowBlank rowCounts
-fit-few f t = or-cases (rowBlank Meter f) (any 5 (rowCounts Meter f)) t
-    (λ x. rw (is-zero (f 0) (all-at 9 (λ j. isZero (f j)) x 0 (omega arith))) (omega arith))
-    (λ x. let c = any-at 5 (rowCounts Meter f) x in
-    let y = and-left (leb 1 (c .0) && between (pos (c .0)) (pos (c .0)) (f 0)) (all 8 (numberFits Meter f (c .0))) (c .2) in
-    let z = is-number (c .0) (f 0) (and-right (leb 1 (c .0)) (between (pos (c .0)) (pos (c .0)) (f 0)) y) in
-    rw z (omega (arith, c .1)))
+fit-few : (f : ℕ → ℤ) → T (rowFits Meter f) → positive (f (flagIndex Meter)) ≤ 4
+fit-few f t = go (fit-words Meter f t)
+  where
+    go : ((j : ℕ) → j < width Meter → T (isZero (f j))) ⊎ ((c : ℕ) × (c < 5) × ((j : ℕ) → j < width Meter → T (wordFits Meter c (wordName Meter j) (f j)))) → positive (f (flagIndex Meter)) ≤ 4
+    go (inl x) = rw (is-zero (f (flagIndex Meter)) (x (flagIndex Meter) (flag-inside Meter))) (omega arith)
+    go (inr x) = rw (is-number (x .0) (f (flagIndex Meter)) (x .2 (flagIndex Meter) (flag-inside Meter))) (omega (arith, x .1))
+
+-- a table's spare words are zero
+spare-zero : (table : List Word) (f : ℕ → ℤ) → T (sparesZero table f) → (q : ℕ) → q < length table → T (isSpare (getD table q spare)) → T (isZero (f q))
+unfolding sparesZero
+spare-zero table f t q hq x = go (isSpare (getD table q spare)) x (all-at (length table) (λ q. not (isSpare (getD table q spare)) || isZero (f q)) t q hq)
+  where
+    go : (b : Bool) → T b → T (not b || isZero (f q)) → T (isZero (f q))
+    go true x y = y
+    go false x y = absurd x
 
 module _ (o : Terms) (w : List ℤ) (t i : ℕ) where
   interval-accounts : T (intervalFits o w t i) → T (all (o .accounts) (accountWordsFit o w t i))
@@ -82,48 +94,46 @@ module _ (o : Terms) (w : List ℤ) (t i : ℕ) where
   unfolding intervalFits
   interval-ncc z = search (and-left, and-right)
 
-  cell-padding : (a : ℕ) → T (accountWordsFit o w t i a) → T (isZero (word w (intervalWord o t i (27 + 24 * a))))
+  account-padding : (a : ℕ) → T (accountWordsFit o w t i a) → T (sparesZero accountTable (λ q. word w (intervalWord o t i (accountPlace a q))))
   unfolding accountWordsFit
-  cell-padding a z = search (and-left, and-right)
+  account-padding a z = search (and-left, and-right)
+
+  own-padding : T (intervalFits o w t i) → T (sparesZero intervalTable (λ q. word w (intervalWord o t i q)))
+  unfolding intervalFits
+  own-padding z = search (and-left, and-right)
 
   pub interval-padding : T (intervalFits o w t i) → (m : ℕ) → Padding (o .accounts) m → T (isZero (word w (intervalWord o t i m)))
-  unfolding intervalFits
-  interval-padding z m third = search (and-left, and-right)
-  interval-padding z m fourth = search (and-left, and-right)
-  interval-padding z m (cell a ha) = cell-padding a (all-at (o .accounts) (accountWordsFit o w t i) (interval-accounts z) a ha)
+  interval-padding z m (ofInterval q hq x) = spare-zero intervalTable (λ q. word w (intervalWord o t i q)) (own-padding z) q hq x
+  interval-padding z m (ofAccount a q ha hq x) = spare-zero accountTable (λ q. word w (intervalWord o t i (accountPlace a q)))
+      (account-padding a (all-at (o .accounts) (accountWordsFit o w t i) (interval-accounts z) a ha)) q hq x
 
-  cell-rows : (a : ℕ) → T (accountWordsFit o w t i a)
+  account-rows : (a : ℕ) → T (accountWordsFit o w t i a)
       → T (rowFits Vesting (slotRow o w t i Vesting a)) × T (rowFits Meter (slotRow o w t i Meter a)) × T (rowFits Residual (slotRow o w t i Residual a))
   unfolding accountWordsFit
-  cell-rows a z = (search (and-left, and-right), search (and-left, and-right), search (and-left, and-right))
+  account-rows a z = (search (and-left, and-right), search (and-left, and-right), search (and-left, and-right))
 
   interval-row : T (intervalFits o w t i) → (s : Section) (a : ℕ) → a < accountsOf s (o .accounts) → T (rowFits s (slotRow o w t i s a))
-  interval-row z Vesting a h = cell-rows a (all-at (o .accounts) (accountWordsFit o w t i) (interval-accounts z) a h) .0
-  interval-row z Meter a h = cell-rows a (all-at (o .accounts) (accountWordsFit o w t i) (interval-accounts z) a h) .1
-  interval-row z Residual a h = cell-rows a (all-at (o .accounts) (accountWordsFit o w t i) (interval-accounts z) a h) .2
+  interval-row z Vesting a h = account-rows a (all-at (o .accounts) (accountWordsFit o w t i) (interval-accounts z) a h) .0
+  interval-row z Meter a h = account-rows a (all-at (o .accounts) (accountWordsFit o w t i) (interval-accounts z) a h) .1
+  interval-row z Residual a h = account-rows a (all-at (o .accounts) (accountWordsFit o w t i) (interval-accounts z) a h) .2
   interval-row z Ncc a h = interval-ncc z
 
-module _ (o : Terms) (w : List ℤ) (k : ℕ) (t : T (fits o w k)) (p : zero < ring o) where
-  pub slots-fit : T (all (ring o) (windowSlotFits o w k))
-  unfolding fits
-  slots-fit = and-right (headerFits o w && leb (size o) (length w) && balanceFits o w (o .accounts) k (word w 6) && all (o .accounts) (accountFits o w k)) (all (ring o) (windowSlotFits o w k)) t
-
+-- the walk over the window's places
+module _ (o : Terms) (w : List ℤ) (k : ℕ) (t : T (all (ring o) (windowSlotFits o w k))) (p : zero < ring o) where
   -- a day of the window, and its place in it
   module _ (d : ℕ) (hd : InWindow o k d) where
     pub turn : ℕ
     turn = d + o .lag - (o .first + k)
 
     turn-slot : windowSlot o k turn ≡ slot o d
-    unfolding windowSlot slot ring turn
-    turn-slot =
-        let e : k + (d + o .lag - (o .first + k)) + o .horizon ≡ (d - o .first) + (o .lag + o .horizon) = omega arith in
-        rw e (add-mod-right (d - o .first) (o .lag + o .horizon))
+    unfolding turn placeOf
+    turn-slot = day-place o k d hd .slot-is
 
     -- a slot of no day is blank
     pub undated-blank : lastDay < d → T (slotBlank o w (slot o d))
     unfolding windowSlotFits turn ring
     undated-blank last =
-        let x = all-at (ring o) (windowSlotFits o w k) slots-fit turn (omega arith) in
+        let x = all-at (ring o) (windowSlotFits o w k) t turn (omega arith) in
         let e : o .first + (k + turn - o .lag) ≡ d = omega arith in
         subst (λ (y : ℕ). T (slotBlank o w y)) turn-slot (go (ltb (k + turn) (o .lag)) (ltb lastDay (o .first + (k + turn - o .lag))) (lt→ltb lastDay (o .first + (k + turn - o .lag)) (rw e last)) x)
       where
@@ -138,7 +148,7 @@ module _ (o : Terms) (w : List ℤ) (k : ℕ) (t : T (fits o w k)) (p : zero < r
     pub full : T (all 48 (intervalFits o w (slot o d)) && (not (ltb (turn d hd) (o .lag)) || all 48 (closedRowsThere o w (slot o d))))
     unfolding windowSlotFits turn ring
     full =
-        let x = all-at (ring o) (windowSlotFits o w k) slots-fit (turn d hd) (omega arith) in
+        let x = all-at (ring o) (windowSlotFits o w k) t (turn d hd) (omega arith) in
         subst (λ (y : ℕ). T (all 48 (intervalFits o w y) && (not (ltb (turn d hd) (o .lag)) || all 48 (closedRowsThere o w y)))) (turn-slot d hd)
         (go (ltb (k + turn d hd) (o .lag)) (ltb lastDay (o .first + (k + turn d hd - o .lag))) refl refl x)
       where
@@ -176,6 +186,6 @@ module _ (o : Terms) (w : List ℤ) (k : ℕ) (t : T (fits o w k)) (p : zero < r
     pub entries-ranged : RangedEntries (o .accounts) (entriesOf o w) d
     unfolding rowWord
     entries-ranged = record {
-      ranged = λ s a i j ha hi hj. fit-ranged s (slotRow o w (slot o d) i s a) (row-fits-at s a i ha hi) j hj;
+      ranged = λ g a i u ha hi. fit-ranged g (slotRow o w (slot o d) i (figureSection g) a) u (row-fits-at (figureSection g) a i ha hi);
       few = λ a i ha hi. fit-few (slotRow o w (slot o d) i Meter a) (row-fits-at Meter a i ha hi);
     }

@@ -16,14 +16,15 @@ use Rattle.rulebook.specs.declared.Section.{Section}
 use Rattle.rulebook.specs.declared.Section.the-variants.{Vesting, Meter, Residual, Ncc}
 use Rattle.rulebook.specs.declared.Terms.{Terms}
 use Rattle.rulebook.specs.Units.{lastDay}
-use Rattle.rulebook.specs.Layout.{Entries, flag}
+use Rattle.rulebook.specs.Layout.{flagIndex}
+use Rattle.rulebook.specs.BookData.{Entries}
 use Rattle.rulebook.specs.WellFormed.{isZero, dayBound}
 use Rattle.rulebook.specs.File.{Row}
 use Rattle.rulebook.specs.Judging.{openFrom, limitsOf}
 use Rattle.rulebook.specs.Submit.{entry}
 use Rattle.rulebook.specs.History.{latest, RowsInForce, isFor, lastFor}
+use Rattle.rulebook.specs.TestLaws.{below-suc}
 use Rattle.rulebook.specs.LayoutLaws.{InWindow}
-use Rattle.rulebook.specs.WordLaws.{below-suc}
 use Rattle.rulebook.specs.LedgerLaws.{entriesIn, entryOf, Ledger, IsFor, is-for, Storable, replaced, overlaid}
 use Rattle.rulebook.specs.SoundLaws.{Ranged, Sound}
 use Rattle.rulebook.specs.KeptLaws.{Kept, row-fits, none-or, flag-more, nonzero}
@@ -156,12 +157,12 @@ abbrev pub ledger : Terms → ℕ → RowsInForce → (ℕ → ℤ) → Ledger
 ledger o k rows balance = record { closed = k; entries = entriesIn rows; balance = balance; mssl = negℤ (sumℤ (o .accounts) balance) }
 
 module _ (o : Terms) (k : ℕ) (rows : RowsInForce) (balance : ℕ → ℤ) (q : Kept o k rows balance) where
-  there : (s : Section) (a d i : ℕ) → rows s a d ≢ none → T (not (isZero (entryOf (rows s a d) i (flag s))))
+  there : (s : Section) (a d i : ℕ) → rows s a d ≢ none → T (not (isZero (entryOf (rows s a d) i (flagIndex s))))
   there s a d i f = go (none-or (rows s a d))
     where
-      go : (rows s a d ≡ none) ⊎ ((r : Row) × (rows s a d ≡ some r)) → T (not (isZero (entryOf (rows s a d) i (flag s))))
+      go : (rows s a d ≡ none) ⊎ ((r : Row) × (rows s a d ≡ some r)) → T (not (isZero (entryOf (rows s a d) i (flagIndex s))))
       go (inl e) = absurd (f e)
-      go (inr e) = nonzero (ap (λ (x : Option Row). entryOf x i (flag s)) (e .1) ∙ flag-more s i (e .0) (q .section s a d (e .0) (e .1)) (q .ranged s a d (e .0) (e .1)) .1)
+      go (inr e) = nonzero (ap (λ (x : Option Row). entryOf x i (flagIndex s)) (e .1) ∙ flag-more s i (e .0) (q .section s a d (e .0) (e .1)) (q .ranged s a d (e .0) (e .1)) .1)
 
   undated : (s : Section) (a d i j : ℕ) → lastDay < d → entryOf (rows s a d) i j ≡ pos 0
   undated s a d i j x = go (none-or (rows s a d))

@@ -1,16 +1,41 @@
 -- A test over the numbers below n, and the statement that it decides. Assumes nothing.
-use mathlib.Core.Path.{_≡_, refl, subst}
+use mathlib.Core.Path.{_≡_, refl, sym, subst}
 use mathlib.Core.Logic.{_⊎_, inl, inr}
-use mathlib.Core.Bool.{Bool, true, false, cond, _||_, not}
+use mathlib.Core.Bool.{Bool, true, false, cond, _&&_, _||_, not}
 use Prim.Native.Nat.{ℕ, zero, suc, _≤_, _<_}
-use native.Mathlib.Nat.{not-suc-le-zero}
+use native.Mathlib.Nat.{not-suc-le-zero, le-suc-iff}
 use native.Mathlib.Omega.{arith}
+use borrow.Author.Tests.{le-ltb}
 use lib.IntN.{pos}
-use lib.Dec.{T, leb, le→leb}
+use lib.Dec.{T, leb, ltb, le→leb}
 use Rattle.integer.specs.Below.{fold, all, any}
 use Rattle.rulebook.specs.Units.{between}
-use Rattle.rulebook.specs.WordLaws.{below-suc}
-use Rattle.rulebook.specs.LedgerLaws.{and-both}
+
+-- below n + 1: below n, or n
+pub below-suc : {i n : ℕ} → i < suc n → (i < n) ⊎ (i ≡ n)
+below-suc {i} {n} h = go (le-suc-iff .0 h)
+  where
+    go : (suc i ≤ n) ⊎ (suc i ≡ suc n) → (i < n) ⊎ (i ≡ n)
+    go (inl x) = inl x
+    go (inr x) = inr (omega arith)
+
+-- ---- One test
+
+pub T-path : (b : Bool) → T b → b ≡ true
+T-path true t = refl
+T-path false t = absurd t
+
+pub and-left : (a b : Bool) → T (a && b) → T a
+and-left true b t = tt
+and-left false b t = t
+
+pub and-right : (a b : Bool) → T (a && b) → T b
+and-right true b t = t
+and-right false b t = absurd t
+
+pub and-both : (a b : Bool) → T a → T b → T (a && b)
+and-both true b t u = u
+and-both false b t u = t
 
 pub or-left : (a b : Bool) → T a → T (a || b)
 or-left true b t = tt
@@ -19,6 +44,21 @@ or-left false b t = absurd t
 pub or-right : (a b : Bool) → T b → T (a || b)
 or-right true b t = tt
 or-right false b t = t
+
+-- either side of a test
+pub or-cases : {X : Type 0} (a b : Bool) → T (a || b) → (T a → X) → (T b → X) → X
+or-cases true b t f g = f tt
+or-cases false b t f g = g t
+
+pub nor-left : (a b : Bool) → T (not (a || b)) → T (not a)
+nor-left true b t = t
+nor-left false b t = tt
+
+pub nor-right : (a b : Bool) → T (not (a || b)) → T (not b)
+nor-right true b t = absurd t
+nor-right false b t = t
+
+-- ---- Tests over the numbers below n
 
 pub all-yes : (n : ℕ) (p : ℕ → Bool) → ((i : ℕ) → i < n → T (p i)) → T (all n p)
 unfolding fold
@@ -33,6 +73,9 @@ any-yes (suc n) p i h t = go (λ x. any-yes n p i x t) (below-suc h)
     go : (i < n → T (any n p)) → (i < n) ⊎ (i ≡ n) → T (any n p || p n)
     go ih (inl x) = or-left (any n p) (p n) (ih x)
     go ih (inr x) = or-right (any n p) (p n) (subst (λ (y : ℕ). T (p y)) x t)
+
+pub not-ltb : (m n : ℕ) → n ≤ m → T (not (ltb m n))
+not-ltb m n h = rw (le-ltb m n h) tt
 
 pub between-yes : (a b n : ℕ) → a ≤ n → n ≤ b → T (between (pos a) (pos b) (pos n))
 between-yes a b n h k = and-both (leb a n) (leb n b) (le→leb a n h) (le→leb n b k)
@@ -51,3 +94,17 @@ pub any-same : (n : ℕ) (p q : ℕ → Bool) → ((i : ℕ) → i < n → p i �
 unfolding fold
 any-same zero p q h = refl
 any-same (suc n) p q h = rw (any-same n p q (λ i x. h i (omega arith)), h n (omega arith))
+
+pub all-at : (n : ℕ) (p : ℕ → Bool) → T (all n p) → (i : ℕ) → i < n → T (p i)
+unfolding fold
+all-at zero p t i h = absurd (not-suc-le-zero h)
+all-at (suc n) p t i h = go (λ x. all-at n p (and-left (all n p) (p n) t) i x) (below-suc h)
+  where
+    go : (i < n → T (p i)) → (i < n) ⊎ (i ≡ n) → T (p i)
+    go ih (inl x) = ih x
+    go ih (inr x) = subst (λ (y : ℕ). T (p y)) (sym x) (and-right (all n p) (p n) t)
+
+pub any-at : (n : ℕ) (p : ℕ → Bool) → T (any n p) → (i : ℕ) × (i < n) × T (p i)
+unfolding fold
+any-at zero p t = absurd t
+any-at (suc n) p t = or-cases (any n p) (p n) t (λ x. let y = any-at n p x in (y .0, omega (arith, y .1), y .2)) (λ x. (n, omega arith, x))

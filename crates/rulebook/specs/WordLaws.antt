@@ -3,7 +3,7 @@ use mathlib.Core.Path.{_≡_, refl, _∙_}
 use mathlib.Core.Logic.{_⊎_, inl, inr}
 use mathlib.Core.List.{List}
 use Prim.Native.Nat.{ℕ, zero, suc, _+_, _≤_, _<_}
-use native.Mathlib.Nat.{not-suc-le-zero, le-suc-iff}
+use native.Mathlib.Nat.{not-suc-le-zero}
 use native.Mathlib.Omega.{arith}
 use lib.IntN.{ℤ, pos}
 use lib.ListN.{length, length-set}
@@ -15,18 +15,11 @@ use Rattle.rulebook.specs.Sections.{accountsOf}
 use Rattle.rulebook.specs.Layout.{stored, width, intervalSize, ring, size, rowWord}
 use Rattle.rulebook.specs.File.{Row}
 use Rattle.rulebook.specs.Submit.{entry, entryStored, rowStored}
+use Rattle.rulebook.specs.TestLaws.{below-suc}
 use Rattle.rulebook.specs.LayoutLaws.{rows-apart, interval-inside, row-inside, slot-inside}
 
 later : {i n : ℕ} → i ≡ n → i < n → ⊥
 later e h = omega arith
-
--- below n + 1: below n, or n
-pub below-suc : {i n : ℕ} → i < suc n → (i < n) ⊎ (i ≡ n)
-below-suc {i} {n} h = go (le-suc-iff .0 h)
-  where
-    go : (suc i ≤ n) ⊎ (suc i ≡ suc n) → (i < n) ⊎ (i ≡ n)
-    go (inl x) = inl x
-    go (inr x) = inr (omega arith)
 
 pub length-stored : (w : List ℤ) (at n : ℕ) (f : ℕ → ℤ) → length (stored w at n f) ≡ length w
 unfolding stored
