@@ -57,6 +57,8 @@ pub mod RangeLaws
 pub mod FromLaws
 pub mod EncodedLaws
 pub mod EncodedFileLaws
+pub mod AlikeLaws
+pub mod AcceptedLaws
 pub mod KeptLaws
 pub mod FormLaws
 pub mod SizeLaws

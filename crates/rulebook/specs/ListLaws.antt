@@ -36,6 +36,10 @@ each-at P [] d e i l = absurd (not-suc-le-zero l)
 each-at P (x ∷ xs) d e zero l = e .0
 each-at P (x ∷ xs) d e (suc i) l = each-at P xs d (e .1) i (omega arith)
 
+pub each-map {ℓ} : {A : Type ℓ} (P Q : A → Type 0) (xs : List A) → ((x : A) → P x → Q x) → Each P xs → Each Q xs
+each-map P Q [] h e = tt
+each-map P Q (x ∷ xs) h e = (h x (e .0), each-map P Q xs h (e .1))
+
 pub each-both {ℓ} : {A : Type ℓ} (P Q R : A → Type 0) (xs : List A) → ((x : A) → P x → Q x → R x) → Each P xs → Each Q xs → Each R xs
 each-both P Q R [] h e f = tt
 each-both P Q R (x ∷ xs) h e f = (h x (e .0) (f .0), each-both P Q R xs h (e .1) (f .1))
