@@ -25,7 +25,7 @@ pub data Field : Type 0 where
   RowCount : ℕ → Field
   Account : ℕ → Field
   Day : Section → (ℕ → NamedRow) → ℕ → ℕ → Field
-  Count : Section → ℕ → Field
+  TrancheCount FacilityCount : ℕ → Field
   Value : Figure → ℕ → Field
   EndOfFile : ℕ → Field
 
@@ -33,7 +33,8 @@ abbrev pub start : Field → ℕ
 start (RowCount at) = at
 start (Account at) = at
 start (Day sec rows i at) = at
-start (Count sec at) = at
+start (TrancheCount at) = at
+start (FacilityCount at) = at
 start (Value g at) = at
 start (EndOfFile at) = at
 
@@ -41,7 +42,8 @@ abbrev pub size : Field → ℕ
 size (RowCount at) = 2
 size (Account at) = 1
 size (Day sec rows i at) = 2
-size (Count sec at) = 1
+size (TrancheCount at) = 1
+size (FacilityCount at) = 1
 size (Value g at) = 4
 size (EndOfFile at) = 0
 
@@ -49,8 +51,8 @@ size (EndOfFile at) = 0
 
 -- what stands before the values of row i, which is at p
 unfoldable pub headingFields : Section → (ℕ → NamedRow) → ℕ → ℕ → List Field
-headingFields Vesting rows i p = Account p ∷ Day Vesting rows i (p + 1) ∷ Count Vesting (p + 3) ∷ []
-headingFields Meter rows i p = Account p ∷ Day Meter rows i (p + 1) ∷ Count Meter (p + 3) ∷ []
+headingFields Vesting rows i p = Account p ∷ Day Vesting rows i (p + 1) ∷ TrancheCount (p + 3) ∷ []
+headingFields Meter rows i p = Account p ∷ Day Meter rows i (p + 1) ∷ FacilityCount (p + 3) ∷ []
 headingFields Residual rows i p = Account p ∷ Day Residual rows i (p + 1) ∷ []
 headingFields Ncc rows i p = Day Ncc rows i p ∷ []
 
@@ -84,13 +86,6 @@ EndToEnd from (f ∷ fs) to = (start f ≡ from) × EndToEnd (from + size f) fs 
 
 -- ---- The table's conditions
 
--- 5, of a count: outside 0 to 3 tranches, 1 to 4 facilities
-abbrev pub badCount : Section → ℕ → Bool
-badCount Vesting n = ltb 3 n
-badCount Meter n = ltb n 1 || ltb 4 n
-badCount Residual n = false
-badCount Ncc n = false
-
 -- 6, C being the next day to close: past C + H − 1 or past 36,524; before C, or of residual and NCC rows before F or C − L
 abbrev pub late : Terms → ℕ → ℕ → Bool
 late o C d = leb (C + o .horizon) d || ltb 36524 d
@@ -112,12 +107,13 @@ module _ (o : Terms) (C : ℕ) (s : List ℕ) where
   abbrev pub notWhole : Field → Bool
   notWhole f = ltb (length s) (start f + size f)
 
-  -- 5: account, count or value out of range
+  -- 5: account, count or value out of range: accounts from N on, more than 3 tranches, other than 1 to 4 facilities, a figure outside its range
   abbrev pub outOfRange : Field → Bool
   outOfRange (RowCount at) = false
   outOfRange (Account at) = leb (o .accounts) (num 1 s at)
   outOfRange (Day sec rows i at) = false
-  outOfRange (Count sec at) = badCount sec (num 1 s at)
+  outOfRange (TrancheCount at) = ltb 3 (num 1 s at)
+  outOfRange (FacilityCount at) = ltb (num 1 s at) 1 || ltb 4 (num 1 s at)
   outOfRange (Value g at) = ltZ (valueAt s at) (least g) || ltZ (most g) (valueAt s at)
   outOfRange (EndOfFile at) = false
 
@@ -126,7 +122,8 @@ module _ (o : Terms) (C : ℕ) (s : List ℕ) where
   notOpen (RowCount at) = false
   notOpen (Account at) = false
   notOpen (Day sec rows i at) = shut o C sec (num 2 s at)
-  notOpen (Count sec at) = false
+  notOpen (TrancheCount at) = false
+  notOpen (FacilityCount at) = false
   notOpen (Value g at) = false
   notOpen (EndOfFile at) = false
 
@@ -135,7 +132,8 @@ module _ (o : Terms) (C : ℕ) (s : List ℕ) where
   repeated (RowCount at) = false
   repeated (Account at) = false
   repeated (Day sec rows i at) = any i (λ j. sameKey (rows j) (rows i))
-  repeated (Count sec at) = false
+  repeated (TrancheCount at) = false
+  repeated (FacilityCount at) = false
   repeated (Value g at) = false
   repeated (EndOfFile at) = false
 
@@ -144,7 +142,8 @@ module _ (o : Terms) (C : ℕ) (s : List ℕ) where
   excess (RowCount at) = false
   excess (Account at) = false
   excess (Day sec rows i at) = false
-  excess (Count sec at) = false
+  excess (TrancheCount at) = false
+  excess (FacilityCount at) = false
   excess (Value g at) = false
   excess (EndOfFile at) = ltb at (length s)
 

@@ -59,6 +59,10 @@ pub mod EncodedLaws
 pub mod EncodedFileLaws
 pub mod AlikeLaws
 pub mod AcceptedLaws
+pub mod FieldVerdictLaws
+pub mod TableLaws
+pub mod StrikeLaws
+pub mod AdjoinLaws
 pub mod KeptLaws
 pub mod FormLaws
 pub mod SizeLaws
