@@ -3,12 +3,11 @@ use mathlib.Core.Path.{_≡_, refl, sym, ap, _∙_}
 use mathlib.Core.Bool.{Bool, true, false, cond}
 use mathlib.Core.List.{List, [], _∷_}
 use mathlib.Core.Logic.{⊎-elim}
-use Prim.Native.Nat.{ℕ, zero, suc, _+_, _*_, _/_, _%_, _<_}
-use native.Mathlib.Nat.{not-suc-le-zero}
+use Prim.Native.Nat.{ℕ, zero, suc, _+_, _*_, _/_, _%_, _≤_, _<_}
 use native.Mathlib.Omega.{arith}
-use borrow.Author.Tests.{eqb-true, eqb-false, eq-eqb, ne-eqb}
+use borrow.Author.Tests.{eqb-true, eqb-false, le-ltb}
 use lib.Dec.{eqb}
-use lib.IntN.{ℤ}
+use lib.IntN.{ℤ, pos}
 use Rattle.integer.specs.Below.{tabulate}
 use Rattle.integer.specs.BelowLaws.{either}
 use Rattle.rulebook.specs.declared.Section.{Section}
@@ -16,9 +15,11 @@ use Rattle.rulebook.specs.declared.Section.the-variants.{Vesting, Meter,
 use Rattle.rulebook.specs.declared.Kind.{Kind}
 use Rattle.rulebook.specs.declared.Kind.the-variants.{Quantity, Injection, Load, Price}
 use Rattle.rulebook.specs.Sections.{perInterval, kindOf, sameSection}
-use Rattle.rulebook.specs.File.{Figure, BVQ, BVP, TVQ, TVP, MEP, IEQ, UEGQ, MQ, RVP1, RVP2, NccLoad, figureSection, figurePlace, figureOf, rowAt, countAt, valuesPos, valueAt}
+use Rattle.rulebook.specs.File.{Row, Figure, BVQ, BVP, TVQ, TVP, MEP, IEQ, UEGQ, MQ, RVP1, RVP2, NccLoad, figureSection, figurePlace, numberOf, figureOf, rowAt, countAt, valuesPos, valueAt}
 use Rattle.rulebook.specs.FileLaws.{number-at}
+use Rattle.rulebook.specs.NamedRows.{named}
 use Rattle.rulebook.specs.Encoding.{pairs, figures}
+use Rattle.rulebook.specs.Proper.{LackingZero}
 use Rattle.rulebook.specs.ListLaws.{tabulate-cong}
 
 -- ---- Figure k of an interval
@@ -139,3 +140,21 @@ unfolding figureOf
 figure-at sec s at h k hh hk =
     let f = is-figure sec (countAt sec s at) k hk in
     rw (f .section, f .place) (number-at sec s at h k hh hk)
+
+-- ---- What a row lacks
+
+past-count : (r : Row) (i : ℕ) (g : Figure) → perInterval (r .section) (r .count) ≤ figurePlace g → figureOf r i g ≡ pos 0
+unfolding figureOf numberOf
+past-count r i g h = rw (le-ltb (figurePlace g) (perInterval (r .section) (r .count)) h) (by (sameSection (r .section) (figureSection g)))
+  where
+    by : (b : Bool) → cond b (pos 0) (pos 0) ≡ pos 0
+    by true = refl
+    by false = refl
+
+pub lacking-zero : (r : Row) (i : ℕ) → LackingZero (named r) i
+unfolding figureOf
+lacking-zero r i = record {
+  tender = λ e t h. (past-count r i (TVQ t) (rw e (omega arith)), past-count r i (TVP t) (rw e (omega arith)));
+  facility = λ e f h. (past-count r i (MEP f) (rw e (omega arith)), past-count r i (IEQ f) (rw e (omega arith)));
+  other = λ g e. rw e;
+}

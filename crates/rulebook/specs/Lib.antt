@@ -27,6 +27,8 @@ pub mod Figures
 pub mod WorkedDay
 pub mod Examples
 pub mod NumberExamples
+pub mod EncodingExamples
+pub mod FileExamples
 pub mod UnitsLaws
 pub mod ReferencePriceLaws
 pub mod SharesLaws
@@ -57,7 +59,7 @@ pub mod RangeLaws
 pub mod FromLaws
 pub mod EncodedLaws
 pub mod EncodedFileLaws
-pub mod AlikeLaws
+pub mod EncodingLaws
 pub mod AcceptedLaws
 pub mod FieldVerdictLaws
 pub mod TableLaws
@@ -81,4 +83,5 @@ pub mod StartLaws
 pub mod RunLaws
 pub mod Demand3Proof
 pub mod CompanionProof
+pub mod FileTheorems
 pub mod Theorems

@@ -13,7 +13,7 @@ use Rattle.rulebook.specs.declared.Section.{Section}
 use Rattle.rulebook.specs.declared.Section.the-variants.{Vesting, Meter, Residual, Ncc}
 use Rattle.rulebook.specs.declared.Terms.{Terms}
 use Rattle.rulebook.specs.Sections.{sameSection}
-use Rattle.rulebook.specs.File.{Figure, BVQ, BVP, TVQ, TVP, MEP, IEQ, UEGQ, MQ, RVP1, RVP2, NccLoad}
+use Rattle.rulebook.specs.File.{Figure, BVQ, BVP, TVQ, TVP, MEP, IEQ, UEGQ, MQ, RVP1, RVP2, NccLoad, figureSection}
 use Rattle.rulebook.specs.NamedRows.{NamedRow}
 use Rattle.rulebook.specs.Encoding.{figures, ofSection}
 
@@ -122,3 +122,11 @@ AllAlike [] [] = Unit
 AllAlike [] (r ∷ rs) = ⊥
 AllAlike (q ∷ qs) [] = ⊥
 AllAlike (q ∷ qs) (r ∷ rs) = Alike q r × AllAlike qs rs
+
+-- ---- Figures that a row lacks
+
+-- read zero: tenders and facilities from the count on, and what another section's rows give
+pub record LackingZero (r : NamedRow) (i : ℕ) : Type 0 where
+  pub tender : r .section ≡ Vesting → (t : ℕ) → r .count ≤ t → (r .figure i (TVQ t) ≡ pos 0) × (r .figure i (TVP t) ≡ pos 0)
+  pub facility : r .section ≡ Meter → (f : ℕ) → r .count ≤ f → (r .figure i (MEP f) ≡ pos 0) × (r .figure i (IEQ f) ≡ pos 0)
+  pub other : (g : Figure) → sameSection (r .section) (figureSection g) ≡ false → r .figure i g ≡ pos 0

@@ -1,18 +1,60 @@
--- Rows that say the same are written as the same bytes. Assumes nothing.
+-- Laws of the encoder: what it writes are bytes, and rows that say the same are written as the same bytes. Assumes nothing.
 use mathlib.Core.Path.{_≡_, refl, ap, _∙_}
 use mathlib.Core.Bool.{Bool, true, false, cond}
 use mathlib.Core.List.{List, [], _∷_, _++_, flatMap}
-use Prim.Native.Nat.{ℕ, suc, _<_}
+use Prim.Native.Nat.{ℕ, zero, suc, _/_, _<_}
+use native.Mathlib.Omega.{arith}
 use lib.ListN.{length}
 use Rattle.integer.specs.Below.{tabulate}
-use Rattle.integer.specs.BelowLaws.{each-tabulate}
+use Rattle.integer.specs.BelowLaws.{each-tabulate, each-append}
 use Rattle.rulebook.specs.declared.Section.{Section}
 use Rattle.rulebook.specs.declared.Section.the-variants.{Vesting, Meter, Residual, Ncc}
 use Rattle.rulebook.specs.Sections.{sameSection}
 use Rattle.rulebook.specs.NamedRows.{NamedRow}
-use Rattle.rulebook.specs.Encoding.{valueBytes, figures, heading, intervalBytes, rowBytes, ofSection, sectionBytes, encoded}
-use Rattle.rulebook.specs.Proper.{Alike, AllAlike}
+use Rattle.rulebook.specs.Encoding.{bytes, twos, valueBytes, figures, heading, intervalBytes, rowBytes, ofSection, sectionBytes, encoded}
+use Rattle.rulebook.specs.Proper.{Bytes, Alike, AllAlike}
 use Rattle.rulebook.specs.ListLaws.{each-map, flatMap-cong}
+
+-- ---- Bytes
+
+bytes-small : (n v : ℕ) → Bytes (bytes n v)
+unfolding bytes
+bytes-small zero v = tt
+bytes-small (suc n) v = (omega arith, bytes-small n (v / 256))
+
+joined-small {ℓ} : {A : Type ℓ} (f : A → List ℕ) (xs : List A) → ((x : A) → Bytes (f x)) → Bytes (flatMap f xs)
+unfolding flatMap
+joined-small f [] h = tt
+joined-small f (x ∷ xs) h = each-append (λ b. b < 256) (f x) (flatMap f xs) (h x) (joined-small f xs h)
+
+both-small : (xs ys : List ℕ) → Bytes xs → Bytes ys → Bytes (xs ++ ys)
+both-small = each-append (λ b. b < 256)
+
+heading-small : (sec : Section) (a d c : ℕ) → Bytes (heading sec a d c)
+unfolding heading
+heading-small Vesting a d c = both-small (bytes 1 a) _ (bytes-small 1 a) (both-small (bytes 2 d) _ (bytes-small 2 d) (bytes-small 1 c))
+heading-small Meter a d c = both-small (bytes 1 a) _ (bytes-small 1 a) (both-small (bytes 2 d) _ (bytes-small 2 d) (bytes-small 1 c))
+heading-small Residual a d c = both-small (bytes 1 a) _ (bytes-small 1 a) (bytes-small 2 d)
+heading-small Ncc a d c = bytes-small 2 d
+
+row-small : (r : NamedRow) → Bytes (rowBytes r)
+unfolding rowBytes intervalBytes valueBytes
+row-small r =
+    both-small (heading (r .section) (r .account) (r .day) (r .count)) _ (heading-small (r .section) (r .account) (r .day) (r .count))
+    (joined-small (intervalBytes r) (tabulate 48 (λ i. i)) (λ i. joined-small _ (figures (r .section) (r .count)) (λ g. bytes-small 4 (twos (r .figure i g)))))
+
+section-small : (rs : List NamedRow) → Bytes (sectionBytes rs)
+unfolding sectionBytes
+section-small rs = both-small (bytes 2 (length rs)) (flatMap rowBytes rs) (bytes-small 2 (length rs)) (joined-small rowBytes rs row-small)
+
+pub encoded-bytes : (rows : List NamedRow) → Bytes (encoded rows)
+unfolding encoded
+encoded-bytes rows =
+    both-small (sectionBytes (ofSection Vesting rows)) _ (section-small (ofSection Vesting rows))
+    (both-small (sectionBytes (ofSection Meter rows)) _ (section-small (ofSection Meter rows))
+    (both-small (sectionBytes (ofSection Residual rows)) _ (section-small (ofSection Residual rows)) (section-small (ofSection Ncc rows))))
+
+-- ---- Rows alike
 
 interval-alike : (q r : NamedRow) → Alike q r → (i : ℕ) → i < 48 → intervalBytes q i ≡ intervalBytes r i
 unfolding intervalBytes
