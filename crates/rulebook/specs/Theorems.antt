@@ -26,7 +26,7 @@ use Rattle.rulebook.specs.NumberExamples.{Returned, returned, Table, tab
 use Rattle.rulebook.specs.SharesLaws.{ShareTotal, share-total}
 use Rattle.rulebook.specs.WindowWalk.{windowSlot}
 use Rattle.rulebook.specs.RingLaws.{slot-once}
-use Rattle.rulebook.specs.FormedLaws.{close-amount}
+use Rattle.rulebook.specs.BookSizeLaws.{close-amount}
 use Rattle.rulebook.specs.AnySubmitLaws.{submitted-formed}
 use Rattle.rulebook.specs.AnyCloseLaws.{closed-formed}
 use Rattle.rulebook.specs.StartLaws.{opening-told}
