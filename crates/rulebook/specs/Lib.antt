@@ -23,7 +23,12 @@ pub mod SearchOrder
 pub mod Figures
 pub mod WorkedDay
 pub mod Examples
+pub mod AmountExamples
+pub mod LayoutExamples
+pub mod FileExamples
 pub mod NumberExamples
+pub mod CallExamples
+pub mod HistoryExamples
 pub mod UnitsLaws
 pub mod ReferencePriceLaws
 pub mod SharesLaws
