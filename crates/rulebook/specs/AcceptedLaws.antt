@@ -26,7 +26,7 @@ use Rattle.rulebook.specs.Proper.{Bytes, AccountOf, OpenDay, CountInRang
 use Rattle.rulebook.specs.SoundLaws.{kind-turn}
 use Rattle.rulebook.specs.ListLaws.{each-both}
 use Rattle.rulebook.specs.IntervalLaws.{figureNo, figure-table, is-figure, figure-at}
-use Rattle.rulebook.specs.RangeLaws.{in-range}
+use Rattle.rulebook.specs.FigureRangeLaws.{in-range}
 use Rattle.rulebook.specs.SectionRowsLaws.{same-self, sectionOf, rows-are, of-rows}
 use Rattle.rulebook.specs.WholeLaws.{byte-at, taken-whole}
 use Rattle.rulebook.specs.EncodedFileLaws.{encoded-accepted}

@@ -20,6 +20,7 @@ use Rattle.rulebook.specs.declared.Section.the-variants.{Vesting, Meter}
 use Rattle.rulebook.specs.declared.Terms.{Terms}
 use Rattle.rulebook.specs.declared.CloseAnswer.the-variants.{Finished, NoRoom}
 use Rattle.rulebook.specs.Units.{lastDay}
+use Rattle.rulebook.specs.DayAmount.{msslAmount}
 use Rattle.rulebook.specs.Layout.{flagIndex, flagWord, balanceWord, msslWord}
 use Rattle.rulebook.specs.BookData.{Entries, entriesOf, termsOf, nextDay}
 use Rattle.rulebook.specs.WellFormed.{isZero, rowFits, wellFormed, dayBound}
@@ -29,7 +30,8 @@ use Rattle.rulebook.specs.LayoutLaws.{InWindow}
 use Rattle.rulebook.specs.LedgerLaws.{Ledger, Holds}
 use Rattle.rulebook.specs.KeptLaws.{absent-fits}
 use Rattle.rulebook.specs.FormLaws.{Fit, ring-pos, fits-same, well-formed}
-use Rattle.rulebook.specs.FormedLaws.{formed-holds, formed-fit, opened-of, next-of, close-amount}
+use Rattle.rulebook.specs.FormedLaws.{formed-holds, formed-fit, opened-of, next-of}
+use Rattle.rulebook.specs.BookSizeLaws.{close-amount}
 use Rattle.rulebook.specs.CloseLaws.{day-held}
 use Rattle.rulebook.specs.SearchLaws.{nothing-at}
 
@@ -125,7 +127,7 @@ module _ (w : List ℤ) (t : T (wellFormed w)) (k : ℕ) (day : termsOf w .first
   amount a ha = rw day (close-amount w t left a ha)
 
   mssl-size : natAbs (postedToMssl o w (o .first + k)) ≤ o .accounts * dayBound
-  unfolding postedToMssl
+  unfolding postedToMssl posted msslAmount
   mssl-size = rw abs-neg (abs-sumℤ (o .accounts) dayBound (posted o w (o .first + k)) amount)
 
   new-fit : Fit o new

@@ -20,6 +20,7 @@ use Rattle.rulebook.specs.declared.Verdict.the-variants.{Accepted, Refus
 use Rattle.rulebook.specs.declared.SubmitAnswer.{SubmitAnswer}
 use Rattle.rulebook.specs.declared.CloseAnswer.{CloseAnswer}
 use Rattle.rulebook.specs.Units.{lastDay}
+use Rattle.rulebook.specs.DayAmount.{msslAmount}
 use Rattle.rulebook.specs.Terms.{InTerms}
 use Rattle.rulebook.specs.Layout.{size}
 use Rattle.rulebook.specs.File.{fileRows}
@@ -87,7 +88,7 @@ module _ (o : Terms) (t : InTerms o) (past : List Event) (w : List ℤ) (h : Sta
   }
     where
       mssl-is : postedToMssl o w (closingDay o past) ≡ negℤ (sumℤ (o .accounts) (formulaAmount o past))
-      mssl-is = unfold postedToMssl in ap negℤ (sumℤ-cong (o .accounts) (posted o w (closingDay o past)) (formulaAmount o past) (amount-same o t past w h))
+      mssl-is = unfold postedToMssl posted msslAmount in ap negℤ (sumℤ-cong (o .accounts) (posted o w (closingDay o past)) (formulaAmount o past) (amount-same o t past w h))
   settled-by st room (At n) e = record {
     answered = sym e;
     wellFormed = λ x. omega arith;

@@ -25,7 +25,7 @@ use Rattle.rulebook.specs.SoundLaws.{kind-turn}
 use Rattle.rulebook.specs.ListLaws.{each-of}
 use Rattle.rulebook.specs.VerdictLaws.{up-all, field-fine}
 use Rattle.rulebook.specs.IntervalLaws.{figureNo, figure-table, kindOfFigure, is-figure, figure-at}
-use Rattle.rulebook.specs.RangeLaws.{range-in, in-word}
+use Rattle.rulebook.specs.FigureRangeLaws.{range-in, in-word}
 use Rattle.rulebook.specs.FromLaws.{From, from-to, from-is, from-one, from-two, Stands, from-value, from-table}
 
 -- ---- Account, day and count

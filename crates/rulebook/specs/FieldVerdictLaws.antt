@@ -28,7 +28,7 @@ use Rattle.rulebook.specs.NamedRows.{NamedRow}
 use Rattle.rulebook.specs.Proper.{least, most, sameKey}
 use Rattle.rulebook.specs.FileTable.{Field, RowCount, Account, Day, TrancheCount, FacilityCount, Value, EndOfFile, start, late, shut, Check, checksOf}
 use Rattle.rulebook.specs.IntervalLaws.{kindOfFigure}
-use Rattle.rulebook.specs.RangeLaws.{kind-range}
+use Rattle.rulebook.specs.FigureRangeLaws.{kind-range}
 
 -- ---- Answers in order
 

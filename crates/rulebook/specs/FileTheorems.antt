@@ -16,7 +16,7 @@ use Rattle.rulebook.specs.Encoding.{encoded}
 use Rattle.rulebook.specs.Proper.{Bytes, ProperRows, AllAlike, LackingZero}
 use Rattle.rulebook.specs.FileTable.{fieldsOf, EndToEnd, checks, NoneStrikes, FirstStrikes}
 use Rattle.rulebook.specs.EncodingExamples.{Written, written}
-use Rattle.rulebook.specs.FileExamples.{Windows, windows, Keys, keys}
+use Rattle.rulebook.specs.JudgingExamples.{Windows, windows, Keys, keys}
 use Rattle.rulebook.specs.IntervalLaws.{lacking-zero}
 use Rattle.rulebook.specs.EncodingLaws.{encoded-bytes, alike-bytes}
 use Rattle.rulebook.specs.WholeLaws.{taken-whole}
