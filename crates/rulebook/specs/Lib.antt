@@ -30,6 +30,7 @@ pub mod Examples
 pub mod AmountExamples
 pub mod LayoutExamples
 pub mod FileExamples
+pub mod DataExamples
 pub mod NumberExamples
 pub mod CallExamples
 pub mod HistoryExamples

@@ -26,10 +26,11 @@ use Rattle.rulebook.specs.Companion.{OpeningHolds, CompanionHolds}
 use Rattle.rulebook.specs.SearchOrder.{SearchHolds}
 use Rattle.rulebook.specs.Figures.{Right, starred, starred-right}
 use Rattle.rulebook.specs.WorkedDay.{WorkedDay, worked-day}
-use Rattle.rulebook.specs.Examples.{RowExamples, row-examples, Headers, headers, Ranges, ranges}
+use Rattle.rulebook.specs.Examples.{RowExamples, row-examples, Headers, headers, Balances, balances, Ranges, ranges}
 use Rattle.rulebook.specs.AmountExamples.{BoundReached, bound-reached}
 use Rattle.rulebook.specs.LayoutExamples.{Places, places, Windows, windows}
 use Rattle.rulebook.specs.FileExamples.{FiguresRead, figures-read}
+use Rattle.rulebook.specs.DataExamples.{BookRead, book-read, RowsRead, rows-read}
 use Rattle.rulebook.specs.NumberExamples.{Returned, returned, Table, table, Refusals, refusals, ThreeAccounts, three-accounts}
 use Rattle.rulebook.specs.CallExamples.{Openings, openings, LentBooks, lent-books}
 use Rattle.rulebook.specs.HistoryExamples.{Closes, closes-told, NewBooks, new-books}
@@ -98,7 +99,10 @@ pub record Theorems : Type 0 where
   pub headers : Headers
   pub places : Places
   pub windows : Windows
+  pub balances : Balances
   pub figuresRead : FiguresRead
+  pub bookRead : BookRead
+  pub rowsRead : RowsRead
   -- the table of numbers
   pub returned : Returned
   pub table : Table
@@ -139,7 +143,10 @@ theorems = record {
   headers = headers;
   places = places;
   windows = windows;
+  balances = balances;
   figuresRead = figures-read;
+  bookRead = book-read;
+  rowsRead = rows-read;
   returned = returned;
   table = table;
   refusals = refusals;
