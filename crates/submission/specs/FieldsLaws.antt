@@ -1,6 +1,5 @@
 -- Laws of fields, read and judged. Assumes nothing.
-use mathlib.Core.Path.{_≡_, refl, sym, ap, _∙_}
-use mathlib.Core.Bool.{Bool, true, false}
+use mathlib.Core.Path.{_≡_, refl}
 use mathlib.Core.List.{List}
 use mathlib.Core.Logic.{⊎-elim}
 use Prim.Native.Nat.{ℕ, zero, suc, _+_, _≤_, _<_}
@@ -8,20 +7,16 @@ use native.Mathlib.Nat.{not-suc-le-zero}
 use native.Mathlib.Numerals.{add-one}
 use native.Mathlib.Omega.{arith}
 use borrow.Author.Tests.{lt-leb, le-leb}
-use lib.Dec.{leb}
 use lib.ListN.{length}
-use Rattle.integer.specs.BelowLaws.{either, lt-or-le}
+use Rattle.integer.specs.BelowLaws.{lt-or-le}
 use Rattle.rulebook.specs.declared.Why.{Why}
-use Rattle.rulebook.specs.declared.Why.the-variants.{NotWhole}
 use Rattle.rulebook.specs.declared.Verdict.{Verdict}
 use Rattle.rulebook.specs.declared.Verdict.the-variants.{Accepted, Refused}
 use Rattle.rulebook.specs.File.{num}
 use Rattle.rulebook.specs.Judging.{upTo, fieldIn}
-use Rattle.submission.specs.declared.fields.Field.{Field}
 use Rattle.submission.specs.declared.fields.Field.the-variants.{Whole, Cut}
-use Rattle.submission.specs.declared.fields.Outcome.{Outcome}
 use Rattle.submission.specs.declared.fields.Outcome.the-variants.{Passed, Stopped}
-use Rattle.submission.specs.Fields.{outcome, fieldAt, nextOf, fieldOutcome}
+use Rattle.submission.specs.Fields.{outcome, fieldAt, fieldOutcome}
 
 -- ---- outcome
 

@@ -1,9 +1,9 @@
 -- Laws of the marks: every book's limits leave room for them, and they say what the rule book calls given. Assumes nothing.
 use mathlib.Core.Path.{_≡_, refl, sym, ap, _∙_}
-use mathlib.Core.Bool.{Bool, true, false, _&&_, _||_, or-true, or-false, false≢true}
+use mathlib.Core.Bool.{false, _&&_, _||_, or-true, or-false, false≢true}
 use mathlib.Core.List.{List}
 use mathlib.Core.Logic.{⊎-elim}
-use Prim.Native.Nat.{ℕ, zero, suc, _+_, _*_, _-_, _≤_, _<_}
+use Prim.Native.Nat.{ℕ, zero, suc, _+_, _-_, _≤_, _<_}
 use native.Mathlib.Numerals.{add-one}
 use native.Mathlib.Omega.{arith}
 use borrow.Author.Tests.{eqb-true, eq-eqb}
@@ -22,7 +22,7 @@ use Rattle.rulebook.specs.File.{accountAt, dayAt, rowPos}
 use Rattle.rulebook.specs.Judging.{limitsOf, openFrom, given, key}
 use Rattle.rulebook.specs.JudgingLaws.{keyed}
 use Rattle.rulebook.specs.StartLaws.{opened-terms}
-use Rattle.submission.specs.Marks.{BookLimits, mostMarks, mark, markOf, marked, unmarked, Marked}
+use Rattle.submission.specs.Marks.{BookLimits, mostMarks, mark, markOf, unmarked, Marked}
 
 -- ---- Limits
 

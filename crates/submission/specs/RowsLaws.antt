@@ -18,7 +18,7 @@ use Rattle.rulebook.specs.declared.Verdict.{Verdict}
 use Rattle.rulebook.specs.declared.Verdict.the-variants.{Accepted, Refused}
 use Rattle.rulebook.specs.Sections.{leastCount, mostCount}
 use Rattle.rulebook.specs.File.{accountBytes, countBytes, accountAt, dayAt, dayPos, countPos, valuesPos, valuesIn, rowEnd, rowPos, rowsIn, sectionEnd}
-use Rattle.rulebook.specs.Judging.{openFrom, require, _andThen_, upTo, fieldIn, value, key, rest, rowAfter, judgedRow, judgedSection}
+use Rattle.rulebook.specs.Judging.{openFrom, require, _andThen_, upTo, fieldIn, key, rest, rowAfter, judgedRow, judgedSection}
 use Rattle.rulebook.specs.JudgingLaws.{then-both, checked, field-says, keyed, section-start, up-each}
 use Rattle.submission.specs.declared.reader.Heading.{Heading}
 use Rattle.submission.specs.Fields.{outcome, headingAt, fieldOutcome}

@@ -8,7 +8,7 @@ use rulebook::Section;
 use rulebook::Verdict;
 use rulebook::Why;
 ghost use mathlib.Core.Path.{_≡_};
-ghost use Prim.Native.Nat.{_+_, _≤_, _<_};
+ghost use Prim.Native.Nat.{_≤_, _<_};
 ghost use lib.ListN.{length};
 ghost use Rattle.rulebook.specs.File.{rowPos, sectionEnd};
 ghost use Rattle.rulebook.specs.Judging.{upTo, judgedRow, judgedSection, judged};

@@ -1,5 +1,4 @@
 -- `field_at` meets its contract: the two tests are that the position and the bytes after it lie within the file.
-use mathlib.Core.Path.{_≡_}
 use native.Mathlib.Omega.{arith}
 use borrow.Author.Needs.{needs}
 use Rattle.submission.specs.FieldsLaws.{field-whole, field-cut}

@@ -1,5 +1,4 @@
 -- `value_at` meets its contract: four bytes spell a number below 2 ^ 32.
-use mathlib.Core.Path.{_≡_}
 use Prim.Native.Nat.{_<_}
 use borrow.Author.Needs.{needs}
 use lib.Signed.{mag}

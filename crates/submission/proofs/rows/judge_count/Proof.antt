@@ -1,5 +1,4 @@
 -- `judge_count` meets its contract: reading a field and judging it is what the rule book judges.
-use mathlib.Core.Path.{_≡_, _∙_}
 use borrow.Author.Needs.{needs}
 use Rattle.rulebook.specs.declared.Why.the-variants.{OutOfRange}
 use Rattle.rulebook.specs.Sections.{leastCount, mostCount}

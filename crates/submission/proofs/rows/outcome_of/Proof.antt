@@ -1,7 +1,5 @@
 -- `outcome_of` meets its contract by cases.
-use mathlib.Core.Path.{sym, ap}
 use borrow.Author.Needs.{needs}
-use Rattle.submission.specs.Fields.{outcome}
 use Rattle.submission.proofs.rows.outcome_of.Statement.{statement}
 use Rattle.submission.proofs.rows.outcome_of.Tie as tie
 
