@@ -13,7 +13,7 @@ use Rattle.integer.specs.Below.{Each}
 use Rattle.integer.specs.Words.{word}
 use Rattle.rulebook.specs.declared.Terms.{Terms}
 use Rattle.rulebook.specs.DayAmount.{residualDue, residualDay}
-use Rattle.rulebook.specs.Layout.{stored, base, ring, size, intervalSize, slot, intervalWord}
+use Rattle.rulebook.specs.Layout.{stored, base, ring, size, intervalSize, slot, intervalWord, nextDayWord, msslWord}
 use Rattle.rulebook.specs.Opening.{header, newBook}
 use Rattle.rulebook.specs.File.{Row}
 use Rattle.rulebook.specs.Submit.{rowStored, rowsStored}
@@ -75,14 +75,14 @@ module _ (o : Terms) where
     unfolding dayClosed size base
     closed-beyond w D =
         let grown : List ℤ = balancesGrown o w D (o .accounts) in
-        let credit : ℤ = word w 6 +ℤ postedToMssl o w D in
-        kept-then (size o) w (set (set grown 6 credit) 5 (pos (suc D))) _
+        let credit : ℤ = word w msslWord +ℤ postedToMssl o w D in
+        kept-then (size o) w (set (set grown msslWord credit) nextDayWord (pos (suc D))) _
         (record {
-          long = length-set (set grown 6 credit) 5 (pos (suc D)) ∙ length-set grown 6 credit ∙ length-grown o w D (o .accounts);
-          words = λ m h. getD-set-other (set grown 6 credit) 5 m (pos (suc D)) (pos 0) (omega arith) ∙ getD-set-other grown 6 m credit (pos 0) (omega arith)
+          long = length-set (set grown msslWord credit) nextDayWord (pos (suc D)) ∙ length-set grown msslWord credit ∙ length-grown o w D (o .accounts);
+          words = λ m h. getD-set-other (set grown msslWord credit) nextDayWord m (pos (suc D)) (pos 0) (omega arith) ∙ getD-set-other grown msslWord m credit (pos 0) (omega arith)
               ∙ grown-out o w D (o .accounts) m (λ a x e. omega arith);
         })
-        (blanked-beyond w D (set (set grown 6 credit) 5 (pos (suc D))))
+        (blanked-beyond w D (set (set grown msslWord credit) nextDayWord (pos (suc D))))
 
 -- ---- The statement
 

@@ -16,7 +16,8 @@ use Rattle.rulebook.specs.declared.CloseAnswer.{CloseAnswer}
 use Rattle.rulebook.specs.declared.CloseAnswer.the-variants.{Closed, BookIllFormed, Finished, NoRoom, DatumMissing}
 use Rattle.rulebook.specs.Units.{lastDay, intervals}
 use Rattle.rulebook.specs.DayAmount.{residualDue, residualDay, postedAmount}
-use Rattle.rulebook.specs.Layout.{stored, nextDayWord, msslWord, balanceWord, flagWord, intervalSize, slot, intervalWord, bookData, termsOf, nextDay}
+use Rattle.rulebook.specs.Layout.{stored, nextDayWord, msslWord, balanceWord, flagWord, intervalSize, slot, intervalWord}
+use Rattle.rulebook.specs.BookData.{bookData, termsOf, nextDay}
 use Rattle.rulebook.specs.WellFormed.{isZero, wellFormed}
 
 module _ (o : Terms) (w : List ℤ) (D : ℕ) where

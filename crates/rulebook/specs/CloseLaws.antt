@@ -17,9 +17,11 @@ use Rattle.rulebook.specs.declared.Section.{Section}
 use Rattle.rulebook.specs.declared.Terms.{Terms}
 use Rattle.rulebook.specs.DayAmount.{residualDue}
 use Rattle.rulebook.specs.Sections.{accountsOf}
-use Rattle.rulebook.specs.Layout.{Entries, stored, width, place, intervalSize, ring, base, size, slot, intervalWord, rowWord, windowSlot, intervalWords, accountWords}
+use Rattle.rulebook.specs.Layout.{stored, width, place, intervalSize, ring, base, size, slot, intervalWord, rowWord, intervalWords, accountWords, markWord, accountsWord, lagWord, horizonWord, firstDayWord, nextDayWord, msslWord, balanceWord, accountSpare, headerSpare}
+use Rattle.rulebook.specs.BookData.{Entries}
 use Rattle.rulebook.specs.Close.{posted, postedToMssl, balancesGrown, slotBlanked, dayClosed}
 use Rattle.rulebook.specs.TestLaws.{below-suc}
+use Rattle.rulebook.specs.WindowWalk.{windowSlot}
 use Rattle.rulebook.specs.LayoutLaws.{InWindow, days-apart, interval-inside, row-inside, slot-inside, quotient, remainder}
 use Rattle.rulebook.specs.WordLaws.{stored-in, stored-out, length-stored}
 use Rattle.rulebook.specs.LedgerLaws.{Holds, Padding, padding-fits}
@@ -67,35 +69,35 @@ module _ (o : Terms) where
     length-grown zero = refl
     length-grown (suc n) = length-set (balancesGrown o w D n) _ _ ∙ length-grown n
 
-    pub grown-out : (n m : ℕ) → ((a : ℕ) → a < n → m ≡ 64 + 8 * a → ⊥) → word (balancesGrown o w D n) m ≡ word w m
+    pub grown-out : (n m : ℕ) → ((a : ℕ) → a < n → m ≡ balanceWord a → ⊥) → word (balancesGrown o w D n) m ≡ word w m
     unfolding balancesGrown
     grown-out zero m h = refl
-    grown-out (suc n) m h = getD-set-other (balancesGrown o w D n) (64 + 8 * n) m _ (pos 0) (h n (omega arith)) ∙ grown-out n m (λ a x. h a (omega arith))
+    grown-out (suc n) m h = getD-set-other (balancesGrown o w D n) (balanceWord n) m _ (pos 0) (h n (omega arith)) ∙ grown-out n m (λ a x. h a (omega arith))
 
-    pub grown-in : (n a : ℕ) → a < n → 64 + 8 * a < length w → word (balancesGrown o w D n) (64 + 8 * a) ≡ word w (64 + 8 * a) +ℤ posted o w D a
+    pub grown-in : (n a : ℕ) → a < n → balanceWord a < length w → word (balancesGrown o w D n) (balanceWord a) ≡ word w (balanceWord a) +ℤ posted o w D a
     unfolding balancesGrown
     grown-in zero a h l = absurd (not-suc-le-zero h)
     grown-in (suc n) a h l = go (λ x. grown-in n a x l) (below-suc h)
       where
-        go : (a < n → word (balancesGrown o w D n) (64 + 8 * a) ≡ word w (64 + 8 * a) +ℤ posted o w D a) → (a < n) ⊎ (a ≡ n)
-            → word (balancesGrown o w D (suc n)) (64 + 8 * a) ≡ word w (64 + 8 * a) +ℤ posted o w D a
-        go ih (inl x) = getD-set-other (balancesGrown o w D n) (64 + 8 * n) (64 + 8 * a) _ (pos 0) (omega arith) ∙ ih x
-        go ih (inr x) = rw x (getD-set-same (balancesGrown o w D n) (64 + 8 * n) _ (pos 0) (omega (arith, length-grown n)))
+        go : (a < n → word (balancesGrown o w D n) (balanceWord a) ≡ word w (balanceWord a) +ℤ posted o w D a) → (a < n) ⊎ (a ≡ n)
+            → word (balancesGrown o w D (suc n)) (balanceWord a) ≡ word w (balanceWord a) +ℤ posted o w D a
+        go ih (inl x) = getD-set-other (balancesGrown o w D n) (balanceWord n) (balanceWord a) _ (pos 0) (omega arith) ∙ ih x
+        go ih (inr x) = rw x (getD-set-same (balancesGrown o w D n) (balanceWord n) _ (pos 0) (omega (arith, length-grown n)))
 
     -- the words before r's slot is blanked
     counted : List ℤ
-    counted = set (set (balancesGrown o w D (o .accounts)) 6 (word w 6 +ℤ postedToMssl o w D)) 5 (pos (suc D))
+    counted = set (set (balancesGrown o w D (o .accounts)) msslWord (word w msslWord +ℤ postedToMssl o w D)) nextDayWord (pos (suc D))
 
     length-counted : length counted ≡ length w
     unfolding counted
     length-counted = simp length-set (length-grown (o .accounts))
 
-    counted-out : (m : ℕ) → m ≢ 5 → m ≢ 6 → ((a : ℕ) → a < o .accounts → m ≡ 64 + 8 * a → ⊥) → word counted m ≡ word w m
+    counted-out : (m : ℕ) → m ≢ nextDayWord → m ≢ msslWord → ((a : ℕ) → a < o .accounts → m ≡ balanceWord a → ⊥) → word counted m ≡ word w m
     unfolding counted
     counted-out m f g h =
-        let x : ℤ = word w 6 +ℤ postedToMssl o w D in
-        getD-set-other (set (balancesGrown o w D (o .accounts)) 6 x) 5 m (pos (suc D)) (pos 0) f
-        ∙ getD-set-other (balancesGrown o w D (o .accounts)) 6 m x (pos 0) g ∙ grown-out (o .accounts) m h
+        let x : ℤ = word w msslWord +ℤ postedToMssl o w D in
+        getD-set-other (set (balancesGrown o w D (o .accounts)) msslWord x) 5 m (pos (suc D)) (pos 0) f
+        ∙ getD-set-other (balancesGrown o w D (o .accounts)) msslWord m x (pos 0) g ∙ grown-out (o .accounts) m h
 
     counted-slot : (t i m : ℕ) → word counted (intervalWord o t i m) ≡ word w (intervalWord o t i m)
     unfolding intervalWord base
@@ -204,22 +206,22 @@ module _ (o : Terms) (p : zero < ring o) (k : ℕ) (g : Entries) (balance : ℕ 
     unfolding base counted
     day-held = record {
       long = omega (arith, closed-length o w D, h .long);
-      mark = front 0 (omega arith) (omega arith) (omega arith) (omega arith) ∙ h .mark;
-      accounts = front 1 (omega arith) (omega arith) (omega arith) (omega arith) ∙ h .accounts;
-      lag = front 2 (omega arith) (omega arith) (omega arith) (omega arith) ∙ h .lag;
-      horizon = front 3 (omega arith) (omega arith) (omega arith) (omega arith) ∙ h .horizon;
-      first = front 4 (omega arith) (omega arith) (omega arith) (omega arith) ∙ h .first;
-      next = closed-front o w D 5 (omega arith) ∙ getD-set-same (set grown 6 credit) 5 (pos (suc D)) (pos 0) (omega (arith, lengths, longer, h .long, length-set grown 6 credit))
+      mark = front markWord (omega arith) (omega arith) (omega arith) (omega arith) ∙ h .mark;
+      accounts = front accountsWord (omega arith) (omega arith) (omega arith) (omega arith) ∙ h .accounts;
+      lag = front lagWord (omega arith) (omega arith) (omega arith) (omega arith) ∙ h .lag;
+      horizon = front horizonWord (omega arith) (omega arith) (omega arith) (omega arith) ∙ h .horizon;
+      first = front firstDayWord (omega arith) (omega arith) (omega arith) (omega arith) ∙ h .first;
+      next = closed-front o w D nextDayWord (omega arith) ∙ getD-set-same (set grown msslWord credit) nextDayWord (pos (suc D)) (pos 0) (omega (arith, lengths, longer, h .long, length-set grown msslWord credit))
           ∙ ap pos (sym (add-suc (o .first) k));
-      mssl = closed-front o w D 6 (omega arith) ∙ getD-set-other (set grown 6 credit) 5 6 (pos (suc D)) (pos 0) (omega arith)
-          ∙ getD-set-same grown 6 credit (pos 0) (omega (arith, lengths, longer, h .long))
+      mssl = closed-front o w D msslWord (omega arith) ∙ getD-set-other (set grown msslWord credit) nextDayWord msslWord (pos (suc D)) (pos 0) (omega arith)
+          ∙ getD-set-same grown msslWord credit (pos 0) (omega (arith, lengths, longer, h .long))
           ∙ ap (λ (x : ℤ). x +ℤ postedToMssl o w D) (h .mssl);
-      spare = λ n x. front (7 + n) (omega arith) (omega arith) (omega arith) (λ a y e. omega arith) ∙ h .spare n x;
-      balances = λ a x. closed-front o w D (64 + 8 * a) (omega arith) ∙ getD-set-other (set grown 6 credit) 5 (64 + 8 * a) (pos (suc D)) (pos 0) (omega arith)
-          ∙ getD-set-other grown 6 (64 + 8 * a) credit (pos 0) (omega arith)
+      spare = λ n x. front (headerSpare n) (omega arith) (omega arith) (omega arith) (λ a y e. omega arith) ∙ h .spare n x;
+      balances = λ a x. closed-front o w D (balanceWord a) (omega arith) ∙ getD-set-other (set grown msslWord credit) nextDayWord (balanceWord a) (pos (suc D)) (pos 0) (omega arith)
+          ∙ getD-set-other grown msslWord (balanceWord a) credit (pos 0) (omega arith)
           ∙ grown-in o w D (o .accounts) a x (omega (arith, longer, h .long))
           ∙ ap (λ (y : ℤ). y +ℤ posted o w D a) (h .balances a x);
-      spares = λ a j x y. front (65 + 8 * a + j) (omega arith) (omega arith) (omega arith)
+      spares = λ a j x y. front (accountSpare a j) (omega arith) (omega arith) (omega arith)
           (λ b z e. let q = remainder a b {m = 8} {r = 1 + j} {r′ = 0} (omega arith) (omega arith) (omega arith) in omega arith) ∙ h .spares a j x y;
       held = closed-held;
       early = λ u i m x hi hm. closed-out o w D (windowSlot o (suc k) u) i m hi hm (λ t e. omega (arith, residual-begun t))
@@ -234,7 +236,7 @@ module _ (o : Terms) (p : zero < ring o) (k : ℕ) (g : Entries) (balance : ℕ 
         grown = balancesGrown o w D (o .accounts)
 
         credit : ℤ
-        credit = word w 6 +ℤ postedToMssl o w D
+        credit = word w msslWord +ℤ postedToMssl o w D
 
         lengths : length grown ≡ length w
         lengths = length-grown o w D (o .accounts)
@@ -245,5 +247,5 @@ module _ (o : Terms) (p : zero < ring o) (k : ℕ) (g : Entries) (balance : ℕ 
         later : (u : ℕ) → windowSlot o k (suc u) ≡ windowSlot o (suc k) u
         later u = window-next o k u
 
-        front : (n : ℕ) → n < base o → n ≢ 5 → n ≢ 6 → ((a : ℕ) → a < o .accounts → n ≡ 64 + 8 * a → ⊥) → word (dayClosed o w D) n ≡ word w n
+        front : (n : ℕ) → n < base o → n ≢ nextDayWord → n ≢ msslWord → ((a : ℕ) → a < o .accounts → n ≡ balanceWord a → ⊥) → word (dayClosed o w D) n ≡ word w n
         front n b f g c = closed-front o w D n b ∙ counted-out o w D n f g c

@@ -123,7 +123,7 @@ row-examples = record {
 
 -- a header, N, L, H, F, C and the words after
 abbrev headed : ℤ → ℤ → ℤ → ℤ → ℤ → ℤ → List ℤ → Bool
-headed m n l h f c rest = headerFits two (m ∷ n ∷ l ∷ h ∷ f ∷ c ∷ rest)
+headed m n l h f c rest = headerFits (m ∷ n ∷ l ∷ h ∷ f ∷ c ∷ rest)
 
 pub record Headers : Type 0 where
   pub fine : headed (pos 395) (pos 32) (pos 75) (pos 92) (pos 9497) (pos 36525) (minus 7 ∷ []) ≡ true

@@ -10,7 +10,8 @@ use Rattle.rulebook.specs.declared.Section.the-variants.{Meter}
 use Rattle.rulebook.specs.declared.Terms.{Terms}
 use Rattle.rulebook.specs.Units.{positive, asQuantity}
 use Rattle.rulebook.specs.Sections.{accountsOf, mostCount, valueInRange, figureSection, figurePlace}
-use Rattle.rulebook.specs.Layout.{Entries, dataOf, width, present, entryNamed, flagIndex, figureIndex}
+use Rattle.rulebook.specs.Layout.{width, present, flagIndex, figureIndex}
+use Rattle.rulebook.specs.BookData.{Entries, dataOf, entryNamed}
 use Rattle.rulebook.specs.File.{Row, Figure, BVQ, BVP, TVQ, TVP, MEP, IEQ, UEGQ, MQ, RVP1, RVP2, NccLoad, figureSection, figurePlace, numberOf}
 use Rattle.rulebook.specs.Submit.{entry}
 use Rattle.rulebook.specs.History.{RowsInForce, figureIn, countIn, dataInForce}

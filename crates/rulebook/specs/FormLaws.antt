@@ -3,7 +3,7 @@ use mathlib.Core.Path.{_≡_, refl, ap, _∙_}
 use mathlib.Core.Bool.{Bool, true, false, _&&_, _||_, not}
 use mathlib.Core.List.{List}
 use Prim.Native.Nat.{ℕ, zero, suc, _+_, _-_, _*_, _≤_, _<_}
-use native.Mathlib.Nat.{mod-lt, add-sub-cancel-left, add-mod-right, one-mul}
+use native.Mathlib.Nat.{mod-lt, add-sub-cancel-left, one-mul}
 use native.Mathlib.Omega.{arith}
 use native.Mathlib.Decide.{decLe}
 use lib.IntN.{ℤ, pos, natAbs}
@@ -15,25 +15,19 @@ use Rattle.rulebook.specs.declared.Section.{Section}
 use Rattle.rulebook.specs.declared.Section.the-variants.{Vesting, Meter, Residual, Ncc}
 use Rattle.rulebook.specs.declared.Terms.{Terms}
 use Rattle.rulebook.specs.Units.{lastDay, between, positive}
+use Rattle.rulebook.specs.Terms.{InTerms}
 use Rattle.rulebook.specs.Sections.{accountsOf, mostCount}
-use Rattle.rulebook.specs.Layout.{width, intervalSize, ring, size, slot, intervalWord, rowWord, windowSlot, termsOf, nextDay, Word, spare, isSpare, intervalTable, accountTable, intervalWords, accountWords, accountPlace, wordName, flagIndex}
-use Rattle.rulebook.specs.WellFormed.{isZero, rowFits, rowBlank, rowCounts, wordFits, sparesZero, isThere, intervalBlank, slotBlank, slotRow, accountWordsFit, intervalFits, bothThere, closedRowsThere, windowSlotFits, accountFits, balanceFits, headerFits, fits, wellFormed, dayBound}
+use Rattle.rulebook.specs.Layout.{width, intervalSize, ring, size, slot, intervalWord, rowWord, Word, spare, isSpare, intervalTable, accountTable, intervalWords, accountWords, accountPlace, wordName, flagIndex, msslWord, markWord, accountsWord, lagWord, horizonWord, firstDayWord, nextDayWord, balanceWord, accountSpare, headerSpare, headerSpares, accountSpares}
+use Rattle.rulebook.specs.BookData.{termsOf, nextDay}
+use Rattle.rulebook.specs.WellFormed.{isZero, rowFits, rowBlank, rowCounts, wordFits, sparesZero, isThere, intervalBlank, slotBlank, slotRow, accountWordsFit, intervalFits, bothThere, closedRowsThere, accountFits, balanceFits, headerFits, fits, wellFormed, dayBound}
 use Rattle.rulebook.specs.TestLaws.{all-same, any-same, all-yes, between-yes, cond-yes, and-both, or-cases, nor-left}
 use Rattle.rulebook.specs.RowWordLaws.{flag-inside}
+use Rattle.rulebook.specs.WindowWalk.{windowSlot, windowSlotFits}
 use Rattle.rulebook.specs.LayoutLaws.{InWindow}
+use Rattle.rulebook.specs.RingLaws.{place-slot, place-day}
+use Rattle.rulebook.specs.WalkLaws.{walk-days}
 use Rattle.rulebook.specs.LedgerLaws.{Ledger, Holds, Padding, ofInterval, ofAccount}
 use Rattle.rulebook.specs.CoverLaws.{Cover, ofRow, ofPadding, cover}
-
--- an accepted opening's terms
-pub record InTerms (o : Terms) : Type 0 where
-  pub accounts1 : 1 ≤ o .accounts
-  pub accounts32 : o .accounts ≤ 32
-  pub lag1 : 1 ≤ o .lag
-  pub lag75 : o .lag ≤ 75
-  pub horizon1 : 1 ≤ o .horizon
-  pub horizon92 : o .horizon ≤ 92
-  pub first1 : 9497 ≤ o .first
-  pub last : o .first ≤ lastDay
 
 pub ring-pos : (o : Terms) → InTerms o → zero < ring o
 unfolding ring
@@ -85,14 +79,12 @@ module _ (o : Terms) (t : InTerms o) (b : Ledger) (w : List ℤ) (h : Holds o b 
     day = o .first + (k + u - o .lag)
 
     day-slot : windowSlot o k u ≡ slot o day
-    unfolding windowSlot slot ring day
-    day-slot =
-        let e : k + u + o .horizon ≡ (o .first + (k + u - o .lag) - o .first) + (o .lag + o .horizon) = omega arith in
-        rw e (add-mod-right (o .first + (k + u - o .lag) - o .first) (o .lag + o .horizon))
+    unfolding day
+    day-slot = place-slot o k u hu late
 
     day-window : InWindow o k day
-    unfolding day ring
-    day-window = omega arith
+    unfolding day
+    day-window = place-day o k u hu late
 
     slot-row : (s : Section) (a i j : ℕ) → a < accountsOf s (o .accounts) → i < 48 → j < width s
         → slotRow o w (windowSlot o k u) i s a j ≡ b .entries s a day i j
@@ -163,36 +155,37 @@ module _ (o : Terms) (t : InTerms o) (b : Ledger) (w : List ℤ) (h : Holds o b 
           (not-or (ltb u (o .lag)) (all 48 (closedRowsThere o w (windowSlot o k u)))
           (λ z. all-yes 48 (closedRowsThere o w (windowSlot o k u)) (closed-there u hu y (ltb→lt u (o .lag) z))))
 
-  header-fits : T (headerFits o w)
+  header-fits : T (headerFits w)
   unfolding headerFits
   header-fits =
-      let m : T (between (pos 395) (pos 395) (word w 0)) = rw (h .mark) tt in
-      let a : T (between (pos 1) (pos 32) (word w 1)) = rw (h .accounts) (between-yes 1 32 (o .accounts) (omega arith) (omega arith)) in
-      let l : T (between (pos 1) (pos 75) (word w 2)) = rw (h .lag) (between-yes 1 75 (o .lag) (omega arith) (omega arith)) in
-      let z : T (between (pos 1) (pos 92) (word w 3)) = rw (h .horizon) (between-yes 1 92 (o .horizon) (omega arith) (omega arith)) in
-      let f : T (between (pos 9497) (pos 36524) (word w 4)) = rw (h .first) (between-yes 9497 36524 (o .first) (omega arith) (omega arith)) in
-      let c : T (between (word w 4) (pos 36525) (word w 5)) = rw (h .first, h .next) (between-yes (o .first) 36525 (o .first + k) (omega arith) (omega (arith, q .begun))) in
-      let s : T (all 57 (λ n. isZero (word w (7 + n)))) = all-yes 57 (λ n. isZero (word w (7 + n))) (λ n hn. zero-yes (h .spare n hn)) in
+      let m : T (between (pos 395) (pos 395) (word w markWord)) = rw (h .mark) tt in
+      let a : T (between (pos 1) (pos 32) (word w accountsWord)) = rw (h .accounts) (between-yes 1 32 (o .accounts) (omega arith) (omega arith)) in
+      let l : T (between (pos 1) (pos 75) (word w lagWord)) = rw (h .lag) (between-yes 1 75 (o .lag) (omega arith) (omega arith)) in
+      let z : T (between (pos 1) (pos 92) (word w horizonWord)) = rw (h .horizon) (between-yes 1 92 (o .horizon) (omega arith) (omega arith)) in
+      let f : T (between (pos 9497) (pos 36524) (word w firstDayWord)) = rw (h .first) (between-yes 9497 36524 (o .first) (omega arith) (omega arith)) in
+      let c : T (between (word w firstDayWord) (pos 36525) (word w nextDayWord)) = rw (h .first, h .next) (between-yes (o .first) 36525 (o .first + k) (omega arith) (omega (arith, q .begun))) in
+      let s : T (all headerSpares (λ n. isZero (word w (headerSpare n)))) = all-yes headerSpares (λ n. isZero (word w (headerSpare n))) (λ n hn. zero-yes (h .spare n hn)) in
       search and-both depth 8
 
-  account-fits : (a : ℕ) → a < o .accounts → T (accountFits o w k a)
+  account-fits : (a : ℕ) → a < o .accounts → T (accountFits w k a)
   unfolding accountFits balanceFits
-  account-fits a ha = and-both (balanceFits o w 1 k (word w (64 + 8 * a))) (all 7 (λ j. isZero (word w (65 + 8 * a + j))))
+  account-fits a ha = and-both (balanceFits 1 k (word w (balanceWord a))) (all accountSpares (λ j. isZero (word w (accountSpare a j))))
       (rw (h .balances a ha) (le→leb (natAbs (b .balance a)) (1 * (k * dayBound)) (rw one-mul (q .bounded a ha))))
-      (all-yes 7 (λ j. isZero (word w (65 + 8 * a + j))) (λ j hj. zero-yes (h .spares a j ha hj)))
+      (all-yes accountSpares (λ j. isZero (word w (accountSpare a j))) (λ j hj. zero-yes (h .spares a j ha hj)))
 
-  mssl-fits : T (balanceFits o w (o .accounts) k (word w 6))
+  mssl-fits : T (balanceFits (o .accounts) k (word w msslWord))
   unfolding balanceFits
   mssl-fits = rw (h .mssl) (le→leb (natAbs (b .mssl)) (o .accounts * (k * dayBound)) (q .mssl))
 
-  fits-yes : T (fits o w k)
+  fits-yes : T (fits o w (o .first + k))
   unfolding fits
   fits-yes =
+      let n : o .first + k - o .first ≡ k = add-sub-cancel-left (o .first) k in
       let a = header-fits in
       let l = le→leb (size o) (length w) (h .long) in
-      let c = mssl-fits in
-      let d = all-yes (o .accounts) (accountFits o w k) account-fits in
-      let e = all-yes (ring o) (windowSlotFits o w k) window-fits in
+      let c : T (balanceFits (o .accounts) (o .first + k - o .first) (word w msslWord)) = rw n mssl-fits in
+      let d : T (all (o .accounts) (accountFits w (o .first + k - o .first))) = rw n (all-yes (o .accounts) (accountFits w k) account-fits) in
+      let e = walk-days o w k (t .horizonFrom) (all-yes (ring o) (windowSlotFits o w k) window-fits) in
       search and-both depth 6
 
   pub terms-of : termsOf w ≡ o
@@ -203,6 +196,4 @@ module _ (o : Terms) (t : InTerms o) (b : Ledger) (w : List ℤ) (h : Holds o b 
 
   pub well-formed : T (wellFormed w)
   unfolding wellFormed
-  well-formed =
-      let e : nextDay w - termsOf w .first ≡ k = rw (h .first, h .next) (add-sub-cancel-left (o .first) k) in
-      rw (e, terms-of) fits-yes
+  well-formed = rw (terms-of, next-day) fits-yes

@@ -1,9 +1,9 @@
 -- A well-formed book, any that is lent, holds the ledger that its words tell: the facts that a close's arithmetic needs. Assumes nothing.
-use mathlib.Core.Path.{_≡_, refl, ap, _∙_, subst}
+use mathlib.Core.Path.{_≡_, refl, sym, ap, _∙_, subst}
 use mathlib.Core.Bool.{Bool, true, false, cond, _&&_, _||_, not}
 use mathlib.Core.List.{List}
 use Prim.Native.Nat.{ℕ, zero, _+_, _-_, _*_, _≤_, _<_}
-use native.Mathlib.Nat.{one-mul}
+use native.Mathlib.Nat.{one-mul, add-sub-of-le}
 use native.Mathlib.Omega.{arith}
 use native.Mathlib.Decide.{decLe}
 use lib.IntN.{ℤ, pos, negsuc, natAbs}
@@ -15,108 +15,121 @@ use Rattle.rulebook.specs.declared.Section.{Section}
 use Rattle.rulebook.specs.declared.Terms.{Terms}
 use Rattle.rulebook.specs.Units.{lastDay, between, positive}
 use Rattle.rulebook.specs.DayAmount.{residualDue, postedAmount}
+use Rattle.rulebook.specs.Terms.{InTerms}
 use Rattle.rulebook.specs.Sections.{accountsOf}
-use Rattle.rulebook.specs.Layout.{width, place, ring, size, intervalSize, slot, intervalWord, rowWord, windowSlot, termsOf, nextDay, entriesOf, bookData}
-use Rattle.rulebook.specs.WellFormed.{isZero, rowFits, isThere, intervalBlank, slotBlank, intervalFits, closedRowsThere, windowSlotFits, accountFits, balanceFits, headerFits, fits, wellFormed, dayBound}
+use Rattle.rulebook.specs.Layout.{width, place, ring, size, intervalSize, slot, intervalWord, rowWord, markWord, accountsWord, lagWord, horizonWord, firstDayWord, nextDayWord, msslWord, balanceWord, accountSpare, headerSpare, headerSpares, accountSpares}
+use Rattle.rulebook.specs.BookData.{termsOf, nextDay, entriesOf, bookData}
+use Rattle.rulebook.specs.WellFormed.{isZero, rowFits, isThere, intervalBlank, slotBlank, intervalFits, closedRowsThere, accountFits, balanceFits, headerFits, fits, wellFormed, dayBound, daysFit}
 use Rattle.rulebook.specs.TestLaws.{and-left, and-right, all-at}
+use Rattle.rulebook.specs.WindowWalk.{windowSlot, windowSlotFits}
 use Rattle.rulebook.specs.LayoutLaws.{InWindow}
 use Rattle.rulebook.specs.RingLaws.{turn-of, turned, turn-inside}
+use Rattle.rulebook.specs.WalkLaws.{days-walk}
 use Rattle.rulebook.specs.LedgerLaws.{Ledger, Holds, Padding, padding-fits}
 use Rattle.rulebook.specs.KeptLaws.{absent-fits}
-use Rattle.rulebook.specs.FormLaws.{InTerms, Fit, ring-pos}
+use Rattle.rulebook.specs.FormLaws.{Fit, ring-pos}
 use Rattle.rulebook.specs.SizeLaws.{data-sized, posted-size}
-use Rattle.rulebook.specs.SlotLaws.{row-in-interval, is-zero, is-number, interval-padding, slots-fit, undated-blank, closed-there, row-fits-at, entries-ranged}
+use Rattle.rulebook.specs.SlotLaws.{row-in-interval, is-zero, is-number, interval-padding, undated-blank, closed-there, row-fits-at, entries-ranged}
 
 -- ---- a well-formed book holds a ledger, and it fits
 
 -- the ledger that a book's own words tell
 abbrev pub ledgerOf : List ℤ → Ledger
-ledgerOf w = record { closed = nextDay w - termsOf w .first; entries = entriesOf (termsOf w) w; balance = λ a. word w (64 + 8 * a); mssl = word w 6 }
+ledgerOf w = record { closed = nextDay w - termsOf w .first; entries = entriesOf (termsOf w) w; balance = λ a. word w (balanceWord a); mssl = word w msslWord }
 
 is-natural : (a b : ℕ) (z : ℤ) → T (between (pos a) (pos b) z) → (z ≡ pos (positive z)) × (a ≤ positive z) × (positive z ≤ b)
 is-natural a b (pos n) t = (refl, leb→le a n (and-left (leb a n) (leb n b) t), leb→le n b (and-right (leb a n) (leb n b) t))
 is-natural a b (negsuc n) t = absurd t
 
 module _ (w : List ℤ) (t : T (wellFormed w)) where
-  all-fits : T (fits (termsOf w) w (nextDay w - termsOf w .first))
+  all-fits : T (fits (termsOf w) w (nextDay w))
   unfolding wellFormed
   all-fits = t
 
-  header-of : T (headerFits (termsOf w) w)
+  header-of : T (headerFits w)
   unfolding fits
   header-of = let x = all-fits in search (and-left, and-right) depth 6
 
-  mark-of : word w 0 ≡ pos 395
+  mark-of : word w markWord ≡ pos 395
   unfolding headerFits
-  mark-of = let x = header-of in is-number 395 (word w 0) (search (and-left, and-right) depth 8)
+  mark-of = let x = header-of in is-number 395 (word w markWord) (search (and-left, and-right) depth 8)
 
-  accounts-of : (word w 1 ≡ pos (positive (word w 1))) × (1 ≤ positive (word w 1)) × (positive (word w 1) ≤ 32)
+  accounts-of : (word w accountsWord ≡ pos (positive (word w accountsWord))) × (1 ≤ positive (word w accountsWord)) × (positive (word w accountsWord) ≤ 32)
   unfolding headerFits
-  accounts-of = let x = header-of in is-natural 1 32 (word w 1) (search (and-left, and-right) depth 8)
+  accounts-of = let x = header-of in is-natural 1 32 (word w accountsWord) (search (and-left, and-right) depth 8)
 
-  lag-of : (word w 2 ≡ pos (positive (word w 2))) × (1 ≤ positive (word w 2)) × (positive (word w 2) ≤ 75)
+  lag-of : (word w lagWord ≡ pos (positive (word w lagWord))) × (1 ≤ positive (word w lagWord)) × (positive (word w lagWord) ≤ 75)
   unfolding headerFits
-  lag-of = let x = header-of in is-natural 1 75 (word w 2) (search (and-left, and-right) depth 8)
+  lag-of = let x = header-of in is-natural 1 75 (word w lagWord) (search (and-left, and-right) depth 8)
 
-  horizon-of : (word w 3 ≡ pos (positive (word w 3))) × (1 ≤ positive (word w 3)) × (positive (word w 3) ≤ 92)
+  horizon-of : (word w horizonWord ≡ pos (positive (word w horizonWord))) × (1 ≤ positive (word w horizonWord)) × (positive (word w horizonWord) ≤ 92)
   unfolding headerFits
-  horizon-of = let x = header-of in is-natural 1 92 (word w 3) (search (and-left, and-right) depth 8)
+  horizon-of = let x = header-of in is-natural 1 92 (word w horizonWord) (search (and-left, and-right) depth 8)
 
-  first-of : (word w 4 ≡ pos (positive (word w 4))) × (9497 ≤ positive (word w 4)) × (positive (word w 4) ≤ 36524)
+  first-of : (word w firstDayWord ≡ pos (positive (word w firstDayWord))) × (9497 ≤ positive (word w firstDayWord)) × (positive (word w firstDayWord) ≤ 36524)
   unfolding headerFits
-  first-of = let x = header-of in is-natural 9497 36524 (word w 4) (search (and-left, and-right) depth 8)
+  first-of = let x = header-of in is-natural 9497 36524 (word w firstDayWord) (search (and-left, and-right) depth 8)
 
-  pub next-of : (word w 5 ≡ pos (positive (word w 5))) × (positive (word w 4) ≤ positive (word w 5)) × (positive (word w 5) ≤ 36525)
+  pub next-of : (word w nextDayWord ≡ pos (positive (word w nextDayWord))) × (positive (word w firstDayWord) ≤ positive (word w nextDayWord)) × (positive (word w nextDayWord) ≤ 36525)
   unfolding headerFits
   next-of =
       let x = header-of in
-      let y : T (between (word w 4) (pos 36525) (word w 5)) = search (and-left, and-right) depth 8 in
-      is-natural (positive (word w 4)) 36525 (word w 5) (subst (λ (z : ℤ). T (between z (pos 36525) (word w 5))) (first-of .0) y)
+      let y : T (between (word w firstDayWord) (pos 36525) (word w nextDayWord)) = search (and-left, and-right) depth 8 in
+      is-natural (positive (word w firstDayWord)) 36525 (word w nextDayWord) (subst (λ (z : ℤ). T (between z (pos 36525) (word w nextDayWord))) (first-of .0) y)
 
-  spares-of : T (all 57 (λ n. isZero (word w (7 + n))))
+  spares-of : T (all headerSpares (λ n. isZero (word w (headerSpare n))))
   unfolding headerFits
   spares-of = let x = header-of in search (and-left, and-right) depth 8
 
   pub opened-of : InTerms (termsOf w)
   opened-of = record {
-    accounts1 = accounts-of .1;
-    accounts32 = accounts-of .2;
-    lag1 = lag-of .1;
-    lag75 = lag-of .2;
-    horizon1 = horizon-of .1;
-    horizon92 = horizon-of .2;
-    first1 = first-of .1;
-    last = first-of .2;
+    accountsFrom = accounts-of .1;
+    accountsTo = accounts-of .2;
+    lagFrom = lag-of .1;
+    lagTo = lag-of .2;
+    horizonFrom = horizon-of .1;
+    horizonTo = horizon-of .2;
+    firstFrom = first-of .1;
+    firstTo = first-of .2;
   }
 
   long-of : size (termsOf w) ≤ length w
   unfolding fits
   long-of = let x = all-fits in leb→le (size (termsOf w)) (length w) (search (and-left, and-right) depth 6)
 
-  account-of : (a : ℕ) → a < termsOf w .accounts → T (accountFits (termsOf w) w (nextDay w - termsOf w .first) a)
+  account-of : (a : ℕ) → a < termsOf w .accounts → T (accountFits w (nextDay w - termsOf w .first) a)
   unfolding fits
   account-of a ha = let x = all-fits in
-      all-at (termsOf w .accounts) (accountFits (termsOf w) w (nextDay w - termsOf w .first)) (search (and-left, and-right) depth 6) a ha
+      all-at (termsOf w .accounts) (accountFits w (nextDay w - termsOf w .first)) (search (and-left, and-right) depth 6) a ha
 
-  spares-at : (a j : ℕ) → a < termsOf w .accounts → j < 7 → word w (65 + 8 * a + j) ≡ pos 0
+  spares-at : (a j : ℕ) → a < termsOf w .accounts → j < accountSpares → word w (accountSpare a j) ≡ pos 0
   unfolding accountFits
-  spares-at a j ha hj = is-zero (word w (65 + 8 * a + j)) (all-at 7 (λ j. isZero (word w (65 + 8 * a + j)))
-      (and-right (balanceFits (termsOf w) w 1 (nextDay w - termsOf w .first) (word w (64 + 8 * a))) (all 7 (λ j. isZero (word w (65 + 8 * a + j)))) (account-of a ha)) j hj)
+  spares-at a j ha hj = is-zero (word w (accountSpare a j)) (all-at accountSpares (λ j. isZero (word w (accountSpare a j)))
+      (and-right (balanceFits 1 (nextDay w - termsOf w .first) (word w (balanceWord a))) (all accountSpares (λ j. isZero (word w (accountSpare a j)))) (account-of a ha)) j hj)
 
-  balance-at : (a : ℕ) → a < termsOf w .accounts → natAbs (word w (64 + 8 * a)) ≤ (nextDay w - termsOf w .first) * dayBound
+  balance-at : (a : ℕ) → a < termsOf w .accounts → natAbs (word w (balanceWord a)) ≤ (nextDay w - termsOf w .first) * dayBound
   unfolding accountFits balanceFits
-  balance-at a ha = let x = leb→le (natAbs (word w (64 + 8 * a))) (1 * ((nextDay w - termsOf w .first) * dayBound))
-      (and-left (balanceFits (termsOf w) w 1 (nextDay w - termsOf w .first) (word w (64 + 8 * a))) (all 7 (λ j. isZero (word w (65 + 8 * a + j)))) (account-of a ha)) in
+  balance-at a ha = let x = leb→le (natAbs (word w (balanceWord a))) (1 * ((nextDay w - termsOf w .first) * dayBound))
+      (and-left (balanceFits 1 (nextDay w - termsOf w .first) (word w (balanceWord a))) (all accountSpares (λ j. isZero (word w (accountSpare a j)))) (account-of a ha)) in
       rw one-mul at x
 
-  mssl-at : natAbs (word w 6) ≤ termsOf w .accounts * ((nextDay w - termsOf w .first) * dayBound)
+  mssl-at : natAbs (word w msslWord) ≤ termsOf w .accounts * ((nextDay w - termsOf w .first) * dayBound)
   unfolding fits balanceFits
-  mssl-at = let x = all-fits in leb→le (natAbs (word w 6)) (termsOf w .accounts * ((nextDay w - termsOf w .first) * dayBound)) (search (and-left, and-right) depth 6)
+  mssl-at = let x = all-fits in leb→le (natAbs (word w msslWord)) (termsOf w .accounts * ((nextDay w - termsOf w .first) * dayBound)) (search (and-left, and-right) depth 6)
+
+  -- the days of the window, place by place
+  pub walk-of : T (all (ring (termsOf w)) (windowSlotFits (termsOf w) w (nextDay w - termsOf w .first)))
+  unfolding fits
+  walk-of =
+      let x = all-fits in
+      let d : T (daysFit (termsOf w) w (nextDay w)) = search (and-left, and-right) depth 6 in
+      days-walk (termsOf w) w (nextDay w - termsOf w .first) (horizon-of .1)
+      (subst (λ (C : ℕ). T (daysFit (termsOf w) w C)) (sym (add-sub-of-le (next-of .1))) d)
 
 -- the slot of each place in the window
-module _ (o : Terms) (w : List ℤ) (k : ℕ) (t : T (fits o w k)) (p : zero < ring o) where
+module _ (o : Terms) (w : List ℤ) (k : ℕ) (t : T (all (ring o) (windowSlotFits o w k))) (p : zero < ring o) where
   slot-test : (u : ℕ) → u < ring o → T (windowSlotFits o w k u)
-  slot-test u hu = all-at (ring o) (windowSlotFits o w k) (slots-fit o w k t p) u hu
+  slot-test u hu = all-at (ring o) (windowSlotFits o w k) t u hu
 
   blank-at : (v i m : ℕ) → i < 48 → m < intervalSize o → T (slotBlank o w v) → word w (intervalWord o v i m) ≡ pos 0
   unfolding slotBlank intervalBlank
@@ -158,12 +171,12 @@ module _ (w : List ℤ) (t : T (wellFormed w)) where
     first = first-of w t .0;
     next = next-of w t .0 ∙ ap pos (omega (arith, next-of w t .1));
     mssl = refl;
-    spare = λ n x. is-zero (word w (7 + n)) (all-at 57 (λ n. isZero (word w (7 + n))) (spares-of w t) n x);
+    spare = λ n x. is-zero (word w (headerSpare n)) (all-at headerSpares (λ n. isZero (word w (headerSpare n))) (spares-of w t) n x);
     balances = λ a x. refl;
     spares = spares-at w t;
     held = λ s a d i j x ha hi hj. refl;
-    early = early-at (termsOf w) w (nextDay w - termsOf w .first) (all-fits w t) (ring-pos (termsOf w) (opened-of w t));
-    padding = padding-at (termsOf w) w (nextDay w - termsOf w .first) (all-fits w t) (ring-pos (termsOf w) (opened-of w t));
+    early = early-at (termsOf w) w (nextDay w - termsOf w .first) (walk-of w t) (ring-pos (termsOf w) (opened-of w t));
+    padding = padding-at (termsOf w) w (nextDay w - termsOf w .first) (walk-of w t) (ring-pos (termsOf w) (opened-of w t));
   }
 
   -- and that fits
@@ -172,8 +185,8 @@ module _ (w : List ℤ) (t : T (wellFormed w)) where
   formed-fit = record {
     rows = λ s a d i hd ha hi. dated-or s a d i hd ha hi (decLe d lastDay);
     undated = λ s a d i j hd x ha hi hj. zeros s a d i j hd x ha hi hj;
-    vestings = λ a d i hd x ha hi. closed-there (termsOf w) w (nextDay w - termsOf w .first) (all-fits w t) p d hd (before d x) x a i ha hi .0;
-    meters = λ a d i hd x ha hi. closed-there (termsOf w) w (nextDay w - termsOf w .first) (all-fits w t) p d hd (before d x) x a i ha hi .1;
+    vestings = λ a d i hd x ha hi. closed-there (termsOf w) w (nextDay w - termsOf w .first) (walk-of w t) p d hd (before d x) x a i ha hi .0;
+    meters = λ a d i hd x ha hi. closed-there (termsOf w) w (nextDay w - termsOf w .first) (walk-of w t) p d hd (before d x) x a i ha hi .1;
     bounded = balance-at w t;
     mssl = mssl-at w t;
     begun = omega (arith, next-of w t .1, next-of w t .2);
@@ -187,12 +200,12 @@ module _ (w : List ℤ) (t : T (wellFormed w)) where
 
       zeros : (s : Section) (a d i j : ℕ) → InWindow (termsOf w) (nextDay w - termsOf w .first) d → lastDay < d → a < accountsOf s (termsOf w .accounts) → i < 48 → j < width s
           → entriesOf (termsOf w) w s a d i j ≡ pos 0
-      zeros s a d i j hd x ha hi hj = blank-at (termsOf w) w (nextDay w - termsOf w .first) (all-fits w t) p (slot (termsOf w) d) i (place s a j) hi (row-in-interval (termsOf w) s a j ha hj)
-          (undated-blank (termsOf w) w (nextDay w - termsOf w .first) (all-fits w t) p d hd x)
+      zeros s a d i j hd x ha hi hj = blank-at (termsOf w) w (nextDay w - termsOf w .first) (walk-of w t) p (slot (termsOf w) d) i (place s a j) hi (row-in-interval (termsOf w) s a j ha hj)
+          (undated-blank (termsOf w) w (nextDay w - termsOf w .first) (walk-of w t) p d hd x)
 
       dated-or : (s : Section) (a d i : ℕ) → InWindow (termsOf w) (nextDay w - termsOf w .first) d → a < accountsOf s (termsOf w .accounts) → i < 48 → Dec (d ≤ lastDay)
           → T (rowFits s (entriesOf (termsOf w) w s a d i))
-      dated-or s a d i hd ha hi (yes x) = row-fits-at (termsOf w) w (nextDay w - termsOf w .first) (all-fits w t) p d hd x s a i ha hi
+      dated-or s a d i hd ha hi (yes x) = row-fits-at (termsOf w) w (nextDay w - termsOf w .first) (walk-of w t) p d hd x s a i ha hi
       dated-or s a d i hd ha hi (no x) = absent-fits s (entriesOf (termsOf w) w s a d i) (λ j hj. zeros s a d i j hd (omega arith) ha hi hj)
 
 -- in any well-formed book with a day left to close, the amount that a close posts is in range
@@ -204,7 +217,7 @@ close-amount w t left a ha =
     let q = opened-of w t in
     let n = next-of w t .1 in
     posted-size o (bookData o w) (nextDay w)
-    (data-sized (o .accounts) (entriesOf o w) (nextDay w) (entries-ranged o w (nextDay w - o .first) (all-fits w t) (ring-pos o q) (nextDay w) (omega arith) left))
+    (data-sized (o .accounts) (entriesOf o w) (nextDay w) (entries-ranged o w (nextDay w - o .first) (walk-of w t) (ring-pos o q) (nextDay w) (omega arith) left))
     (λ x. let y = leb→le (o .first + o .lag) (nextDay w) x in
     data-sized (o .accounts) (entriesOf o w) (nextDay w - o .lag)
-    (entries-ranged o w (nextDay w - o .first) (all-fits w t) (ring-pos o q) (nextDay w - o .lag) (omega arith) (omega arith))) a ha
+    (entries-ranged o w (nextDay w - o .first) (walk-of w t) (ring-pos o q) (nextDay w - o .lag) (omega arith) (omega arith))) a ha

@@ -1,7 +1,7 @@
 -- Document 01, "A submission file": how it is judged, its fields in file order, the first refusal standing. Assumes nothing.
 use mathlib.Core.Bool.{Bool, true, false, not, _&&_, _||_}
 use mathlib.Core.List.{List}
-use Prim.Native.Nat.{ℕ, zero, suc, _+_, _*_, _-_, min, max}
+use Prim.Native.Nat.{ℕ, zero, suc, _+_, _*_, _-_}
 use lib.Dec.{eqb, leb}
 use lib.ListN.{length}
 use Rattle.rulebook.specs.declared.Section.{Section}
@@ -12,8 +12,9 @@ use Rattle.rulebook.specs.declared.Why.{Why}
 use Rattle.rulebook.specs.declared.Why.the-variants.{NotWhole, OutOfRange, DayNotOpen, Repeated, Excess}
 use Rattle.rulebook.specs.declared.Verdict.{Verdict}
 use Rattle.rulebook.specs.declared.Verdict.the-variants.{Accepted, Refused}
-use Rattle.rulebook.specs.Units.{lastDay, inRange}
+use Rattle.rulebook.specs.Units.{inRange}
 use Rattle.rulebook.specs.Sections.{leastCount, mostCount, kindOf}
+use Rattle.rulebook.specs.Layout.{windowFrom, windowTo}
 use Rattle.rulebook.specs.File.{num, accountBytes, countBytes, dayPos, countPos, valuesPos, accountAt, dayAt, valuesIn, valueAt, rowPos, rowsIn, meterPos, residualPos, nccPos, endPos}
 
 -- ---- Checks in order
@@ -43,13 +44,13 @@ openFrom l Meter = l .current
 openFrom l Residual = l .earliest
 openFrom l Ncc = l .earliest
 
--- a book's, C being the next day to close: from C, or for residual and NCC rows from max(F, C − L), to C + H − 1, none past the last day
+-- a book's, C being the next day to close: days of the window, for vesting and meter rows from C on
 abbrev pub limitsOf : Terms → ℕ → Limits
 limitsOf o C = record {
   accounts = o .accounts;
   current = C;
-  earliest = max (o .first) (C - o .lag);
-  last = min (C + o .horizon - 1) lastDay;
+  earliest = windowFrom o C;
+  last = windowTo o C;
 }
 
 -- ---- Fields

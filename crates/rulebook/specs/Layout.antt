@@ -1,7 +1,7 @@
 -- Document 01, "The book": where each word stands. No later chapter has a word's index. Assumes nothing.
-use mathlib.Core.Bool.{Bool, true, false, cond}
+use mathlib.Core.Bool.{Bool, true, false}
 use mathlib.Core.List.{List, [], _∷_}
-use Prim.Native.Nat.{ℕ, zero, suc, _+_, _-_, _*_, _%_}
+use Prim.Native.Nat.{ℕ, zero, suc, _+_, _-_, _*_, _%_, min, max}
 use lib.IntN.{ℤ}
 use lib.Dec.{eqb}
 use lib.ListN.{length, getD, set}
@@ -9,8 +9,7 @@ use Rattle.integer.specs.Words.{word}
 use Rattle.rulebook.specs.declared.Section.{Section}
 use Rattle.rulebook.specs.declared.Section.the-variants.{Vesting, Meter, Residual, Ncc}
 use Rattle.rulebook.specs.declared.Terms.{Terms}
-use Rattle.rulebook.specs.Units.{intervals, positive, asQuantity}
-use Rattle.rulebook.specs.DayAmount.{AccountData, SettlementData}
+use Rattle.rulebook.specs.Units.{lastDay, intervals}
 use Rattle.rulebook.specs.Sections.{sameSection, Figure, BVQ, BVP, TVQ, TVP, MEP, IEQ, UEGQ, MQ, RVP1, RVP2, NccLoad, figureSection, figurePlace}
 
 -- ---- Words
@@ -195,9 +194,15 @@ module _ (o : Terms) where
   unfoldable pub slot : ℕ → ℕ
   slot d = (d - o .first) % ring
 
-  -- the slot of day C + u − L, where k days are closed, C = F + k
-  unfoldable pub windowSlot : ℕ → ℕ → ℕ
-  windowSlot k u = (k + u + o .horizon) % ring
+  -- the window: the days that have a slot, C being the next day to close; how many they are
+  abbrev pub windowFrom : ℕ → ℕ
+  windowFrom C = max (o .first) (C - o .lag)
+
+  abbrev pub windowTo : ℕ → ℕ
+  windowTo C = min (C + o .horizon - 1) lastDay
+
+  abbrev pub windowDays : ℕ → ℕ
+  windowDays C = suc (windowTo C) - windowFrom C
 
   -- word m of interval i of slot t
   unfoldable pub intervalWord : ℕ → ℕ → ℕ → ℕ
@@ -209,45 +214,3 @@ module _ (o : Terms) where
 
   abbrev pub flagWord : Section → ℕ → ℕ → ℕ → ℕ
   flagWord s a d i = rowWord s a d i (flagIndex s)
-
--- ---- A book read
-
-abbrev pub termsOf : List ℤ → Terms
-termsOf w = record { accounts = positive (word w accountsWord); lag = positive (word w lagWord); horizon = positive (word w horizonWord); first = positive (word w firstDayWord) }
-
--- C, the next day to close
-abbrev pub nextDay : List ℤ → ℕ
-nextDay w = positive (word w nextDayWord)
-
--- what stands in each row's words: section, account, day, interval, word
-abbrev pub Entries : Type 0
-Entries = Section → ℕ → ℕ → ℕ → ℕ → ℤ
-
-abbrev pub entriesOf : Terms → List ℤ → Entries
-entriesOf o w s a d i j = word w (rowWord o s a d i j)
-
--- by name
-abbrev pub entryNamed : Entries → ℕ → ℕ → ℕ → Figure → ℤ
-entryNamed c a d i g = c (figureSection g) a d i (figureIndex g)
-
-abbrev pub accountDataOf : Entries → ℕ → ℕ → ℕ → AccountData
-accountDataOf c a d i = record {
-  bvq = asQuantity (entryNamed c a d i BVQ);
-  bvp = entryNamed c a d i BVP;
-  tvq = λ t. asQuantity (entryNamed c a d i (TVQ t));
-  tvp = λ t. entryNamed c a d i (TVP t);
-  facilities = positive (c Meter a d i (flagIndex Meter));
-  mep = λ f. entryNamed c a d i (MEP f);
-  ieq = λ f. entryNamed c a d i (IEQ f);
-  uegq = asQuantity (entryNamed c a d i UEGQ);
-  mq = asQuantity (entryNamed c a d i MQ);
-  rvp1 = entryNamed c a d i RVP1;
-  rvp2 = entryNamed c a d i RVP2;
-}
-
-abbrev pub dataOf : Entries → SettlementData
-dataOf c = record { account = accountDataOf c; load = λ d i. asQuantity (entryNamed c 0 d i NccLoad) }
-
--- a book's data
-abbrev pub bookData : Terms → List ℤ → SettlementData
-bookData o w = dataOf (entriesOf o w)

@@ -15,13 +15,15 @@ use Rattle.rulebook.specs.declared.Section.{Section}
 use Rattle.rulebook.specs.declared.Section.the-variants.{Vesting, Meter, Residual, Ncc}
 use Rattle.rulebook.specs.declared.Terms.{Terms}
 use Rattle.rulebook.specs.Sections.{accountsOf}
-use Rattle.rulebook.specs.Layout.{Entries, width, place, intervalSize, ring, base, size, slot, intervalWord, rowWord, windowSlot, Word, spare, isSpare, tableOf, intervalTable, accountTable, tablePlace, accountPlace, intervalWords, accountWords}
+use Rattle.rulebook.specs.Layout.{width, place, intervalSize, ring, base, size, slot, intervalWord, rowWord, Word, spare, isSpare, tableOf, intervalTable, accountTable, tablePlace, accountPlace, intervalWords, accountWords, markWord, accountsWord, lagWord, horizonWord, firstDayWord, nextDayWord, msslWord, balanceWord, accountSpare, headerSpare, headerSpares, accountSpares}
+use Rattle.rulebook.specs.BookData.{Entries}
 use Rattle.rulebook.specs.File.{Row}
 use Rattle.rulebook.specs.Submit.{entry, rowStored, rowsStored}
 use Rattle.rulebook.specs.History.{isFor, RowsInForce}
 use Rattle.rulebook.specs.TestLaws.{and-left, and-right, and-both}
 use Rattle.rulebook.specs.SectionsLaws.{same-section, section-self}
 use Rattle.rulebook.specs.RowWordLaws.{row-word, not-spare}
+use Rattle.rulebook.specs.WindowWalk.{windowSlot}
 use Rattle.rulebook.specs.LayoutLaws.{rows-apart, InWindow, days-apart, window-apart, interval-apart, row-inside, account-words-apart}
 use Rattle.rulebook.specs.WordLaws.{row-out, row-in, length-rowStored}
 
@@ -40,16 +42,16 @@ pub record Ledger : Type 0 where
 -- the words w hold the ledger b
 pub record Holds (o : Terms) (b : Ledger) (w : List ℤ) : Type 0 where
   pub long : size o ≤ length w
-  pub mark : word w 0 ≡ pos 395
-  pub accounts : word w 1 ≡ pos (o .accounts)
-  pub lag : word w 2 ≡ pos (o .lag)
-  pub horizon : word w 3 ≡ pos (o .horizon)
-  pub first : word w 4 ≡ pos (o .first)
-  pub next : word w 5 ≡ pos (o .first + b .closed)
-  pub mssl : word w 6 ≡ b .mssl
-  pub spare : (n : ℕ) → n < 57 → word w (7 + n) ≡ pos 0
-  pub balances : (a : ℕ) → a < o .accounts → word w (64 + 8 * a) ≡ b .balance a
-  pub spares : (a j : ℕ) → a < o .accounts → j < 7 → word w (65 + 8 * a + j) ≡ pos 0
+  pub mark : word w markWord ≡ pos 395
+  pub accounts : word w accountsWord ≡ pos (o .accounts)
+  pub lag : word w lagWord ≡ pos (o .lag)
+  pub horizon : word w horizonWord ≡ pos (o .horizon)
+  pub first : word w firstDayWord ≡ pos (o .first)
+  pub next : word w nextDayWord ≡ pos (o .first + b .closed)
+  pub mssl : word w msslWord ≡ b .mssl
+  pub spare : (n : ℕ) → n < headerSpares → word w (headerSpare n) ≡ pos 0
+  pub balances : (a : ℕ) → a < o .accounts → word w (balanceWord a) ≡ b .balance a
+  pub spares : (a j : ℕ) → a < o .accounts → j < accountSpares → word w (accountSpare a j) ≡ pos 0
   -- a day of the window: each word of each row
   pub held : (s : Section) (a d i j : ℕ) → InWindow o (b .closed) d → a < accountsOf s (o .accounts) → i < 48 → j < width s
       → word w (rowWord o s a d i j) ≡ b .entries s a d i j
@@ -180,16 +182,16 @@ module _ (o : Terms) (p : zero < ring o) where
     unfolding base
     row-held w h = record {
       long = omega (arith, length-rowStored o row 48 w, h .long);
-      mark = front w 0 (omega arith) ∙ h .mark;
-      accounts = front w 1 (omega arith) ∙ h .accounts;
-      lag = front w 2 (omega arith) ∙ h .lag;
-      horizon = front w 3 (omega arith) ∙ h .horizon;
-      first = front w 4 (omega arith) ∙ h .first;
-      next = front w 5 (omega arith) ∙ h .next;
-      mssl = front w 6 (omega arith) ∙ h .mssl;
-      spare = λ n x. front w (7 + n) (omega arith) ∙ h .spare n x;
-      balances = λ a x. front w (64 + 8 * a) (omega arith) ∙ h .balances a x;
-      spares = λ a j x y. front w (65 + 8 * a + j) (omega arith) ∙ h .spares a j x y;
+      mark = front w markWord (omega arith) ∙ h .mark;
+      accounts = front w accountsWord (omega arith) ∙ h .accounts;
+      lag = front w lagWord (omega arith) ∙ h .lag;
+      horizon = front w horizonWord (omega arith) ∙ h .horizon;
+      first = front w firstDayWord (omega arith) ∙ h .first;
+      next = front w nextDayWord (omega arith) ∙ h .next;
+      mssl = front w msslWord (omega arith) ∙ h .mssl;
+      spare = λ n x. front w (headerSpare n) (omega arith) ∙ h .spare n x;
+      balances = λ a x. front w (balanceWord a) (omega arith) ∙ h .balances a x;
+      spares = λ a j x y. front w (accountSpare a j) (omega arith) ∙ h .spares a j x y;
       held = λ s a d i j x ha hi hj. decide w h s a d i j x ha hi hj (isFor s a d row) refl;
       early = λ u i m x hi hm. elsewhere w _ i m hi hm (λ j hj e f. early-apart (b .closed) u (row .day) x day e) ∙ h .early u i m x hi hm;
       padding = λ t i m ht hi hm. elsewhere w t i m hi (padding-fits o m hm)

@@ -6,6 +6,7 @@ pub mod DayAmount
 pub mod Terms
 pub mod Sections
 pub mod Layout
+pub mod BookData
 pub mod WellFormed
 pub mod Opening
 pub mod File
@@ -31,8 +32,11 @@ pub mod TestLaws
 pub mod SectionsLaws
 pub mod AmountLaws
 pub mod RowWordLaws
+pub mod WindowWalk
 pub mod LayoutLaws
 pub mod RingLaws
+pub mod WalkLaws
+pub mod WindowLaws
 pub mod WordLaws
 pub mod LedgerLaws
 pub mod CoverLaws

@@ -1,7 +1,7 @@
 -- A newly opened book holds no rows. Assumes nothing.
 use mathlib.Core.Path.{_≡_, refl, sym, ap, _∙_, subst}
 use mathlib.Core.List.{List}
-use Prim.Native.Nat.{ℕ, zero, suc, _+_, _*_, _≤_, _<_}
+use Prim.Native.Nat.{ℕ, zero, suc, _+_, _≤_, _<_}
 use native.Mathlib.Nat.{zero-add, add-zero, mod-lt}
 use native.Mathlib.Omega.{arith}
 use lib.IntN.{ℤ, pos, _+ℤ_}
@@ -10,8 +10,9 @@ use Rattle.integer.specs.Below.{fold, sumℤ}
 use Rattle.integer.specs.Words.{word}
 use Rattle.rulebook.specs.declared.Section.{Section}
 use Rattle.rulebook.specs.declared.Terms.{Terms}
-use Rattle.rulebook.specs.Layout.{stored, ring, base, size, slot, intervalWord, rowWord, windowSlot}
+use Rattle.rulebook.specs.Layout.{stored, ring, base, size, slot, intervalWord, rowWord, markWord, accountsWord, lagWord, horizonWord, firstDayWord, nextDayWord, msslWord, balanceWord, accountSpare, headerSpare}
 use Rattle.rulebook.specs.Opening.{header, newBook}
+use Rattle.rulebook.specs.WindowWalk.{windowSlot}
 use Rattle.rulebook.specs.LayoutLaws.{interval-inside}
 use Rattle.rulebook.specs.WordLaws.{stored-in, length-stored, row-word-inside}
 use Rattle.rulebook.specs.LedgerLaws.{Holds, padding-fits}
@@ -23,7 +24,7 @@ sum-zero zero = refl
 sum-zero (suc n) = ap (λ (x : ℤ). x +ℤ pos 0) (sum-zero n)
 
 module _ (o : Terms) (lent : List ℤ) (p : zero < ring o) (l : size o ≤ length lent) where
-  new-word : (n : ℕ) → n < size o → word (newBook o lent) n ≡ word (header o) n
+  pub new-word : (n : ℕ) → n < size o → word (newBook o lent) n ≡ word (header o) n
   unfolding newBook
   new-word n h = subst (λ (m : ℕ). word (stored lent 0 (size o) (word (header o))) m ≡ word (header o) n) (zero-add n)
       (stored-in lent 0 (size o) (word (header o)) n (omega arith) h)
@@ -39,16 +40,16 @@ module _ (o : Terms) (lent : List ℤ) (p : zero < ring o) (l : size o ≤ lengt
   unfolding base newBook
   book-new = record {
     long = omega (arith, l, length-stored lent 0 (size o) (word (header o)));
-    mark = new-word 0 (omega (arith, base-fits o));
-    accounts = new-word 1 (omega (arith, base-fits o));
-    lag = new-word 2 (omega (arith, base-fits o));
-    horizon = new-word 3 (omega (arith, base-fits o));
-    first = new-word 4 (omega (arith, base-fits o));
-    next = new-word 5 (omega (arith, base-fits o)) ∙ ap pos (sym (add-zero (o .first)));
-    mssl = new-zero 6 (omega (arith, base-fits o)) (omega arith);
-    spare = λ n x. new-zero (7 + n) (omega (arith, base-fits o)) (omega arith);
-    balances = λ a x. new-zero (64 + 8 * a) (omega (arith, base-fits o)) (omega arith);
-    spares = λ a j x y. new-zero (65 + 8 * a + j) (omega (arith, base-fits o)) (omega arith);
+    mark = new-word markWord (omega (arith, base-fits o));
+    accounts = new-word accountsWord (omega (arith, base-fits o));
+    lag = new-word lagWord (omega (arith, base-fits o));
+    horizon = new-word horizonWord (omega (arith, base-fits o));
+    first = new-word firstDayWord (omega (arith, base-fits o));
+    next = new-word nextDayWord (omega (arith, base-fits o)) ∙ ap pos (sym (add-zero (o .first)));
+    mssl = new-zero msslWord (omega (arith, base-fits o)) (omega arith);
+    spare = λ n x. new-zero (headerSpare n) (omega (arith, base-fits o)) (omega arith);
+    balances = λ a x. new-zero (balanceWord a) (omega (arith, base-fits o)) (omega arith);
+    spares = λ a j x y. new-zero (accountSpare a j) (omega (arith, base-fits o)) (omega arith);
     held = λ s a d i j x ha hi hj. new-zero (rowWord o s a d i j) (row-word-inside o s d p ha hi hj) (row-late s a d i j);
     early = λ u i m x hi hm. new-zero (intervalWord o (windowSlot o 0 u) i m) (interval-inside o (window-inside u) hi hm) (late (windowSlot o 0 u) i m);
     padding = λ t i m ht hi hm. new-zero (intervalWord o t i m) (interval-inside o ht hi (padding-fits o m hm)) (late t i m);

@@ -4,10 +4,10 @@ use mathlib.Core.Logic.{_≢_, _⊎_, inl, inr, ⊎-elim}
 use mathlib.Core.Bool.{Bool, true, false, cond, not}
 use mathlib.Core.List.{List}
 use mathlib.Core.Option.{Option, none, some}
-use Prim.Native.Nat.{ℕ, _+_, _-_, _≤_, _<_}
+use Prim.Native.Nat.{ℕ, _+_, _-_, _<_}
 use native.Mathlib.Omega.{arith}
 use lib.IntN.{ℤ}
-use lib.Dec.{T, leb→le, le→leb}
+use lib.Dec.{T, leb→le}
 use Rattle.integer.specs.declared.Found.{Found}
 use Rattle.integer.specs.declared.Found.the-variants.{At, Nothing}
 use Rattle.integer.specs.Below.{first, orElse}
@@ -17,6 +17,7 @@ use Rattle.rulebook.specs.declared.Section.{Section}
 use Rattle.rulebook.specs.declared.Section.the-variants.{Vesting, Meter, Residual, Ncc}
 use Rattle.rulebook.specs.declared.Terms.{Terms}
 use Rattle.rulebook.specs.DayAmount.{residualDue}
+use Rattle.rulebook.specs.Terms.{InTerms}
 use Rattle.rulebook.specs.Sections.{accountsOf}
 use Rattle.rulebook.specs.Layout.{flagIndex, rowWord, flagWord}
 use Rattle.rulebook.specs.WellFormed.{isZero}
@@ -29,7 +30,7 @@ use Rattle.rulebook.specs.RowWordLaws.{flag-inside}
 use Rattle.rulebook.specs.LayoutLaws.{InWindow}
 use Rattle.rulebook.specs.LedgerLaws.{entriesIn, entryOf, Holds}
 use Rattle.rulebook.specs.KeptLaws.{Kept, none-or, flag-more, nonzero}
-use Rattle.rulebook.specs.FormLaws.{InTerms, zero-yes}
+use Rattle.rulebook.specs.FormLaws.{zero-yes}
 
 pub nothing-at : {X : Type 0} {v : ℕ} {x : Found} → x ≡ Nothing → x ≡ At v → X
 nothing-at e f = let z : _≡_ {A = ℕ} 0 1 = cc in absurd (omega arith)
@@ -47,14 +48,6 @@ module _ (o : Terms) (t : InTerms o) (k : ℕ) (rows : RowsInForce) (balance : �
   pub back : T (residualDue o (o .first + k)) → InWindow o k (o .first + k - o .lag)
   unfolding residualDue
   back x = let y = leb→le (o .first + o .lag) (o .first + k) x in omega arith
-
-  residual-yes : o .first + o .lag ≤ o .first + k → T (residualDue o (o .first + k))
-  unfolding residualDue
-  residual-yes x = le→leb (o .first + o .lag) (o .first + k) x
-
-  pub residual-begun : T (residualDue o (o .first + k)) → o .first + o .lag ≤ o .first + k
-  unfolding residualDue
-  residual-begun x = leb→le (o .first + o .lag) (o .first + k) x
 
   module _ (s : Section) (a d i : ℕ) (hd : InWindow o k d) (ha : a < accountsOf s (o .accounts)) (hi : i < 48) where
     flag-word : word w (rowWord o s a d i (flagIndex s)) ≡ entryOf (rows s a d) i (flagIndex s)
@@ -98,14 +91,14 @@ module _ (o : Terms) (t : InTerms o) (k : ℕ) (rows : RowsInForce) (balance : �
       then true x y = orElse-nothing _ _ y
       then false x y = absurd x
 
-      tail : o .first + o .lag ≤ o .first + k → (absentFlag o w (o .first + k) Ncc 0 (o .first + k - o .lag) 0 ≡ Nothing) × (first (o .accounts) (λ a. absentFlag o w (o .first + k) Residual a (o .first + k - o .lag) 0) ≡ Nothing)
-      tail x = then (residualDue o (o .first + k)) (residual-yes x) (orElse-nothing _ _ at0 .1)
+      tail : T (residualDue o (o .first + k)) → (absentFlag o w (o .first + k) Ncc 0 (o .first + k - o .lag) 0 ≡ Nothing) × (first (o .accounts) (λ a. absentFlag o w (o .first + k) Residual a (o .first + k - o .lag) 0) ≡ Nothing)
+      tail x = then (residualDue o (o .first + k)) x (orElse-nothing _ _ at0 .1)
 
       go : {s : Section} {a d : ℕ} → Needed o (o .first + k) s a d → rows s a d ≢ none
       go (vestingOf {a = b} ha) = flag-none Vesting b (o .first + k) 0 today ha (omega arith) (orElse-nothing _ _ (vested b ha) .0)
       go (meterOf {a = b} ha) = flag-none Meter b (o .first + k) 0 today ha (omega arith) (orElse-nothing _ _ (vested b ha) .1)
-      go (nccOf x) = flag-none Ncc 0 (o .first + k - o .lag) 0 (back (residual-yes x)) (omega arith) (omega arith) (tail x .0)
-      go (residualOf {a = b} x ha) = flag-none Residual b (o .first + k - o .lag) 0 (back (residual-yes x)) ha (omega arith)
+      go (nccOf x) = flag-none Ncc 0 (o .first + k - o .lag) 0 (back x) (omega arith) (omega arith) (tail x .0)
+      go (residualOf {a = b} x ha) = flag-none Residual b (o .first + k - o .lag) 0 (back x) ha (omega arith)
           (first-nothing (o .accounts) _ (tail x .1) b ha)
 
   -- a row that is needed and not there
@@ -133,10 +126,10 @@ module _ (o : Terms) (t : InTerms o) (k : ℕ) (rows : RowsInForce) (balance : �
 
       older : (i : ℕ) → i < 48 → T (residualDue o (o .first + k))
           → (absentFlag o w (o .first + k) Ncc 0 (o .first + k - o .lag) i ≡ At v) ⊎ (first (o .accounts) (λ a. absentFlag o w (o .first + k) Residual a (o .first + k - o .lag) i) ≡ At v) → Lacking
-      older i hi r (inl y) = lack Ncc 0 (o .first + k - o .lag) i (back r) (omega arith) hi (nccOf (residual-begun r)) y
+      older i hi r (inl y) = lack Ncc 0 (o .first + k - o .lag) i (back r) (omega arith) hi (nccOf r) y
       older i hi r (inr y) =
           let z = somewhere (o .accounts) (λ a. absentFlag o w (o .first + k) Residual a (o .first + k - o .lag) i) v y in
-          lack Residual (z .0) (o .first + k - o .lag) i (back r) (z .1) hi (residualOf (residual-begun r) (z .1)) (z .2)
+          lack Residual (z .0) (o .first + k - o .lag) i (back r) (z .1) hi (residualOf r (z .1)) (z .2)
 
       residuals : (i : ℕ) → i < 48 → (b : Bool) → residualDue o (o .first + k) ≡ b
           → cond b (orElse (absentFlag o w (o .first + k) Ncc 0 (o .first + k - o .lag) i) (first (o .accounts) (λ a. absentFlag o w (o .first + k) Residual a (o .first + k - o .lag) i))) Nothing ≡ At v → Lacking

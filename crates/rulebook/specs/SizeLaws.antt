@@ -18,7 +18,8 @@ use Rattle.rulebook.specs.Units.{inRange, mostQuantity, mostPrice, neare
 use Rattle.rulebook.specs.Tranches.{tranche1, tranche2}
 use Rattle.rulebook.specs.DayAmount.{AccountData, SettlementData, referencePriceOf, vestingAmount, residualLoad, rvq, residualAmount, residualDue, residualDay, intervalAmount, exactAmount, postedAmount}
 use Rattle.rulebook.specs.Sections.{accountsOf, valueInRange, kindOf, Figure, BVQ, BVP, TVQ, TVP, MEP, UEGQ, RVP1, RVP2, figureSection, figurePlace}
-use Rattle.rulebook.specs.Layout.{Entries, entryNamed, dataOf, flagIndex}
+use Rattle.rulebook.specs.Layout.{flagIndex}
+use Rattle.rulebook.specs.BookData.{Entries, entryNamed, dataOf}
 use Rattle.rulebook.specs.WellFormed.{dayBound}
 use Rattle.rulebook.specs.ReferencePriceLaws.{price-size}
 use Rattle.rulebook.specs.SharesLaws.{share-le}

@@ -4,7 +4,6 @@ use mathlib.Core.Logic.{_⊎_, inl, inr}
 use mathlib.Core.Bool.{Bool, true, false, cond, _&&_, _||_, not}
 use mathlib.Core.List.{List}
 use Prim.Native.Nat.{ℕ, zero, suc, _+_, _-_, _≤_, _<_}
-use native.Mathlib.Nat.{add-mod-right}
 use native.Mathlib.Omega.{arith}
 use lib.IntN.{ℤ, pos, negsuc}
 use lib.Dec.{T, leb, ltb, leb→le, lt→ltb, ltb→lt}
@@ -16,11 +15,14 @@ use Rattle.rulebook.specs.declared.Section.the-variants.{Vesting, Meter,
 use Rattle.rulebook.specs.declared.Terms.{Terms}
 use Rattle.rulebook.specs.Units.{lastDay, between, positive}
 use Rattle.rulebook.specs.Sections.{accountsOf, perInterval, leastCount, mostCount, valueInRange, Figure, figureSection, figurePlace}
-use Rattle.rulebook.specs.Layout.{width, place, ring, size, intervalSize, slot, intervalWord, rowWord, windowSlot, entriesOf, Word, spare, isSpare, intervalTable, accountTable, accountPlace, wordName, flagIndex, figureIndex}
-use Rattle.rulebook.specs.WellFormed.{isZero, rowBlank, wordFits, sparesZero, rowCounts, rowFits, isThere, bothThere, slotRow, accountWordsFit, slotBlank, intervalFits, closedRowsThere, windowSlotFits, accountFits, balanceFits, headerFits, fits}
+use Rattle.rulebook.specs.Layout.{width, place, ring, intervalSize, slot, intervalWord, rowWord, Word, spare, isSpare, intervalTable, accountTable, accountPlace, wordName, flagIndex, figureIndex}
+use Rattle.rulebook.specs.BookData.{entriesOf}
+use Rattle.rulebook.specs.WellFormed.{isZero, rowBlank, wordFits, sparesZero, rowCounts, rowFits, isThere, bothThere, slotRow, accountWordsFit, slotBlank, intervalFits, closedRowsThere, fits}
 use Rattle.rulebook.specs.TestLaws.{and-left, and-right, or-cases, all-at, any-at}
 use Rattle.rulebook.specs.RowWordLaws.{Usable, figure-word, flag-inside}
+use Rattle.rulebook.specs.WindowWalk.{windowSlot, windowSlotFits}
 use Rattle.rulebook.specs.LayoutLaws.{InWindow, row-inside}
+use Rattle.rulebook.specs.RingLaws.{placeOf, day-place}
 use Rattle.rulebook.specs.LedgerLaws.{Padding, ofInterval, ofAccount}
 use Rattle.rulebook.specs.KeptLaws.{zero-ranged}
 use Rattle.rulebook.specs.SizeLaws.{RangedEntries}
@@ -116,27 +118,22 @@ module _ (o : Terms) (w : List ℤ) (t i : ℕ) where
   interval-row z Residual a h = account-rows a (all-at (o .accounts) (accountWordsFit o w t i) (interval-accounts z) a h) .2
   interval-row z Ncc a h = interval-ncc z
 
-module _ (o : Terms) (w : List ℤ) (k : ℕ) (t : T (fits o w k)) (p : zero < ring o) where
-  pub slots-fit : T (all (ring o) (windowSlotFits o w k))
-  unfolding fits
-  slots-fit = and-right (headerFits o w && leb (size o) (length w) && balanceFits o w (o .accounts) k (word w 6) && all (o .accounts) (accountFits o w k)) (all (ring o) (windowSlotFits o w k)) t
-
+-- the walk over the window's places
+module _ (o : Terms) (w : List ℤ) (k : ℕ) (t : T (all (ring o) (windowSlotFits o w k))) (p : zero < ring o) where
   -- a day of the window, and its place in it
   module _ (d : ℕ) (hd : InWindow o k d) where
     pub turn : ℕ
     turn = d + o .lag - (o .first + k)
 
     turn-slot : windowSlot o k turn ≡ slot o d
-    unfolding windowSlot slot ring turn
-    turn-slot =
-        let e : k + (d + o .lag - (o .first + k)) + o .horizon ≡ (d - o .first) + (o .lag + o .horizon) = omega arith in
-        rw e (add-mod-right (d - o .first) (o .lag + o .horizon))
+    unfolding turn placeOf
+    turn-slot = day-place o k d hd .slot-is
 
     -- a slot of no day is blank
     pub undated-blank : lastDay < d → T (slotBlank o w (slot o d))
     unfolding windowSlotFits turn ring
     undated-blank last =
-        let x = all-at (ring o) (windowSlotFits o w k) slots-fit turn (omega arith) in
+        let x = all-at (ring o) (windowSlotFits o w k) t turn (omega arith) in
         let e : o .first + (k + turn - o .lag) ≡ d = omega arith in
         subst (λ (y : ℕ). T (slotBlank o w y)) turn-slot (go (ltb (k + turn) (o .lag)) (ltb lastDay (o .first + (k + turn - o .lag))) (lt→ltb lastDay (o .first + (k + turn - o .lag)) (rw e last)) x)
       where
@@ -151,7 +148,7 @@ module _ (o : Terms) (w : List ℤ) (k : ℕ) (t : T (fits o w k)) (p : zero < r
     pub full : T (all 48 (intervalFits o w (slot o d)) && (not (ltb (turn d hd) (o .lag)) || all 48 (closedRowsThere o w (slot o d))))
     unfolding windowSlotFits turn ring
     full =
-        let x = all-at (ring o) (windowSlotFits o w k) slots-fit (turn d hd) (omega arith) in
+        let x = all-at (ring o) (windowSlotFits o w k) t (turn d hd) (omega arith) in
         subst (λ (y : ℕ). T (all 48 (intervalFits o w y) && (not (ltb (turn d hd) (o .lag)) || all 48 (closedRowsThere o w y)))) (turn-slot d hd)
         (go (ltb (k + turn d hd) (o .lag)) (ltb lastDay (o .first + (k + turn d hd - o .lag))) refl refl x)
       where

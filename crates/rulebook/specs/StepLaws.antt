@@ -16,7 +16,8 @@ use Rattle.rulebook.specs.declared.Section.{Section}
 use Rattle.rulebook.specs.declared.Section.the-variants.{Vesting, Meter, Residual, Ncc}
 use Rattle.rulebook.specs.declared.Terms.{Terms}
 use Rattle.rulebook.specs.Units.{lastDay}
-use Rattle.rulebook.specs.Layout.{Entries, flagIndex}
+use Rattle.rulebook.specs.Layout.{flagIndex}
+use Rattle.rulebook.specs.BookData.{Entries}
 use Rattle.rulebook.specs.WellFormed.{isZero, dayBound}
 use Rattle.rulebook.specs.File.{Row}
 use Rattle.rulebook.specs.Judging.{openFrom, limitsOf}

@@ -5,8 +5,9 @@ use mathlib.Core.Bool.{Bool, true, false, cond, _&&_, _||_, not}
 use Prim.Native.Nat.{ℕ, zero, suc, _≤_, _<_}
 use native.Mathlib.Nat.{not-suc-le-zero, le-suc-iff}
 use native.Mathlib.Omega.{arith}
+use borrow.Author.Tests.{le-ltb}
 use lib.IntN.{pos}
-use lib.Dec.{T, leb, le→leb}
+use lib.Dec.{T, leb, ltb, le→leb}
 use Rattle.integer.specs.Below.{fold, all, any}
 use Rattle.rulebook.specs.Units.{between}
 
@@ -72,6 +73,9 @@ any-yes (suc n) p i h t = go (λ x. any-yes n p i x t) (below-suc h)
     go : (i < n → T (any n p)) → (i < n) ⊎ (i ≡ n) → T (any n p || p n)
     go ih (inl x) = or-left (any n p) (p n) (ih x)
     go ih (inr x) = or-right (any n p) (p n) (subst (λ (y : ℕ). T (p y)) x t)
+
+pub not-ltb : (m n : ℕ) → n ≤ m → T (not (ltb m n))
+not-ltb m n h = rw (le-ltb m n h) tt
 
 pub between-yes : (a b n : ℕ) → a ≤ n → n ≤ b → T (between (pos a) (pos b) (pos n))
 between-yes a b n h k = and-both (leb a n) (leb n b) (le→leb a n h) (le→leb n b k)

@@ -3,7 +3,7 @@ use mathlib.Core.Bool.{Bool, cond, not, _&&_, _||_}
 use mathlib.Core.List.{List}
 use Prim.Native.Nat.{ℕ, suc, _+_, _-_, _*_}
 use lib.IntN.{ℤ, pos, natAbs}
-use lib.Dec.{leb, ltb}
+use lib.Dec.{leb, ltb, eqb}
 use lib.ListN.{length, getD}
 use Rattle.integer.specs.Below.{all, any}
 use Rattle.integer.specs.Words.{word}
@@ -14,7 +14,8 @@ use Rattle.rulebook.specs.Units.{lastDay, intervals, between}
 use Rattle.rulebook.specs.Shares.{mostAccounts}
 use Rattle.rulebook.specs.Terms.{mostLag, mostHorizon, earliestFirstDay}
 use Rattle.rulebook.specs.Sections.{valueInRange, perInterval, leastCount, mostCount, figurePlace}
-use Rattle.rulebook.specs.Layout.{mark, markWord, accountsWord, lagWord, horizonWord, firstDayWord, nextDayWord, msslWord, balanceWord, headerSpares, headerSpare, accountSpares, accountSpare, Word, flag, figure, spare, isSpare, intervalTable, accountTable, accountPlace, present, width, wordName, flagIndex, place, intervalSize, ring, size, intervalWord, windowSlot, termsOf, nextDay}
+use Rattle.rulebook.specs.Layout.{mark, markWord, accountsWord, lagWord, horizonWord, firstDayWord, nextDayWord, msslWord, balanceWord, headerSpares, headerSpare, accountSpares, accountSpare, Word, flag, figure, spare, isSpare, intervalTable, accountTable, accountPlace, present, width, wordName, flagIndex, place, intervalSize, ring, size, intervalWord, slot, windowFrom, windowDays}
+use Rattle.rulebook.specs.BookData.{termsOf, nextDay}
 
 -- a balance grows by no more cents a closed day, either way
 abbrev pub dayBound : ℕ
@@ -43,6 +44,10 @@ rowFits s f = rowBlank s f || any (suc (mostCount s)) (rowCounts s f)
 -- the words f 0, f 1, .. of a table that are spare are zero
 unfoldable pub sparesZero : List Word → (ℕ → ℤ) → Bool
 sparesZero table f = all (length table) (λ q. not (isSpare (getD table q spare)) || isZero (f q))
+
+-- slot t is of a day of the window
+unfoldable pub isDated : Terms → ℕ → ℕ → Bool
+isDated o C t = any (windowDays o C) (λ i. eqb (slot o (windowFrom o C + i)) t)
 
 module _ (o : Terms) (w : List ℤ) where
   -- ---- Slots
@@ -76,30 +81,36 @@ module _ (o : Terms) (w : List ℤ) where
   unfoldable pub closedRowsThere : ℕ → ℕ → Bool
   closedRowsThere t i = all (o .accounts) (bothThere t i)
 
-  -- the slot of day C + u − L, for u below L + H, where k days are closed: of no day before F or past the last, of a closed day, of an open one
-  unfoldable pub windowSlotFits : ℕ → ℕ → Bool
-  windowSlotFits k u =
-      cond (ltb (k + u) (o .lag) || ltb lastDay (o .first + (k + u - o .lag))) (slotBlank (windowSlot o k u))
-      (all intervals (intervalFits (windowSlot o k u)) && (not (ltb u (o .lag)) || all intervals (closedRowsThere (windowSlot o k u))))
+  -- day d's slot: each interval fits, and before C all vesting and meter rows are there
+  unfoldable pub dayFits : ℕ → ℕ → Bool
+  dayFits C d = all intervals (intervalFits (slot o d)) && (leb C d || all intervals (closedRowsThere (slot o d)))
 
-  -- ---- Balances and header
+  -- each day of the window has a fitting slot, and every other slot is blank
+  unfoldable pub daysFit : ℕ → Bool
+  daysFit C = all (windowDays o C) (λ i. dayFits C (windowFrom o C + i)) && all (ring o) (λ t. isDated o C t || slotBlank t)
 
-  -- n accounts' balance z after k closed days
-  unfoldable pub balanceFits : ℕ → ℕ → ℤ → Bool
-  balanceFits n k z = leb (natAbs z) (n * (k * dayBound))
+-- ---- Balances and header
 
-  unfoldable pub accountFits : ℕ → ℕ → Bool
-  accountFits k a = balanceFits 1 k (word w (balanceWord a)) && all accountSpares (λ j. isZero (word w (accountSpare a j)))
+-- n accounts' balance z after k closed days
+unfoldable pub balanceFits : ℕ → ℕ → ℤ → Bool
+balanceFits n k z = leb (natAbs z) (n * (k * dayBound))
 
-  unfoldable pub headerFits : Bool
-  headerFits = between (pos mark) (pos mark) (word w markWord)
-      && between (pos 1) (pos mostAccounts) (word w accountsWord) && between (pos 1) (pos mostLag) (word w lagWord) && between (pos 1) (pos mostHorizon) (word w horizonWord)
-      && between (pos earliestFirstDay) (pos lastDay) (word w firstDayWord) && between (word w firstDayWord) (pos (suc lastDay)) (word w nextDayWord)
-      && all headerSpares (λ n. isZero (word w (headerSpare n)))
+unfoldable pub accountFits : List ℤ → ℕ → ℕ → Bool
+accountFits w k a = balanceFits 1 k (word w (balanceWord a)) && all accountSpares (λ j. isZero (word w (accountSpare a j)))
 
-  unfoldable pub fits : ℕ → Bool
-  fits k = headerFits && leb (size o) (length w) && balanceFits (o .accounts) k (word w msslWord)
-      && all (o .accounts) (accountFits k) && all (ring o) (windowSlotFits k)
+-- 395, N, L, H, F, C from F to 36,525, zeros to word 63
+unfoldable pub headerFits : List ℤ → Bool
+headerFits w = between (pos mark) (pos mark) (word w markWord)
+    && between (pos 1) (pos mostAccounts) (word w accountsWord) && between (pos 1) (pos mostLag) (word w lagWord) && between (pos 1) (pos mostHorizon) (word w horizonWord)
+    && between (pos earliestFirstDay) (pos lastDay) (word w firstDayWord) && between (word w firstDayWord) (pos (suc lastDay)) (word w nextDayWord)
+    && all headerSpares (λ n. isZero (word w (headerSpare n)))
+
+-- ---- The book
+
+-- with its terms, C the next day to close
+unfoldable pub fits : Terms → List ℤ → ℕ → Bool
+fits o w C = headerFits w && leb (size o) (length w) && balanceFits (o .accounts) (C - o .first) (word w msslWord)
+    && all (o .accounts) (accountFits w (C - o .first)) && daysFit o w C
 
 unfoldable pub wellFormed : List ℤ → Bool
-wellFormed w = fits (termsOf w) w (nextDay w - termsOf w .first)
+wellFormed w = fits (termsOf w) w (nextDay w)
