@@ -29,9 +29,13 @@ cond-not : {A : Type 0} (b : Bool) (x y : A) → cond (not b) x y ≡ cond b y x
 cond-not true x y = refl
 cond-not false x y = refl
 
--- the size, by slots
-pub size-by-slots : (o : Terms) → size o ≡ base o + ring o * slotLength (o .accounts)
-unfolding size intervalSize
+-- the slots lie from base on to the size
+pub base-is : (o : Terms) → base o ≡ 64 + 8 * o .accounts
+unfolding base
+base-is o = refl
+
+pub size-by-slots : (o : Terms) → size o ≡ 64 + 8 * o .accounts + ring o * slotLength (o .accounts)
+unfolding size base intervalSize
 size-by-slots o =
     let e : intervalWords + accountWords * o .accounts ≡ intervalLength (o .accounts) = omega arith in
     rw (e, mul-comm intervals (ring o), mul-assoc (ring o) intervals (intervalLength (o .accounts)))
@@ -56,17 +60,18 @@ module _ (o : Terms) (w : List ℤ) (k : ℕ) (p : 1 ≤ o .horizon) where
 
   module _ (l : size o ≤ length w) where
     abbrev slots : List ℤ
-    slots = part w (base o) (ring o * slotLength (o .accounts))
+    slots = part w (64 + 8 * o .accounts) (ring o * slotLength (o .accounts))
 
     slot-words : (v : ℕ) → v < ring o → (m : ℕ) → m < slotLength (o .accounts)
         → word (part slots (v * slotLength (o .accounts)) (slotLength (o .accounts))) m ≡ word w (base o + (v * slotLength (o .accounts) + m))
     slot-words v hv m hm =
-        word-part slots (v * slotLength (o .accounts)) (slotLength (o .accounts)) m hm
-        ∙ word-part w (base o) (ring o * slotLength (o .accounts)) (v * slotLength (o .accounts) + m) (omega (arith, row-fits v (ring o) (slotLength (o .accounts)) hv))
+        rw (base-is o)
+        (word-part slots (v * slotLength (o .accounts)) (slotLength (o .accounts)) m hm
+        ∙ word-part w (64 + 8 * o .accounts) (ring o * slotLength (o .accounts)) (v * slotLength (o .accounts) + m) (omega (arith, row-fits v (ring o) (slotLength (o .accounts)) hv)))
 
     slot-long : (v : ℕ) → v < ring o → length (part slots (v * slotLength (o .accounts)) (slotLength (o .accounts))) ≡ slotLength (o .accounts)
     slot-long v hv =
-        let e = length-part w (base o) (ring o * slotLength (o .accounts)) (omega (arith, size-by-slots o)) in
+        let e = length-part w (64 + 8 * o .accounts) (ring o * slotLength (o .accounts)) (omega (arith, size-by-slots o)) in
         length-part slots (v * slotLength (o .accounts)) (slotLength (o .accounts)) (omega (arith, row-fits v (ring o) (slotLength (o .accounts)) hv))
 
     slot-at : (v : ℕ) → v < ring o

@@ -4,3 +4,5 @@ pub mod words; // words.rt: tests of one word, and of zeros
 pub mod cell; // cell.rt: an account's words at an interval
 pub mod interval; // interval.rt: the words of an interval
 pub mod slots; // slots.rt: the slots, of days and blank
+pub mod header; // header.rt: the header, the size, the balances
+pub mod judge; // judge.rt: is a lent book well formed?

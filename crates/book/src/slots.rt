@@ -73,7 +73,13 @@ pub fn slots_fit(slots: &[i64], terms: Terms, closed: usize) -> bool
         let i = v * size;
         let e = i + size;
         let place = place_of(terms, closed, v);
-        ok = ok & slot_fits(&slots[i..e], n, is_day(terms, closed, place), place < terms.lag);
+        ok = ok
+            & slot_fits(
+                &slots[i..e],
+                n,
+                is_day(terms, closed, place),
+                place < terms.lag,
+            );
     }
     ok
 }

@@ -3,7 +3,9 @@ use integer::word_at;
 use rulebook::Kind;
 use rules::ranges::in_range;
 ghost use mathlib.Core.Path.{_≡_};
-ghost use Prim.Native.Nat.{_<_, _*_};
+ghost use Prim.Native.Nat.{_<_, _*_, _^_};
+ghost use lib.Dec.{leb};
+ghost use lib.IntN.{natAbs};
 ghost use lib.ListN.{length};
 ghost use lib.Signed.{ltZ};
 ghost use Rattle.integer.specs.Words.{word};
@@ -32,6 +34,16 @@ pub fn above_at(part: &[i64], i: usize, low: i64) -> bool
     ensures { λ r. ⌜ r ≡ ltZ low (word (now (part .entry)) i) ⌝ }
 {
     low < part[i]
+}
+
+// Within a bound either way.
+pub fn within_at(part: &[i64], i: usize, bound: usize) -> bool
+    requires { ⌜ (i < length (now part)) × (bound < 2 ^ 63) ⌝ }
+    ensures { λ r. ⌜ r ≡ leb (natAbs (word (now (part .entry)) i)) bound ⌝ }
+{
+    let z = part[i];
+    let most = bound as i64;
+    (0 - most <= z) & (z <= most)
 }
 
 // Document 01, "Units and ranges": the word is in the range of its kind.
