@@ -92,5 +92,6 @@ pub mod StartLaws
 pub mod RunLaws
 pub mod Demand3Proof
 pub mod CompanionProof
+pub mod SubmitTableLaws
 pub mod FileTheorems
 pub mod Theorems
