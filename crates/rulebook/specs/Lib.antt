@@ -44,6 +44,7 @@ pub mod LayoutLaws
 pub mod RingLaws
 pub mod WalkLaws
 pub mod WindowLaws
+pub mod IndexLaws
 pub mod WordLaws
 pub mod LedgerLaws
 pub mod CoverLaws
@@ -66,6 +67,7 @@ pub mod StepLaws
 pub mod AnySubmitLaws
 pub mod AnyCloseLaws
 pub mod BeyondLaws
+pub mod LentLaws
 pub mod StateLaws
 pub mod StartLaws
 pub mod RunLaws
