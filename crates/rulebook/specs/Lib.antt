@@ -69,6 +69,7 @@ pub mod AnyCloseLaws
 pub mod BeyondLaws
 pub mod LentLaws
 pub mod StateLaws
+pub mod CloseStateLaws
 pub mod StartLaws
 pub mod RunLaws
 pub mod Demand3Proof
