@@ -35,7 +35,7 @@ use Rattle.rulebook.specs.BookSizeLaws.{close-amount}
 use Rattle.rulebook.specs.CloseLaws.{day-held}
 use Rattle.rulebook.specs.SearchLaws.{nothing-at}
 
--- the entries of a book, and zeros from day last on
+-- the words of a book, and zeros from day last on
 abbrev before : Terms → List ℤ → ℕ → Entries
 before o w last s a d i j = cond (ltb d last) (entriesOf o w s a d i j) (pos 0)
 

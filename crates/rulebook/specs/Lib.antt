@@ -1,3 +1,4 @@
+-- chapters, in document 01's order
 pub mod Units
 pub mod ReferencePrice
 pub mod Shares
@@ -15,11 +16,15 @@ pub mod Submit
 pub mod Close
 pub mod Numbers
 pub mod Calls
+-- demand 3: histories, promises, statements
 pub mod History
 pub mod Promises
 pub mod Demand3
 pub mod Companion
 pub mod SearchOrder
+-- what is proved
+pub mod Theorems
+-- figures and examples
 pub mod Figures
 pub mod WorkedDay
 pub mod Examples
@@ -30,17 +35,19 @@ pub mod DataExamples
 pub mod NumberExamples
 pub mod CallExamples
 pub mod HistoryExamples
+-- laws, in the order in which they lean on each other
 pub mod UnitsLaws
 pub mod ReferencePriceLaws
 pub mod SharesLaws
 pub mod TranchesLaws
 pub mod DayAmountLaws
+pub mod AmountLaws
+pub mod SizeLaws
 pub mod TestLaws
 pub mod SectionsLaws
-pub mod AmountLaws
 pub mod RowWordLaws
-pub mod WindowWalk
 pub mod LayoutLaws
+pub mod WindowWalk
 pub mod RingLaws
 pub mod WalkLaws
 pub mod WindowLaws
@@ -52,10 +59,9 @@ pub mod FileLaws
 pub mod JudgingLaws
 pub mod SoundLaws
 pub mod KeptLaws
-pub mod FormLaws
-pub mod SizeLaws
 pub mod RangeLaws
 pub mod FigureLaws
+pub mod FormLaws
 pub mod SlotLaws
 pub mod FormedLaws
 pub mod BookSizeLaws
@@ -74,4 +80,3 @@ pub mod StartLaws
 pub mod RunLaws
 pub mod Demand3Proof
 pub mod CompanionProof
-pub mod Theorems
