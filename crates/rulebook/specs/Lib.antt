@@ -53,6 +53,7 @@ pub mod WalkLaws
 pub mod WindowLaws
 pub mod IndexLaws
 pub mod WordLaws
+pub mod StoreLaws
 pub mod LedgerLaws
 pub mod CoverLaws
 pub mod FileLaws
