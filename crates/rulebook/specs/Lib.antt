@@ -64,6 +64,7 @@ pub mod RangeLaws
 pub mod FigureLaws
 pub mod FormLaws
 pub mod SlotLaws
+pub mod RowFlagLaws
 pub mod FormedLaws
 pub mod BookSizeLaws
 pub mod OpeningLaws
