@@ -11,7 +11,7 @@ use Rattle.rulebook.specs.declared.Section.{Section}
 use Rattle.rulebook.specs.declared.Section.the-variants.{Vesting, Meter, Residual, Ncc}
 use Rattle.rulebook.specs.declared.Terms.{Terms}
 use Rattle.rulebook.specs.Sections.{valueInRange}
-use Rattle.rulebook.specs.WellFormed.{rowFits, rowBlank, rowCounts, headerFits}
+use Rattle.rulebook.specs.WellFormed.{rowFits, rowBlank, rowCounts, headerFits, balanceFits}
 use Rattle.rulebook.specs.Figures.{accounts}
 
 -- ---- Terms
@@ -135,3 +135,15 @@ headers = record {
   balances = refl;
   spareUsed = refl;
 }
+
+-- ---- Balances: (C − F) × 4,800,000,000,000 either way, the MSSL's N times that
+
+pub record Balances : Type 0 where
+  pub newBook : (balanceFits 1 0 (pos 0) ≡ true) × (balanceFits 1 0 (pos 1) ≡ false)
+  pub oneDay : (balanceFits 1 1 (pos 4800000000000) ≡ true) × (balanceFits 1 1 (pos 4800000000001) ≡ false)
+  pub below : (balanceFits 1 1 (minus 4800000000000) ≡ true) × (balanceFits 1 1 (minus 4800000000001) ≡ false)
+  pub mssl : (balanceFits 2 3 (pos 28800000000000) ≡ true) × (balanceFits 2 3 (pos 28800000000001) ≡ false)
+
+pub balances : Balances
+unfolding balanceFits
+balances = record { newBook = (refl, refl); oneDay = (refl, refl); below = (refl, refl); mssl = (refl, refl) }

@@ -39,16 +39,16 @@ no-rows = refl
 abbrev row : Section → ℕ → ℕ → List ℤ → List ℤ → Row
 row s count n start end = record { section = s; account = 1; day = 9497; count = count; numbers = start ++ (replicate (46 * n) (pos 0) ++ end) }
 
-abbrev vesting : Row
+abbrev pub vesting : Row
 vesting = row Vesting 2 6 (pos 1 ∷ pos 2 ∷ pos 3 ∷ pos 4 ∷ pos 5 ∷ pos 6 ∷ []) (pos 11 ∷ minus 12 ∷ pos 13 ∷ minus 14 ∷ pos 15 ∷ minus 16 ∷ [])
 
-abbrev meter : Row
+abbrev pub meter : Row
 meter = row Meter 1 2 (pos 1 ∷ pos 2 ∷ []) (minus 21 ∷ minus 22 ∷ [])
 
-abbrev residual : Row
+abbrev pub residual : Row
 residual = row Residual 0 4 (pos 1 ∷ pos 2 ∷ pos 3 ∷ pos 4 ∷ []) (pos 31 ∷ pos 32 ∷ minus 33 ∷ minus 34 ∷ [])
 
-abbrev ncc : Row
+abbrev pub ncc : Row
 ncc = row Ncc 0 1 (pos 1 ∷ []) (pos 41 ∷ [])
 
 abbrev figures : Row → ℕ → List Figure → List ℤ
