@@ -9,6 +9,7 @@ pub mod Sections
 pub mod Layout
 pub mod BookData
 pub mod WellFormed
+pub mod FormedBook
 pub mod Opening
 pub mod File
 pub mod Judging
@@ -36,6 +37,7 @@ pub mod WorkedDay
 pub mod Examples
 pub mod AmountExamples
 pub mod LayoutExamples
+pub mod BookExamples
 pub mod FileExamples
 pub mod DataExamples
 pub mod NumberExamples
@@ -90,6 +92,7 @@ pub mod FormLaws
 pub mod SlotLaws
 pub mod RowFlagLaws
 pub mod FormedLaws
+pub mod FormedBookLaws
 pub mod BookSizeLaws
 pub mod OpeningLaws
 pub mod CloseLaws

@@ -24,11 +24,13 @@ use Rattle.rulebook.specs.Promises.{Run, historyOf, bookOf}
 use Rattle.rulebook.specs.Demand3.{Demand3OnCalls, Demand3Holds}
 use Rattle.rulebook.specs.Companion.{OpeningHolds, CompanionHolds, KeptFrom}
 use Rattle.rulebook.specs.SearchOrder.{SearchHolds}
+use Rattle.rulebook.specs.FormedBook.{WindowDay, FormedBook}
 use Rattle.rulebook.specs.Figures.{Right, starred, starred-right}
 use Rattle.rulebook.specs.WorkedDay.{WorkedDay, worked-day}
 use Rattle.rulebook.specs.Examples.{RowExamples, row-examples, Headers, headers, Balances, balances, Ranges, ranges}
 use Rattle.rulebook.specs.AmountExamples.{BoundReached, bound-reached}
 use Rattle.rulebook.specs.LayoutExamples.{Places, places, Windows, windows}
+use Rattle.rulebook.specs.BookExamples.{Days, days}
 use Rattle.rulebook.specs.FileExamples.{FiguresRead, figures-read}
 use Rattle.rulebook.specs.DataExamples.{BookRead, book-read, RowsRead, rows-read}
 use Rattle.rulebook.specs.NumberExamples.{Returned, returned, Table, table, Refusals, refusals, ThreeAccounts, three-accounts}
@@ -39,7 +41,8 @@ use Rattle.rulebook.specs.TranchesLaws.{TrancheSplit, tranche-split}
 use Rattle.rulebook.specs.DayAmountLaws.{posted-within, msslExact, mssl-within}
 use Rattle.rulebook.specs.WindowWalk.{windowSlotFits}
 use Rattle.rulebook.specs.WalkLaws.{days-are-places}
-use Rattle.rulebook.specs.WindowLaws.{WindowDay, SlotDay, window-days-apart, slot-day}
+use Rattle.rulebook.specs.WindowLaws.{SlotDay, window-days-apart, slot-day}
+use Rattle.rulebook.specs.FormedBookLaws.{formed-book, book-formed}
 use Rattle.rulebook.specs.BookSizeLaws.{CloseSized, close-sized}
 use Rattle.rulebook.specs.SearchOrderLaws.{search-holds}
 use Rattle.rulebook.specs.AnySubmitLaws.{submitted-formed}
@@ -66,6 +69,9 @@ pub record Theorems : Type 0 where
   pub companion : CompanionHolds
   -- ---- Any well-formed lent book
 
+  -- well formed is what document 01 says, in its figures, and nothing more
+  pub formedSays : (w : List ℤ) → T (wellFormed w) → FormedBook (termsOf w) (nextDay w) w
+  pub saysFormed : (o : Terms) (C : ℕ) (w : List ℤ) → FormedBook o C w → T (wellFormed w)
   -- stays well formed, and keeps its words beyond the size
   pub submitKeeps : (w : List ℤ) (file : List ℕ) → T (wellFormed w) → T (wellFormed (submitted w file .words))
   pub closeKeeps : (w statement : List ℤ) → T (wellFormed w) → T (wellFormed (closed w statement .words))
@@ -104,6 +110,7 @@ pub record Theorems : Type 0 where
   pub places : Places
   pub windows : Windows
   pub balances : Balances
+  pub days : Days
   pub figuresRead : FiguresRead
   pub bookRead : BookRead
   pub rowsRead : RowsRead
@@ -126,6 +133,8 @@ theorems = record {
   everyList = run-of;
   theseCalls = calls-of;
   companion = companion;
+  formedSays = formed-book;
+  saysFormed = book-formed;
   submitKeeps = submitted-formed;
   closeKeeps = closed-formed;
   submitBeyond = submitted-beyond;
@@ -150,6 +159,7 @@ theorems = record {
   places = places;
   windows = windows;
   balances = balances;
+  days = days;
   figuresRead = figures-read;
   bookRead = book-read;
   rowsRead = rows-read;
