@@ -71,7 +71,8 @@ row-proper o C sec s p terms f =
 
 -- ---- No key twice
 
-not-given : (sec : Section) (s : List ℕ) (first i a d : ℕ) → given sec s first i a d ≡ false → (j : ℕ) → j < i → eqb (accountAt sec s (rowPos sec s first j)) a && eqb (dayAt sec s (rowPos sec s first j)) d ≡ false
+not-given : (sec : Section) (s : List ℕ) (first i a d : ℕ) → given sec s first i a d ≡ false → (j : ℕ) → j < i
+    → eqb (accountAt sec s (rowPos sec s first j)) a && eqb (dayAt sec s (rowPos sec s first j)) d ≡ false
 unfolding given
 not-given sec s first zero a d e j l = absurd (not-suc-le-zero l)
 not-given sec s first (suc i) a d e j l =

@@ -1,6 +1,6 @@
 -- The fields of a file stand end to end. Assumes nothing.
-use mathlib.Core.Path.{_≡_, refl, sym, _∙_, subst}
-use mathlib.Core.List.{List, [], _∷_, _++_, map, flatMap}
+use mathlib.Core.Path.{_≡_, refl, subst}
+use mathlib.Core.List.{List, [], _∷_, _++_, flatMap}
 use Prim.Native.Nat.{ℕ, zero, suc, _+_, _*_, _<_}
 use native.Mathlib.Nat.{suc-mul}
 use native.Mathlib.Omega.{arith}
@@ -8,12 +8,11 @@ use Rattle.integer.specs.Below.{tabulate}
 use Rattle.rulebook.specs.declared.Section.{Section}
 use Rattle.rulebook.specs.declared.Section.the-variants.{Vesting, Meter, Residual, Ncc}
 use Rattle.rulebook.specs.Sections.{perInterval}
-use Rattle.rulebook.specs.File.{figurePlace, valuesPos, countAt, rowEnd, rowPos, rowsIn, sectionEnd, meterPos, residualPos, nccPos, endPos}
+use Rattle.rulebook.specs.File.{valuesPos, countAt, rowEnd, rowPos, rowsIn, sectionEnd, meterPos, residualPos, nccPos, endPos}
 use Rattle.rulebook.specs.NamedRows.{NamedRow}
-use Rattle.rulebook.specs.Encoding.{figures}
-use Rattle.rulebook.specs.FileTable.{Field, Value, EndOfFile, start, size, rowOf, headingFields, intervalFields, rowFields, sectionFields, fieldsOf, EndToEnd}
+use Rattle.rulebook.specs.FileTable.{Field, EndOfFile, start, size, rowOf, headingFields, intervalFields, rowFields, sectionFields, fieldsOf, EndToEnd}
 use Rattle.rulebook.specs.ListLaws.{map-tabulate}
-use Rattle.rulebook.specs.IntervalLaws.{figureNo, figure-table, is-figure}
+use Rattle.rulebook.specs.IntervalLaws.{figure-table, is-figure}
 use Rattle.rulebook.specs.PositionLaws.{pos-zero, pos-suc}
 
 -- ---- Fields in order

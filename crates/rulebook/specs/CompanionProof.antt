@@ -36,7 +36,8 @@ use Rattle.rulebook.specs.FormLaws.{ring-pos}
 use Rattle.rulebook.specs.SearchLaws.{search-is}
 use Rattle.rulebook.specs.StepLaws.{storable}
 use Rattle.rulebook.specs.BeyondLaws.{kept-all, rows-beyond, closed-beyond, statement-beyond, statement-amount, statement-mssl}
-use Rattle.rulebook.specs.StateLaws.{State, terms, submit-is, close-is, closedBy, amount-same}
+use Rattle.rulebook.specs.StateLaws.{State, terms, submit-is}
+use Rattle.rulebook.specs.CloseStateLaws.{close-is, closedBy, amount-same}
 use Rattle.rulebook.specs.Demand3Proof.{run-state, opening-state}
 
 not-3 : (why : Why) → whyNumber why ≢ notWellFormed

@@ -1,6 +1,6 @@
 -- The file of proper rows is accepted, and says those rows. Rests on EncodedLaws, row after row. Assumes nothing.
 use mathlib.Core.Path.{_≡_, refl, sym, ap, _∙_, subst}
-use mathlib.Core.Bool.{Bool, true, false, _&&_}
+use mathlib.Core.Bool.{false, _&&_}
 use mathlib.Core.List.{List, [], _∷_, _++_, flatMap, append-assoc, append-nil}
 use Prim.Native.Nat.{ℕ, zero, suc, _+_, _-_, _≤_, _<_}
 use native.Mathlib.Nat.{not-suc-le-zero}
@@ -16,7 +16,6 @@ use Rattle.rulebook.specs.declared.Section.the-variants.{Vesting, Meter,
 use Rattle.rulebook.specs.declared.Terms.{Terms}
 use Rattle.rulebook.specs.declared.Verdict.the-variants.{Accepted}
 use Rattle.rulebook.specs.Terms.{InTerms}
-use Rattle.rulebook.specs.Sections.{sameSection}
 use Rattle.rulebook.specs.File.{accountAt, dayAt, rowPos, sectionEnd, meterPos, residualPos, nccPos, endPos}
 use Rattle.rulebook.specs.Judging.{limitsOf, given, rowAfter, judgedRow, judgedSection, judged}
 use Rattle.rulebook.specs.NamedRows.{NamedRow, namedRows}
@@ -45,7 +44,9 @@ once-at (r ∷ rs) o zero (suc i) l h = each-at (λ q. sameKey r q ≡ false) rs
 once-at (r ∷ rs) o (suc j) zero l h = absurd (not-suc-le-zero l)
 once-at (r ∷ rs) o (suc j) (suc i) l h = once-at rs (o .1) j i (omega arith) (omega arith)
 
-not-given : (sec : Section) (s : List ℕ) (first i a d : ℕ) → ((j : ℕ) → j < i → eqb (accountAt sec s (rowPos sec s first j)) a && eqb (dayAt sec s (rowPos sec s first j)) d ≡ false) → given sec s first i a d ≡ false
+not-given : (sec : Section) (s : List ℕ) (first i a d : ℕ)
+    → ((j : ℕ) → j < i → eqb (accountAt sec s (rowPos sec s first j)) a && eqb (dayAt sec s (rowPos sec s first j)) d ≡ false)
+    → given sec s first i a d ≡ false
 unfolding given
 not-given sec s first zero a d h = refl
 not-given sec s first (suc i) a d h = rw (not-given sec s first i a d (λ j l. h j (omega arith)), h i (omega arith))
@@ -64,9 +65,11 @@ alike-append (q ∷ a) (r ∷ b) c d e f = (e .0, alike-append a b c d (e .1) f)
 
 -- ---- A section
 
-module _ (o : Terms) (terms : InTerms o) (C : ℕ) (s : List ℕ) (sec : Section) (rs : List NamedRow) (proper : Each (Proper o C) rs) (own : Each (λ r. r .section ≡ sec) rs) (once : Once rs) (xs : List ℕ) where
+module _ (o : Terms) (terms : InTerms o) (C : ℕ) (s : List ℕ) (sec : Section) (rs : List NamedRow)
+    (proper : Each (Proper o C) rs) (own : Each (λ r. r .section ≡ sec) rs) (once : Once rs) (xs : List ℕ) where
   module _ (first : ℕ) where
-    row-one : (i : ℕ) → i < length rs → From s (rowPos sec s first i) (flatMap rowBytes (drop i rs) ++ xs) → RowRead o C s (rowPos sec s first i) sec (nth rs i) (flatMap rowBytes (drop (suc i) rs) ++ xs)
+    row-one : (i : ℕ) → i < length rs → From s (rowPos sec s first i) (flatMap rowBytes (drop i rs) ++ xs)
+        → RowRead o C s (rowPos sec s first i) sec (nth rs i) (flatMap rowBytes (drop (suc i) rs) ++ xs)
     unfolding flatMap
     row-one i l f =
         subst (λ sc. RowRead o C s (rowPos sec s first i) sc (nth rs i) (flatMap rowBytes (drop (suc i) rs) ++ xs)) (each-at (λ r. r .section ≡ sec) rs absent own i l)
@@ -111,7 +114,8 @@ module _ (o : Terms) (terms : InTerms o) (C : ℕ) (s : List ℕ) (sec : Section
 
 module _ (o : Terms) (terms : InTerms o) (C : ℕ) (rows : List NamedRow) (p : ProperRows o C rows) where
   part-read : (sec : Section) (at : ℕ) (xs : List ℕ) → From (encoded rows) at (sectionBytes (ofSection sec rows) ++ xs)
-      → (judgedSection (limitsOf o C) sec (encoded rows) at ≡ Accepted) × AllAlike (sectionOf (encoded rows) sec at) (ofSection sec rows) × From (encoded rows) (sectionEnd sec (encoded rows) at) xs
+      → (judgedSection (limitsOf o C) sec (encoded rows) at ≡ Accepted) × AllAlike (sectionOf (encoded rows) sec at) (ofSection sec rows)
+      × From (encoded rows) (sectionEnd sec (encoded rows) at) xs
   part-read sec at xs f =
       section-read o terms C (encoded rows) sec (ofSection sec rows) (of-each (Proper o C) sec rows (p .each)) (of-own sec rows) (of-once sec rows (p .once)) xs at (p .few sec) f
 

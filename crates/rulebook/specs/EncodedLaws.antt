@@ -1,12 +1,12 @@
 -- The bytes of a proper row: the judge accepts them, and they say that row. Rests on FromLaws, and on the figures by number (IntervalLaws). Assumes nothing.
-use mathlib.Core.Path.{_≡_, refl, sym, ap, _∙_, subst}
+use mathlib.Core.Path.{_≡_, refl, sym, ap, _∙_}
 use mathlib.Core.List.{List, _++_, flatMap, append-assoc}
-use Prim.Native.Nat.{ℕ, zero, suc, _+_, _*_, _-_, _/_, _%_, _≤_, _<_}
+use Prim.Native.Nat.{ℕ, _+_, _*_, _-_, _/_, _%_, _≤_, _<_}
 use native.Mathlib.Nat.{suc-mul}
 use native.Mathlib.Omega.{arith}
 use borrow.Author.Tests.{le-leb}
 use lib.ListN.{length}
-use Rattle.integer.specs.Below.{tabulate, Each}
+use Rattle.integer.specs.Below.{tabulate}
 use Rattle.integer.specs.BelowLaws.{each-tabulate}
 use Rattle.integer.specs.WordsLaws.{row-of}
 use Rattle.rulebook.specs.declared.Section.{Section}
@@ -19,7 +19,7 @@ use Rattle.rulebook.specs.Sections.{leastCount, mostCount, perInterval}
 use Rattle.rulebook.specs.File.{num, accountBytes, countBytes, dayPos, countPos, valuesPos, accountAt, dayAt, countAt, valueAt, rowAt, rowEnd, figureOf}
 use Rattle.rulebook.specs.Judging.{openFrom, limitsOf, value, key, rest}
 use Rattle.rulebook.specs.NamedRows.{NamedRow, named}
-use Rattle.rulebook.specs.Encoding.{bytes, valueBytes, figures, heading, intervalBytes, rowBytes}
+use Rattle.rulebook.specs.Encoding.{bytes, valueBytes, heading, intervalBytes, rowBytes}
 use Rattle.rulebook.specs.Proper.{AccountOf, OpenDay, CountInRange, FigureInRange, Proper, Alike}
 use Rattle.rulebook.specs.SoundLaws.{kind-turn}
 use Rattle.rulebook.specs.ListLaws.{each-of}
@@ -30,7 +30,8 @@ use Rattle.rulebook.specs.FromLaws.{From, from-to, from-is, from-one, fr
 
 -- ---- Account, day and count
 
-from-heading : (s : List ℕ) (sec : Section) (a d c at : ℕ) (xs : List ℕ) (o : Terms) → o .accounts ≤ 32 → AccountOf o sec a → d < 65536 → CountInRange sec c → From s at (heading sec a d c ++ xs)
+from-heading : (s : List ℕ) (sec : Section) (a d c at : ℕ) (xs : List ℕ) (o : Terms) → o .accounts ≤ 32 → AccountOf o sec a → d < 65536 → CountInRange sec c
+    → From s at (heading sec a d c ++ xs)
     → (accountAt sec s at ≡ a) × (dayAt sec s at ≡ d) × (countAt sec s at ≡ c) × From s (valuesPos sec at) xs
 unfolding heading num
 from-heading s Vesting a d c at xs o few ha hd hc f =
@@ -103,7 +104,8 @@ module _ (o : Terms) (terms : InTerms o) (C : ℕ) (s : List ℕ) (at : ℕ) (r 
   standing =
       from-table s (intervalBytes r) 48 (λ i. i) (λ h. values + 4 * (h * many)) _ xs
       (λ h ys hh w.
-      let b = from-table s (λ g. valueBytes (r .figure h g)) many (figureNo (r .section)) (λ k. values + 4 * (h * many + k)) (λ k. Stands s (values + 4 * (h * many + k)) (r .figure h (figureNo (r .section) k))) ys
+      let b = from-table s (λ g. valueBytes (r .figure h g)) many (figureNo (r .section)) (λ k. values + 4 * (h * many + k))
+      (λ k. Stands s (values + 4 * (h * many + k)) (r .figure h (figureNo (r .section) k))) ys
       (λ k zs hk v.
       let g = range-in (figureNo (r .section) k) (r .figure h (figureNo (r .section) k)) (ranged h k hh hk) in
       let t = from-value s (r .figure h (figureNo (r .section) k)) (values + 4 * (h * many + k)) zs (in-word (kindOfFigure (figureNo (r .section) k)) _ g) v in
@@ -133,7 +135,11 @@ module _ (o : Terms) (terms : InTerms o) (C : ℕ) (s : List ℕ) (at : ℕ) (r 
       let d = day-within o C sec (r .day) (p .day) in
       let c = count-within sec (r .count) (p .count) in
       record {
-        keyed = rw (field-fine (accountBytes sec) 0 (o .accounts - 1) OutOfRange s at (omega arith) (omega arith) (rw (b .0) (account-within o sec (r .account) (p .account))), field-fine 2 (openFrom (limitsOf o C) sec) (limitsOf o C .last) DayNotOpen s (dayPos sec at) (omega arith) (rw (b .1) (d .0)) (rw (b .1) (d .1)));
+        keyed =
+            let a = account-within o sec (r .account) (p .account) in
+            let x = field-fine (accountBytes sec) 0 (o .accounts - 1) OutOfRange s at (omega arith) (omega arith) (rw (b .0) a) in
+            let y = field-fine 2 (openFrom (limitsOf o C) sec) (limitsOf o C .last) DayNotOpen s (dayPos sec at) (omega arith) (rw (b .1) (d .0)) (rw (b .1) (d .1)) in
+            rw (x, y);
         rested =
             rw (field-fine (countBytes sec) (leastCount sec) (mostCount sec) OutOfRange s (countPos sec at) room (rw (b .2) (c .0)) (rw (b .2) (c .1)), b .2)
             (up-all (48 * many) _ accepted-value);

@@ -1,6 +1,6 @@
 -- Rows written out by hand, byte by byte: what the encoder gives. Assumes nothing.
 use mathlib.Core.Path.{_≡_, refl}
-use mathlib.Core.List.{List, [], _∷_, _++_, flatMap}
+use mathlib.Core.List.{[], _∷_, flatMap}
 use Prim.Native.Nat.{ℕ, zero, suc, _+_}
 use lib.IntN.{ℤ, pos}
 use lib.ListN.{length, take, drop, replicate}

@@ -3,7 +3,7 @@ use mathlib.Core.Path.{_≡_, refl, sym, ap, _∙_}
 use mathlib.Core.Bool.{Bool, true, false, cond, not, _&&_, _||_}
 use mathlib.Core.List.{List, [], _∷_, _++_, flatMap}
 use mathlib.Core.Logic.{⊎-elim}
-use Prim.Native.Nat.{ℕ, zero, suc, _+_, _-_, _≤_, _<_, min, max}
+use Prim.Native.Nat.{ℕ, _+_, _-_, _≤_}
 use native.Mathlib.Omega.{arith}
 use borrow.Author.Tests.{lt-ltb, le-ltb, le-leb, lt-leb}
 use lib.Dec.{ltb, leb}
@@ -16,15 +16,14 @@ use Rattle.rulebook.specs.declared.Section.{Section}
 use Rattle.rulebook.specs.declared.Section.the-variants.{Vesting, Meter, Residual, Ncc}
 use Rattle.rulebook.specs.declared.Terms.{Terms}
 use Rattle.rulebook.specs.declared.Why.{Why}
-use Rattle.rulebook.specs.declared.Why.the-variants.{NotWhole, OutOfRange, DayNotOpen, Repeated, Excess}
+use Rattle.rulebook.specs.declared.Why.the-variants.{OutOfRange, DayNotOpen, Repeated, Excess}
 use Rattle.rulebook.specs.declared.Verdict.{Verdict}
 use Rattle.rulebook.specs.declared.Verdict.the-variants.{Accepted, Refused}
 use Rattle.rulebook.specs.Terms.{InTerms}
-use Rattle.rulebook.specs.Units.{between, inRange}
+use Rattle.rulebook.specs.Units.{inRange}
 use Rattle.rulebook.specs.File.{Figure, num, valueAt}
 use Rattle.rulebook.specs.Judging.{require, _andThen_, openFrom, limitsOf, whole, fieldIn}
 use Rattle.rulebook.specs.Numbers.{Answer, numbered, whyNumber}
-use Rattle.rulebook.specs.NamedRows.{NamedRow}
 use Rattle.rulebook.specs.Proper.{least, most, sameKey}
 use Rattle.rulebook.specs.FileTable.{Field, RowCount, Account, Day, TrancheCount, FacilityCount, Value, EndOfFile, start, late, shut, Check, checksOf}
 use Rattle.rulebook.specs.IntervalLaws.{kindOfFigure}

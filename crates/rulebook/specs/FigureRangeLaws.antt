@@ -1,12 +1,12 @@
 -- The range of a figure is that of its kind, and fits four bytes. Assumes nothing.
 use mathlib.Core.Path.{_≡_, refl, sym, subst}
-use mathlib.Core.Bool.{Bool, true, false, not, _&&_, _||_}
-use Prim.Native.Nat.{ℕ, suc, _<_}
+use mathlib.Core.Bool.{Bool, true, false}
+use Prim.Native.Nat.{ℕ, _<_}
 use native.Mathlib.Omega.{arith}
 use borrow.Author.Tests.{leb-true}
-use lib.Dec.{T, leb, ltb}
+use lib.Dec.{T, leb}
 use lib.IntN.{ℤ, pos, negsuc}
-use lib.Signed.{mag, leZ, ltZ}
+use lib.Signed.{mag, leZ}
 use Rattle.integer.specs.BelowLaws.{and-true}
 use Rattle.rulebook.specs.declared.Kind.{Kind}
 use Rattle.rulebook.specs.declared.Kind.the-variants.{Quantity, Injection, Load, Price}

@@ -1,15 +1,21 @@
 -- What is proved of submission files, in one place. It speaks of the four layouts written out (Encoding), of the rows that a book can take (Proper),
 -- of the table's conditions at a file's fields (FileTable), and of the rule book's own form and judge (File, Judging). Assumes nothing.
 use mathlib.Core.Path.{_≡_}
+use mathlib.Core.Bool.{false}
 use mathlib.Core.List.{List}
 use mathlib.Core.Logic.{_↔_}
 use Prim.Native.Nat.{ℕ, _<_}
+use lib.Dec.{T}
+use lib.IntN.{ℤ}
 use Rattle.rulebook.specs.declared.Terms.{Terms}
 use Rattle.rulebook.specs.declared.Verdict.the-variants.{Accepted}
 use Rattle.rulebook.specs.Terms.{InTerms}
+use Rattle.rulebook.specs.BookData.{termsOf, nextDay}
+use Rattle.rulebook.specs.WellFormed.{wellFormed}
 use Rattle.rulebook.specs.File.{Row, endPos}
 use Rattle.rulebook.specs.Judging.{limitsOf, judged}
-use Rattle.rulebook.specs.Numbers.{numbered}
+use Rattle.rulebook.specs.Submit.{submitted}
+use Rattle.rulebook.specs.Numbers.{accepted, notWellFormed, numbered, ofSubmit}
 use Rattle.rulebook.specs.Companion.{verdictTold}
 use Rattle.rulebook.specs.NamedRows.{NamedRow, named, namedRows}
 use Rattle.rulebook.specs.Encoding.{encoded}
@@ -24,6 +30,7 @@ use Rattle.rulebook.specs.EncodedFileLaws.{encoded-accepted}
 use Rattle.rulebook.specs.AcceptedLaws.{accepted-proper, accepted-exactly}
 use Rattle.rulebook.specs.StrikeLaws.{refused-exactly, accepted-clear}
 use Rattle.rulebook.specs.AdjoinLaws.{fields-adjoin}
+use Rattle.rulebook.specs.SubmitTableLaws.{submit-ill-formed, submit-refused, submit-accepted}
 
 -- a book's terms are o, C is its next day to close
 pub record FileTheorems : Type 0 where
@@ -48,6 +55,12 @@ pub record FileTheorems : Type 0 where
       → (verdictTold (judged (limitsOf o C) file) ≡ numbered n p) ↔ FirstStrikes (checks o C file) n p
   -- and accepted exactly if none strikes
   pub acceptedClear : (o : Terms) → InTerms o → (C : ℕ) (file : List ℕ) → (judged (limitsOf o C) file ≡ Accepted) ↔ NoneStrikes (checks o C file)
+  -- so a submission to a lent book returns 3 where the book is not well formed, and else by the table
+  pub submitIllFormed : (w : List ℤ) (file : List ℕ) → wellFormed w ≡ false → ofSubmit (submitted w file .answer) ≡ numbered notWellFormed 0
+  pub submitRefused : (w : List ℤ) (file : List ℕ) → T (wellFormed w) → (n p : ℕ) → 0 < n
+      → (ofSubmit (submitted w file .answer) ≡ numbered n p) ↔ FirstStrikes (checks (termsOf w) (nextDay w) file) n p
+  pub submitAccepted : (w : List ℤ) (file : List ℕ) → T (wellFormed w)
+      → (ofSubmit (submitted w file .answer) ≡ numbered accepted 0) ↔ NoneStrikes (checks (termsOf w) (nextDay w) file)
   -- the fields stand end to end from 0
   pub fieldsAdjoin : (file : List ℕ) → EndToEnd 0 (fieldsOf file) (endPos file)
   -- rows written out by hand; files at the ends of their windows, with accounts and keys
@@ -66,6 +79,9 @@ file-theorems = record {
   lackingZero = lacking-zero;
   refusedExactly = refused-exactly;
   acceptedClear = accepted-clear;
+  submitIllFormed = submit-ill-formed;
+  submitRefused = submit-refused;
+  submitAccepted = submit-accepted;
   fieldsAdjoin = fields-adjoin;
   written = written;
   windows = windows;

@@ -40,7 +40,7 @@ is-natural a b (pos n) t = (refl, leb→le a n (and-left (leb a n) (leb n b) t),
 is-natural a b (negsuc n) t = absurd t
 
 module _ (w : List ℤ) (t : T (wellFormed w)) where
-  all-fits : T (fits (termsOf w) w (nextDay w))
+  pub all-fits : T (fits (termsOf w) w (nextDay w))
   unfolding wellFormed
   all-fits = t
 

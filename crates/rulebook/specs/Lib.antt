@@ -1,3 +1,4 @@
+-- chapters, in document 01's order
 pub mod Units
 pub mod ReferencePrice
 pub mod Shares
@@ -8,27 +9,35 @@ pub mod Sections
 pub mod Layout
 pub mod BookData
 pub mod WellFormed
+pub mod FormedBook
 pub mod Opening
 pub mod File
 pub mod Judging
 pub mod Submit
 pub mod Close
 pub mod Numbers
+pub mod Calls
+-- submission files written out, the rows that a book can take, the table at a file's fields
 pub mod NamedRows
 pub mod Encoding
 pub mod Proper
 pub mod FileTable
-pub mod Calls
+-- demand 3: histories, promises, statements
 pub mod History
 pub mod Promises
 pub mod Demand3
 pub mod Companion
 pub mod SearchOrder
+-- what is proved
+pub mod Theorems
+pub mod FileTheorems
+-- figures and examples
 pub mod Figures
 pub mod WorkedDay
 pub mod Examples
 pub mod AmountExamples
 pub mod LayoutExamples
+pub mod BookExamples
 pub mod FileExamples
 pub mod DataExamples
 pub mod NumberExamples
@@ -36,21 +45,26 @@ pub mod CallExamples
 pub mod HistoryExamples
 pub mod EncodingExamples
 pub mod JudgingExamples
+-- laws, in the order in which they lean on each other
 pub mod UnitsLaws
 pub mod ReferencePriceLaws
 pub mod SharesLaws
 pub mod TranchesLaws
 pub mod DayAmountLaws
+pub mod CallsLaws
+pub mod AmountLaws
+pub mod SizeLaws
 pub mod TestLaws
 pub mod SectionsLaws
-pub mod AmountLaws
 pub mod RowWordLaws
-pub mod WindowWalk
 pub mod LayoutLaws
+pub mod WindowWalk
 pub mod RingLaws
 pub mod WalkLaws
 pub mod WindowLaws
+pub mod IndexLaws
 pub mod WordLaws
+pub mod StoreLaws
 pub mod LedgerLaws
 pub mod CoverLaws
 pub mod FileLaws
@@ -73,12 +87,13 @@ pub mod TableLaws
 pub mod StrikeLaws
 pub mod AdjoinLaws
 pub mod KeptLaws
-pub mod FormLaws
-pub mod SizeLaws
 pub mod RangeLaws
 pub mod FigureLaws
+pub mod FormLaws
 pub mod SlotLaws
+pub mod RowFlagLaws
 pub mod FormedLaws
+pub mod FormedBookLaws
 pub mod BookSizeLaws
 pub mod OpeningLaws
 pub mod CloseLaws
@@ -88,11 +103,11 @@ pub mod StepLaws
 pub mod AnySubmitLaws
 pub mod AnyCloseLaws
 pub mod BeyondLaws
+pub mod LentLaws
 pub mod StateLaws
+pub mod CloseStateLaws
 pub mod StartLaws
 pub mod RunLaws
 pub mod Demand3Proof
 pub mod CompanionProof
-pub mod FileTheorems
-pub mod Theorems
-pub mod CallsLaws
+pub mod SubmitTableLaws

@@ -98,6 +98,8 @@ pub record Refusals : Type 0 where
   -- an account out of range comes before a day that is cut, a value out of range before a cut later in its row
   pub accountFirst : returns 9497 (1 ∷ 0 ∷ 3 ∷ 0x19 ∷ []) 5 2
   pub valueFirst : returns 9497 (1 ∷ 0 ∷ 0 ∷ 0x19 ∷ 0x25 ∷ 0 ∷ 255 ∷ 255 ∷ 255 ∷ 255 ∷ 0 ∷ []) 5 6
+  -- a row repeated comes before its count
+  pub repeatFirst : returns 9497 (2 ∷ 0 ∷ vestingRow ++ (0 ∷ 0x19 ∷ 0x25 ∷ 4 ∷ [])) 7 391
   pub valueCut : returns 9497 (1 ∷ 0 ∷ 0 ∷ 0x19 ∷ 0x25 ∷ 0 ∷ 1 ∷ 0 ∷ 0 ∷ 0 ∷ 0 ∷ []) 4 10
 
 -- more accounts, days and rows
@@ -133,6 +135,7 @@ refusals = record {
   dayBefore = refl;
   accountFirst = refl;
   valueFirst = refl;
+  repeatFirst = refl;
   valueCut = refl;
 }
 

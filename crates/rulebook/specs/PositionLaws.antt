@@ -2,7 +2,7 @@
 use mathlib.Core.Path.{_≡_, refl}
 use mathlib.Core.List.{List}
 use mathlib.Core.Logic.{⊎-elim}
-use Prim.Native.Nat.{ℕ, zero, suc, _+_, _*_, _-_, _≤_, _<_}
+use Prim.Native.Nat.{ℕ, zero, suc, _+_, _-_, _≤_}
 use native.Mathlib.Omega.{arith}
 use lib.ListN.{length}
 use Rattle.integer.specs.Below.{turns}
@@ -10,7 +10,7 @@ use Rattle.integer.specs.BelowLaws.{lt-or-le}
 use Rattle.rulebook.specs.declared.Section.{Section}
 use Rattle.rulebook.specs.declared.Limits.{Limits}
 use Rattle.rulebook.specs.declared.Verdict.the-variants.{Accepted}
-use Rattle.rulebook.specs.File.{rowEnd, rowPos, rowsIn, sectionEnd, valuesIn, valuesPos}
+use Rattle.rulebook.specs.File.{rowEnd, rowPos, rowsIn, sectionEnd, valuesIn}
 use Rattle.rulebook.specs.Judging.{judgedSection}
 use Rattle.rulebook.specs.JudgingLaws.{Fine, section-start, section-row}
 

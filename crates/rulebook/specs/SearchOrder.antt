@@ -18,7 +18,7 @@ use Rattle.rulebook.specs.Layout.{flagWord}
 use Rattle.rulebook.specs.BookData.{termsOf, nextDay}
 use Rattle.rulebook.specs.WellFormed.{wellFormed}
 use Rattle.rulebook.specs.Close.{closed}
-use Rattle.rulebook.specs.Numbers.{numbered, datumAbsent, ofClose}
+use Rattle.rulebook.specs.Numbers.{accepted, datumAbsent, numbered, ofClose}
 
 -- f 0, f 1, .. f (n - 1) one after another
 abbrev pub inTurn : ℕ → (ℕ → List ℕ) → List ℕ
@@ -42,7 +42,11 @@ pub record FirstZero (w : List ℤ) (flags : List ℕ) (v : ℕ) : Type 0 where
   pub there : Each (λ n. word w n ≢ pos 0) before
   pub absent : word w v ≡ pos 0
 
--- on every well-formed book with a day left to close, and a statement with room: 11 at v exactly if v is the first flag that is zero
+-- what a close of w with this statement returns: 11 at v exactly if v is the first flag that is zero, 0 exactly if none is
+pub record SearchTells (w statement : List ℤ) : Type 0 where
+  pub missing : (v : ℕ) → (ofClose (closed w statement .answer) ≡ numbered datumAbsent v) ↔ FirstZero w (flagOrder (termsOf w) (nextDay w)) v
+  pub complete : (ofClose (closed w statement .answer) .number ≡ accepted) ↔ Each (λ n. word w n ≢ pos 0) (flagOrder (termsOf w) (nextDay w))
+
+-- on every well-formed book with a day left to close, and a statement with room
 abbrev pub SearchHolds : Type 0
-SearchHolds = (w statement : List ℤ) → T (wellFormed w) → nextDay w ≤ lastDay → termsOf w .accounts + 1 ≤ length statement
-    → (v : ℕ) → (ofClose (closed w statement .answer) ≡ numbered datumAbsent v) ↔ FirstZero w (flagOrder (termsOf w) (nextDay w)) v
+SearchHolds = (w statement : List ℤ) → T (wellFormed w) → nextDay w ≤ lastDay → termsOf w .accounts + 1 ≤ length statement → SearchTells w statement

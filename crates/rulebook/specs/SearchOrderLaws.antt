@@ -1,18 +1,18 @@
 -- The close's nested search goes through the flags in search order. Assumes nothing.
 use mathlib.Core.Path.{_≡_, refl, sym, ap, _∙_, subst}
 use mathlib.Core.Logic.{_≢_, _⊎_, inl, inr}
-use mathlib.Core.Bool.{Bool, true, false, cond, not}
+use mathlib.Core.Bool.{Bool, true, false, cond}
 use mathlib.Core.List.{List, [], _∷_, _++_}
-use Prim.Native.Nat.{ℕ, zero, suc, _+_, _≤_, _<_}
+use Prim.Native.Nat.{ℕ, zero, suc, _+_, _≤_}
 use native.Mathlib.Omega.{arith}
 use borrow.Author.Tests.{le-ltb}
 use lib.IntN.{ℤ, pos}
-use lib.Dec.{T, ltb}
+use lib.Dec.{T}
 use lib.ListN.{length}
 use Rattle.integer.specs.declared.Found.{Found}
 use Rattle.integer.specs.declared.Found.the-variants.{At, Nothing}
 use Rattle.integer.specs.Below.{fold, orElse, first, Each}
-use Rattle.integer.specs.BelowLaws.{first-cong, orElse-at, orElse-nothing}
+use Rattle.integer.specs.BelowLaws.{first-cong, orElse-at, orElse-nothing, nothing-orElse}
 use Rattle.integer.specs.Words.{word}
 use Rattle.rulebook.specs.declared.Section.{Section}
 use Rattle.rulebook.specs.declared.Section.the-variants.{Vesting, Meter, Residual, Ncc}
@@ -23,7 +23,7 @@ use Rattle.rulebook.specs.Layout.{flagWord}
 use Rattle.rulebook.specs.BookData.{termsOf, nextDay}
 use Rattle.rulebook.specs.WellFormed.{isZero, wellFormed}
 use Rattle.rulebook.specs.Close.{absentFlag, missingAt, firstMissing, settled, closed}
-use Rattle.rulebook.specs.Numbers.{Answer, numbered, datumAbsent, ofClose}
+use Rattle.rulebook.specs.Numbers.{Answer, accepted, datumAbsent, numbered, ofClose}
 use Rattle.rulebook.specs.SearchOrder.{inTurn, flagsAt, flagOrder, FirstZero, SearchHolds}
 use Rattle.rulebook.specs.TestLaws.{T-path}
 use Rattle.rulebook.specs.SlotLaws.{is-zero}
@@ -116,6 +116,16 @@ module _ (w : List ℤ) where
   first-found : (flags : List ℕ) (v : ℕ) → FirstZero w flags v → firstZero flags ≡ At v
   first-found flags v r = ap firstZero (r .order) ∙ skip (r .before) (r .after) v (r .there) (r .absent)
 
+  none-zero : (flags : List ℕ) → firstZero flags ≡ Nothing → Each (λ n. word w n ≢ pos 0) flags
+  unfolding firstZero
+  none-zero [] e = tt
+  none-zero (n ∷ ns) e = let x = orElse-nothing (zeroAt n) (firstZero ns) e in (not-zero n (x .0), none-zero ns (x .1))
+
+  zero-none : (flags : List ℕ) → Each (λ n. word w n ≢ pos 0) flags → firstZero flags ≡ Nothing
+  unfolding firstZero
+  zero-none [] t = refl
+  zero-none (n ∷ ns) t = nothing-orElse (zeroAt n) (firstZero ns) (zero-not n (t .0)) (zero-none ns (t .1))
+
 -- ---- The close's search
 
 module _ (o : Terms) (w : List ℤ) (D : ℕ) where
@@ -153,18 +163,28 @@ module _ (o : Terms) (w : List ℤ) (D : ℕ) where
   pub first-missing : (v : ℕ) → FirstZero w (flagOrder o D) v → firstMissing o w D ≡ At v
   first-missing v r = search-order ∙ first-found w (flagOrder o D) v r
 
+  pub missing-none : firstMissing o w D ≡ Nothing → Each (λ n. word w n ≢ pos 0) (flagOrder o D)
+  missing-none e = none-zero w (flagOrder o D) (sym search-order ∙ e)
+
+  pub none-missing : Each (λ n. word w n ≢ pos 0) (flagOrder o D) → firstMissing o w D ≡ Nothing
+  none-missing t = search-order ∙ zero-none w (flagOrder o D) t
+
+-- a close that is neither refused as ill formed, nor finished, nor without room goes by the search
+by-search : (w statement : List ℤ) → T (wellFormed w) → nextDay w ≤ lastDay → termsOf w .accounts + 1 ≤ length statement
+    → closed w statement ≡ settled (termsOf w) w (nextDay w) statement (firstMissing (termsOf w) w (nextDay w))
+unfolding closed
+by-search w statement t left room = rw (T-path (wellFormed w) t, le-ltb lastDay (nextDay w) left, le-ltb (length statement) (termsOf w .accounts + 1) room)
+
 pub search-holds : SearchHolds
-unfolding closed settled
-search-holds w statement t left room v =
-    rw (T-path (wellFormed w) t, le-ltb lastDay (nextDay w) left, le-ltb (length statement) (termsOf w .accounts + 1) room)
-    (λ e. missing-first o w D v (said (firstMissing o w D) e), λ r. rw (first-missing o w D v r) refl)
+search-holds w statement t left room = record {
+  missing = λ v. rw (by-search w statement t left room) (λ e. missing-first (termsOf w) w (nextDay w) v (at v (firstMissing (termsOf w) w (nextDay w)) e), λ r. rw (first-missing (termsOf w) w (nextDay w) v r) (unfold settled in refl));
+  complete = rw (by-search w statement t left room) (λ e. missing-none (termsOf w) w (nextDay w) (none (firstMissing (termsOf w) w (nextDay w)) e), λ r. rw (none-missing (termsOf w) w (nextDay w) r) (unfold settled in refl));
+}
   where
-    o : Terms
-    o = termsOf w
+    at : (v : ℕ) (x : Found) → ofClose (settled (termsOf w) w (nextDay w) statement x .answer) ≡ numbered datumAbsent v → x ≡ At v
+    at v (At n) e = unfold settled in let z : n ≡ v = ap (λ (y : Answer). y .position) e in ap At z
+    at v Nothing e = unfold settled in absurd (let z : _≡_ {A = ℕ} 0 11 = ap (λ (y : Answer). y .number) e in omega arith)
 
-    D : ℕ
-    D = nextDay w
-
-    said : (x : Found) → ofClose (settled (termsOf w) w (nextDay w) statement x .answer) ≡ numbered datumAbsent v → x ≡ At v
-    said (At n) e = unfold settled in let z : n ≡ v = ap (λ (y : Answer). y .position) e in ap At z
-    said Nothing e = unfold settled in absurd (let z : _≡_ {A = ℕ} 0 11 = ap (λ (y : Answer). y .number) e in omega arith)
+    none : (x : Found) → ofClose (settled (termsOf w) w (nextDay w) statement x .answer) .number ≡ accepted → x ≡ Nothing
+    none (At n) e = unfold settled in absurd (omega arith)
+    none Nothing e = refl

@@ -65,7 +65,8 @@ unfolding ofSection
 of-own sec [] = tt
 of-own sec (r ∷ rs) = by (sameSection sec (r .section)) (λ e. sym (same-section sec (r .section) (subst T (sym e) tt))) (of-own sec rs)
   where
-    by : (b : Bool) → (b ≡ true → r .section ≡ sec) → Each (λ r. r .section ≡ sec) (ofSection sec rs) → Each (λ r. r .section ≡ sec) (cond b (r ∷ ofSection sec rs) (ofSection sec rs))
+    by : (b : Bool) → (b ≡ true → r .section ≡ sec) → Each (λ r. r .section ≡ sec) (ofSection sec rs)
+        → Each (λ r. r .section ≡ sec) (cond b (r ∷ ofSection sec rs) (ofSection sec rs))
     by true h e = (h refl, e)
     by false h e = e
 

@@ -63,7 +63,7 @@ unfolding toldOr
 told-is Accepted = refl
 told-is (Refused w p) = refl
 
-told-accepted : (v : Verdict) → verdictTold v ≡ numbered accepted 0 → v ≡ Accepted
+pub told-accepted : (v : Verdict) → verdictTold v ≡ numbered accepted 0 → v ≡ Accepted
 told-accepted Accepted e = refl
 told-accepted (Refused w p) e = absurd (refusing w (ap (λ (a : Answer). a .number) e))
   where

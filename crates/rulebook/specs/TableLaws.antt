@@ -1,9 +1,9 @@
 -- The judge says of a file what it says at the file's fields in order. Assumes nothing.
 use mathlib.Core.Path.{_≡_, refl, sym, ap, _∙_}
 use mathlib.Core.Bool.{not}
-use mathlib.Core.List.{List, [], _∷_, _++_, map, flatMap}
+use mathlib.Core.List.{List, [], _∷_, _++_, flatMap}
 use mathlib.Core.Logic.{⊎-elim}
-use Prim.Native.Nat.{ℕ, zero, suc, _+_, _*_, _-_, _≤_, _<_}
+use Prim.Native.Nat.{ℕ, zero, suc, _+_, _*_, _-_, _<_}
 use native.Mathlib.Omega.{arith}
 use borrow.Author.Tests.{le-leb, lt-leb}
 use lib.Dec.{leb}
@@ -18,16 +18,15 @@ use Rattle.rulebook.specs.declared.Why.the-variants.{NotWhole, OutOfRang
 use Rattle.rulebook.specs.declared.Verdict.{Verdict}
 use Rattle.rulebook.specs.declared.Verdict.the-variants.{Accepted, Refused}
 use Rattle.rulebook.specs.Sections.{perInterval}
-use Rattle.rulebook.specs.File.{figurePlace, num, valuesPos, valuesIn, accountAt, dayAt, countAt, rowPos, rowsIn, nccPos, endPos}
+use Rattle.rulebook.specs.File.{num, valuesPos, valuesIn, accountAt, dayAt, countAt, rowPos, rowsIn, nccPos, endPos}
 use Rattle.rulebook.specs.Judging.{require, _andThen_, upTo, openFrom, limitsOf, whole, fieldIn, value, key, given, rest, rowAfter, judgedRow, judgedSection, judged}
 use Rattle.rulebook.specs.NamedRows.{NamedRow}
-use Rattle.rulebook.specs.Encoding.{figures}
 use Rattle.rulebook.specs.Proper.{sameKey}
-use Rattle.rulebook.specs.FileTable.{Field, Value, EndOfFile, rowOf, headingFields, intervalFields, rowFields, sectionFields, fieldsOf}
+use Rattle.rulebook.specs.FileTable.{Field, EndOfFile, rowOf, headingFields, intervalFields, rowFields, sectionFields, fieldsOf}
 use Rattle.rulebook.specs.SoundLaws.{kind-turn}
 use Rattle.rulebook.specs.ListLaws.{map-tabulate}
 use Rattle.rulebook.specs.VerdictLaws.{then-assoc, then-accepted, then-same, up-cong, up-front, up-rows, field-cut}
-use Rattle.rulebook.specs.IntervalLaws.{figureNo, figure-table, is-figure}
+use Rattle.rulebook.specs.IntervalLaws.{figure-table, is-figure}
 use Rattle.rulebook.specs.PositionLaws.{section-end}
 use Rattle.rulebook.specs.SectionRowsLaws.{same-self}
 use Rattle.rulebook.specs.FieldVerdictLaws.{verdictAt, verdicts}
@@ -125,11 +124,14 @@ module _ (o : Terms) (C : ℕ) (s : List ℕ) where
   row-verdict Meter at i = rw (verdicts-append, values-verdict, given-any, meter-heading) (simp (then-assoc, then-accepted))
   row-verdict Residual at i =
       let p : ℕ = rowPos Residual s (at + 2) i in
-      rw (verdicts-append, values-verdict, given-any, residual-heading, no-field 0 OutOfRange (p + 1 + 2) _ (λ h. values-cut Residual 191 (p + 1 + 2) (p + 1 + 2 + 0) (omega arith) h)) (simp (then-assoc, then-accepted))
+      rw (verdicts-append, values-verdict, given-any, residual-heading)
+      (rw (no-field 0 OutOfRange (p + 1 + 2) _ (λ h. values-cut Residual 191 (p + 1 + 2) (p + 1 + 2 + 0) (omega arith) h)) (simp (then-assoc, then-accepted)))
   row-verdict Ncc at i =
       let p : ℕ = rowPos Ncc s (at + 2) i in
-      rw (verdicts-append, values-verdict, given-any, ncc-heading, no-field 0 OutOfRange (p + 0 + 2) _ (λ h. values-cut Ncc 47 (p + 0 + 2) (p + 0 + 2 + 0) (omega arith) h), no-field (o .accounts - 1) OutOfRange p _ (λ h. day-cut (openFrom (limitsOf o C) Ncc) (limitsOf o C .last) p (p + 0) (omega arith) h))
-      (simp (then-assoc, then-accepted))
+      rw (verdicts-append, values-verdict, given-any, ncc-heading)
+      (rw (no-field 0 OutOfRange (p + 0 + 2) _ (λ h. values-cut Ncc 47 (p + 0 + 2) (p + 0 + 2 + 0) (omega arith) h))
+      (rw (no-field (o .accounts - 1) OutOfRange p _ (λ h. day-cut (openFrom (limitsOf o C) Ncc) (limitsOf o C .last) p (p + 0) (omega arith) h))
+      (simp (then-assoc, then-accepted))))
 
   -- ---- The file
 

@@ -14,7 +14,7 @@ use Rattle.rulebook.specs.Shares.{shareOf}
 use Rattle.rulebook.specs.DayAmount.{SettlementData, exactAmount, postedAmount, msslAmount}
 use Rattle.rulebook.specs.Terms.{InTerms}
 use Rattle.rulebook.specs.Layout.{ring, slot, size}
-use Rattle.rulebook.specs.BookData.{nextDay}
+use Rattle.rulebook.specs.BookData.{nextDay, termsOf}
 use Rattle.rulebook.specs.WellFormed.{daysFit, wellFormed}
 use Rattle.rulebook.specs.Opening.{newBook}
 use Rattle.rulebook.specs.Submit.{submitted}
@@ -22,13 +22,15 @@ use Rattle.rulebook.specs.Close.{closed}
 use Rattle.rulebook.specs.History.{Call, callsIn}
 use Rattle.rulebook.specs.Promises.{Run, historyOf, bookOf}
 use Rattle.rulebook.specs.Demand3.{Demand3OnCalls, Demand3Holds}
-use Rattle.rulebook.specs.Companion.{OpeningHolds, CompanionHolds}
+use Rattle.rulebook.specs.Companion.{OpeningHolds, CompanionHolds, KeptFrom}
 use Rattle.rulebook.specs.SearchOrder.{SearchHolds}
+use Rattle.rulebook.specs.FormedBook.{WindowDay, FormedBook}
 use Rattle.rulebook.specs.Figures.{Right, starred, starred-right}
 use Rattle.rulebook.specs.WorkedDay.{WorkedDay, worked-day}
 use Rattle.rulebook.specs.Examples.{RowExamples, row-examples, Headers, headers, Balances, balances, Ranges, ranges}
 use Rattle.rulebook.specs.AmountExamples.{BoundReached, bound-reached}
 use Rattle.rulebook.specs.LayoutExamples.{Places, places, Windows, windows}
+use Rattle.rulebook.specs.BookExamples.{Days, days}
 use Rattle.rulebook.specs.FileExamples.{FiguresRead, figures-read}
 use Rattle.rulebook.specs.DataExamples.{BookRead, book-read, RowsRead, rows-read}
 use Rattle.rulebook.specs.NumberExamples.{Returned, returned, Table, table, Refusals, refusals, ThreeAccounts, three-accounts}
@@ -39,11 +41,13 @@ use Rattle.rulebook.specs.TranchesLaws.{TrancheSplit, tranche-split}
 use Rattle.rulebook.specs.DayAmountLaws.{posted-within, msslExact, mssl-within}
 use Rattle.rulebook.specs.WindowWalk.{windowSlotFits}
 use Rattle.rulebook.specs.WalkLaws.{days-are-places}
-use Rattle.rulebook.specs.WindowLaws.{WindowDay, SlotDay, window-days-apart, slot-day}
+use Rattle.rulebook.specs.WindowLaws.{SlotDay, window-days-apart, slot-day}
+use Rattle.rulebook.specs.FormedBookLaws.{formed-book, book-formed}
 use Rattle.rulebook.specs.BookSizeLaws.{CloseSized, close-sized}
 use Rattle.rulebook.specs.SearchOrderLaws.{search-holds}
 use Rattle.rulebook.specs.AnySubmitLaws.{submitted-formed}
 use Rattle.rulebook.specs.AnyCloseLaws.{closed-formed}
+use Rattle.rulebook.specs.LentLaws.{CloseKeeps, submitted-beyond, closed-words-beyond}
 use Rattle.rulebook.specs.StartLaws.{opening-told, new-formed}
 use Rattle.rulebook.specs.RunLaws.{run-of, calls-of}
 use Rattle.rulebook.specs.Demand3Proof.{demand3, demand3-on-calls}
@@ -65,11 +69,17 @@ pub record Theorems : Type 0 where
   pub companion : CompanionHolds
   -- ---- Any well-formed lent book
 
+  -- well formed is what document 01 says, in its figures, and nothing more
+  pub formedSays : (w : List ℤ) → T (wellFormed w) → FormedBook (termsOf w) (nextDay w) w
+  pub saysFormed : (o : Terms) (C : ℕ) (w : List ℤ) → FormedBook o C w → T (wellFormed w)
+  -- stays well formed, and keeps its words beyond the size
   pub submitKeeps : (w : List ℤ) (file : List ℕ) → T (wellFormed w) → T (wellFormed (submitted w file .words))
   pub closeKeeps : (w statement : List ℤ) → T (wellFormed w) → T (wellFormed (closed w statement .words))
+  pub submitBeyond : (w : List ℤ) (file : List ℕ) → T (wellFormed w) → KeptFrom (size (termsOf w)) w (submitted w file .words)
+  pub closeBeyond : (w statement : List ℤ) → T (wellFormed w) → CloseKeeps w statement
   -- data and amounts in range, balances too
   pub closeSized : (w : List ℤ) → T (wellFormed w) → nextDay w ≤ lastDay → CloseSized w
-  -- 11 is at the first flag in search order that is zero
+  -- 11 is at the first flag in search order that is zero, and 0 is returned if none is
   pub search : SearchHolds
   -- ---- The ring
 
@@ -100,6 +110,7 @@ pub record Theorems : Type 0 where
   pub places : Places
   pub windows : Windows
   pub balances : Balances
+  pub days : Days
   pub figuresRead : FiguresRead
   pub bookRead : BookRead
   pub rowsRead : RowsRead
@@ -122,8 +133,12 @@ theorems = record {
   everyList = run-of;
   theseCalls = calls-of;
   companion = companion;
+  formedSays = formed-book;
+  saysFormed = book-formed;
   submitKeeps = submitted-formed;
   closeKeeps = closed-formed;
+  submitBeyond = submitted-beyond;
+  closeBeyond = closed-words-beyond;
   closeSized = close-sized;
   search = search-holds;
   daysApart = window-days-apart;
@@ -144,6 +159,7 @@ theorems = record {
   places = places;
   windows = windows;
   balances = balances;
+  days = days;
   figuresRead = figures-read;
   bookRead = book-read;
   rowsRead = rows-read;

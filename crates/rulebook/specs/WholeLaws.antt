@@ -2,7 +2,7 @@
 use mathlib.Core.Path.{_≡_, refl, sym, ap, _∙_}
 use mathlib.Core.List.{List, [], _∷_, _++_, flatMap, append-assoc, append-nil}
 use mathlib.Core.Logic.{⊎-elim}
-use Prim.Native.Nat.{ℕ, zero, suc, _+_, _*_, _-_, _/_, _%_, _≤_, _<_}
+use Prim.Native.Nat.{ℕ, zero, suc, _+_, _*_, _/_, _%_, _≤_, _<_}
 use native.Mathlib.Nat.{suc-mul}
 use native.Mathlib.Numerals.{add-one}
 use native.Mathlib.Omega.{arith}
@@ -21,7 +21,7 @@ use Rattle.rulebook.specs.File.{num, signed32, valueAt, valuesPos, accou
 use Rattle.rulebook.specs.Judging.{judgedSection, judged}
 use Rattle.rulebook.specs.JudgingLaws.{section-start, section-row, sections}
 use Rattle.rulebook.specs.NamedRows.{named, namedRows}
-use Rattle.rulebook.specs.Encoding.{bytes, twos, valueBytes, figures, heading, intervalBytes, rowBytes, sectionBytes, encoded}
+use Rattle.rulebook.specs.Encoding.{bytes, twos, valueBytes, heading, intervalBytes, rowBytes, sectionBytes, encoded}
 use Rattle.rulebook.specs.Proper.{Bytes}
 use Rattle.rulebook.specs.IntervalLaws.{figureNo, figure-table, figure-at}
 use Rattle.rulebook.specs.SectionRowsLaws.{sectionOf, of-rows}

@@ -28,7 +28,7 @@ use Rattle.submission.specs.Marks.{BookLimits, mostMarks, mark, markOf, 
 
 -- those of a book whose terms are in range, whatever its next day to close
 pub limits-of : (o : Terms) (C : ℕ) → T (termsFit o) → BookLimits (limitsOf o C)
-limits-of o C t = let h = opened-terms o t in record { some = h .accounts1; few = h .accounts32; back = omega arith; ahead = omega arith }
+limits-of o C t = let h = opened-terms o t in record { some = h .accountsFrom; few = h .accountsTo; back = omega arith; ahead = omega arith }
 
 -- every account and open day has its mark
 pub mark-fits : (l : Limits) (sec : Section) (a d : ℕ) → BookLimits l → a < mostAccounts → openFrom l sec ≤ d → d ≤ l .last → mark (openFrom l sec) a d < mostMarks
