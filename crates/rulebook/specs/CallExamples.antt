@@ -12,7 +12,7 @@ use Rattle.integer.specs.Below.{tabulate, turns}
 use Rattle.integer.specs.Words.{word}
 use Rattle.rulebook.specs.declared.Terms.{Terms}
 use Rattle.rulebook.specs.Units.{lastDay}
-use Rattle.rulebook.specs.Terms.{termsFit, InTerms}
+use Rattle.rulebook.specs.Terms.{termsFit}
 use Rattle.rulebook.specs.BookData.{termsOf, nextDay}
 use Rattle.rulebook.specs.WellFormed.{headerFits, fits, wellFormed}
 use Rattle.rulebook.specs.Opening.{opened}
@@ -22,7 +22,7 @@ use Rattle.rulebook.specs.Submit.{rowsStored, submitted}
 use Rattle.rulebook.specs.Close.{closed}
 use Rattle.rulebook.specs.Numbers.{numbered, ofOpen, ofSubmit, ofClose}
 use Rattle.rulebook.specs.History.{closes}
-use Rattle.rulebook.specs.Examples.{one, two, zeros}
+use Rattle.rulebook.specs.Examples.{two, in-two, zeros}
 use Rattle.rulebook.specs.LayoutExamples.{places}
 use Rattle.rulebook.specs.TestLaws.{T-path}
 use Rattle.rulebook.specs.StartLaws.{opening-told}
@@ -48,12 +48,6 @@ pub record Openings : Type 0 where
   pub most : termsFit (terms 32 75 92 36524) ≡ true
   pub short : (w : List ℤ) → length w ≡ 5071 → ofOpen (opened two w .answer) ≡ numbered 2 0
   pub enough : (w : List ℤ) → 5072 ≤ length w → ofOpen (opened two w .answer) ≡ numbered 0 0
-
-in-two : InTerms two
-in-two = omega arith
-
-in-one : InTerms one
-in-one = omega arith
 
 pub openings : Openings
 unfolding opened termsFit

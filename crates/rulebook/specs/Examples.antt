@@ -3,6 +3,7 @@ use mathlib.Core.Path.{_≡_, refl}
 use mathlib.Core.Bool.{Bool, true, false}
 use mathlib.Core.List.{List, [], _∷_, _++_}
 use Prim.Native.Nat.{ℕ}
+use native.Mathlib.Omega.{arith}
 use lib.IntN.{ℤ, pos, _+ℤ_, _-ℤ_}
 use lib.ListN.{replicate, getD}
 use Rattle.integer.specs.Integer.{minus}
@@ -10,6 +11,7 @@ use Rattle.integer.specs.Below.{fold}
 use Rattle.rulebook.specs.declared.Section.{Section}
 use Rattle.rulebook.specs.declared.Section.the-variants.{Vesting, Meter, Residual, Ncc}
 use Rattle.rulebook.specs.declared.Terms.{Terms}
+use Rattle.rulebook.specs.Terms.{InTerms}
 use Rattle.rulebook.specs.Sections.{valueInRange}
 use Rattle.rulebook.specs.WellFormed.{rowFits, rowBlank, rowCounts, headerFits, balanceFits}
 use Rattle.rulebook.specs.Figures.{accounts}
@@ -22,6 +24,12 @@ two = accounts 2
 
 abbrev pub one : Terms
 one = accounts 1
+
+pub in-two : InTerms two
+in-two = omega arith
+
+pub in-one : InTerms one
+in-one = omega arith
 
 -- N = 3, L = 2, H = 3
 abbrev pub three : Terms

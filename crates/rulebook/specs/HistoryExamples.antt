@@ -20,7 +20,7 @@ use Rattle.rulebook.specs.Close.{closed}
 use Rattle.rulebook.specs.Numbers.{numbered, ofClose}
 use Rattle.rulebook.specs.History.{Event, submit, close, closes, latest, lastFor, acceptedRows, inForce, figureIn}
 use Rattle.rulebook.specs.Companion.{firstLacking, closeTold}
-use Rattle.rulebook.specs.Examples.{one, two, zeros}
+use Rattle.rulebook.specs.Examples.{one, two, in-one, in-two, zeros}
 use Rattle.rulebook.specs.LayoutExamples.{places}
 use Rattle.rulebook.specs.StartLaws.{new-state}
 use Rattle.rulebook.specs.CompanionProof.{close-tells}
@@ -90,6 +90,8 @@ pub record Closes : Type 0 where
   pub residualLacks : closeTold one (taken (nccFile 0) ∷ taken (bothFile second) ∷ closedDay 9497 0 ∷ []) (words 2) ≡ numbered 11 94
   pub acceptedAgain : closeTold one (taken residualFile ∷ taken (nccFile 0) ∷ taken (bothFile second) ∷ closedDay 9497 0 ∷ []) (words 2)
       ≡ record { number = 0; position = 0; day = 9498; count = 48 }
+  -- the last day of all is closed, and no statement is asked for
+  pub finished : closeTold (record { accounts = 1; lag = 1; horizon = 1; first = 36524 }) (closedDay 36524 0 ∷ []) [] ≡ numbered 9 0
   -- the last row accepted is in force
   pub revised : figureIn (inForce (taken (nccFile 5) ∷ taken (nccFile 3) ∷ []) Ncc 0 9497) 0 NccLoad ≡ pos 5
   pub notRevised : figureIn (inForce (refused (nccFile 5) ∷ taken (nccFile 3) ∷ []) Ncc 0 9497) 0 NccLoad ≡ pos 3
@@ -109,6 +111,7 @@ closes-told = record {
   nccLacks = refl;
   residualLacks = refl;
   acceptedAgain = refl;
+  finished = refl;
   revised = refl;
   notRevised = refl;
 }
@@ -120,12 +123,6 @@ pub record NewBooks : Type 0 where
   pub twoAccounts : (lent statement : List ℤ) → 5072 ≤ length lent → 3 ≤ length statement → ofClose (closed (newBook two lent) statement .answer) ≡ numbered 11 84
   pub oneAccount : (lent statement : List ℤ) → 2760 ≤ length lent → 2 ≤ length statement → ofClose (closed (newBook one lent) statement .answer) ≡ numbered 11 76
   pub twoWords : (lent statement : List ℤ) → 5072 ≤ length lent → length statement ≡ 2 → ofClose (closed (newBook two lent) statement .answer) ≡ numbered 10 0
-
-in-two : InTerms two
-in-two = omega arith
-
-in-one : InTerms one
-in-one = omega arith
 
 size-one : size one ≡ 2760
 unfolding size base ring intervalSize

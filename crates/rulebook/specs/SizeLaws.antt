@@ -73,14 +73,19 @@ module _ (x : AccountData) (h : Sized x) where
   pub tenders-size : (n : ℕ) → n ≤ 3 → natAbs (sumℤ n (λ t. (x .tvp t -ℤ referencePriceOf x) *ℤ pos (x .tvq t))) ≤ n * 20000000000000
   tenders-size n l = abs-sumℤ n 20000000000000 (λ t. (x .tvp t -ℤ referencePriceOf x) *ℤ pos (x .tvq t)) (λ t b. tender-size t (omega arith))
 
-  pub vesting-size : natAbs (vestingAmount x) ≤ 80000000000000
-  unfolding vestingAmount
-  vesting-size = omega (
+  -- with the base contract
+  pub vesting-partial-size : (n : ℕ) → n ≤ 3
+      → natAbs ((x .bvp -ℤ referencePriceOf x) *ℤ pos (x .bvq) +ℤ sumℤ n (λ t. (x .tvp t -ℤ referencePriceOf x) *ℤ pos (x .tvq t))) ≤ 20000000000000 + n * 20000000000000
+  vesting-partial-size n l = omega (
     arith,
     base-size,
-    tenders-size 3 (omega arith),
-    abs-add ((x .bvp -ℤ referencePriceOf x) *ℤ pos (x .bvq)) (sumℤ 3 (λ t. (x .tvp t -ℤ referencePriceOf x) *ℤ pos (x .tvq t))),
+    tenders-size n l,
+    abs-add ((x .bvp -ℤ referencePriceOf x) *ℤ pos (x .bvq)) (sumℤ n (λ t. (x .tvp t -ℤ referencePriceOf x) *ℤ pos (x .tvq t))),
   )
+
+  pub vesting-size : natAbs (vestingAmount x) ≤ 80000000000000
+  unfolding vestingAmount
+  vesting-size = vesting-partial-size 3 (omega arith)
 
   pub vested-size : vestedQuantity x ≤ 40000000
   unfolding vestedQuantity
