@@ -14,20 +14,13 @@ use Rattle.rulebook.specs.Terms.{mostLag, mostHorizon}
 use Rattle.rulebook.specs.File.{accountAt, dayAt, rowPos}
 use Rattle.rulebook.specs.Judging.{openFrom, upTo, given, judgedRow}
 
--- what the limits of every book keep to
-pub record BookLimits (l : Limits) : Type 0 where
-  pub some : 1 ≤ l .accounts
-  pub few : l .accounts ≤ mostAccounts
-  pub back : l .current ≤ l .earliest + mostLag
-  pub ahead : l .last < l .current + mostHorizon
-
 -- 32 accounts, and from L days back to H days ahead
 abbrev pub mostMarks : ℕ
-mostMarks = 5344
+mostMarks = mostAccounts * (mostLag + mostHorizon)
 
 -- the place of the mark of account a and day d, where the open days begin at `low`
 abbrev pub mark : ℕ → ℕ → ℕ → ℕ
-mark low a d = 32 * (d - low) + a
+mark low a d = mostAccounts * (d - low) + a
 
 -- that of the row at `at`
 abbrev pub markOf : Limits → Section → List ℕ → ℕ → ℕ

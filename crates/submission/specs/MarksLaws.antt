@@ -7,28 +7,22 @@ use Prim.Native.Nat.{ℕ, zero, suc, _+_, _-_, _≤_, _<_}
 use native.Mathlib.Numerals.{add-one}
 use native.Mathlib.Omega.{arith}
 use borrow.Author.Tests.{eqb-true, eq-eqb}
-use lib.Dec.{T, eqb}
+use lib.Dec.{eqb}
 use lib.ListN.{length, getD, set, replicate, length-replicate}
 use lib.Seq.{getD-set-same, getD-set-other}
 use Rattle.integer.specs.BelowLaws.{either, and-true}
 use Rattle.rulebook.specs.declared.Section.{Section}
 use Rattle.rulebook.specs.declared.Section.the-variants.{Vesting, Meter, Residual, Ncc}
 use Rattle.rulebook.specs.declared.Limits.{Limits}
-use Rattle.rulebook.specs.declared.Terms.{Terms}
 use Rattle.rulebook.specs.declared.Verdict.the-variants.{Accepted}
 use Rattle.rulebook.specs.Shares.{mostAccounts}
-use Rattle.rulebook.specs.Terms.{termsFit}
 use Rattle.rulebook.specs.File.{accountAt, dayAt, rowPos}
-use Rattle.rulebook.specs.Judging.{limitsOf, openFrom, given, key}
+use Rattle.rulebook.specs.Judging.{openFrom, given, key}
 use Rattle.rulebook.specs.JudgingLaws.{keyed}
-use Rattle.rulebook.specs.StartLaws.{opened-terms}
-use Rattle.submission.specs.Marks.{BookLimits, mostMarks, mark, markOf, unmarked, Marked}
+use Rattle.submission.specs.BookLimits.{BookLimits}
+use Rattle.submission.specs.Marks.{mostMarks, mark, markOf, unmarked, Marked}
 
--- ---- Limits
-
--- those of a book whose terms are in range, whatever its next day to close
-pub limits-of : (o : Terms) (C : ℕ) → T (termsFit o) → BookLimits (limitsOf o C)
-limits-of o C t = let h = opened-terms o t in record { some = h .accountsFrom; few = h .accountsTo; back = omega arith; ahead = omega arith }
+-- ---- Places
 
 -- every account and open day has its mark
 pub mark-fits : (l : Limits) (sec : Section) (a d : ℕ) → BookLimits l → a < mostAccounts → openFrom l sec ≤ d → d ≤ l .last → mark (openFrom l sec) a d < mostMarks

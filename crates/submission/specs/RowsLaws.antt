@@ -23,8 +23,9 @@ use Rattle.rulebook.specs.JudgingLaws.{then-both, checked, field-says, keyed, s
 use Rattle.submission.specs.declared.reader.Heading.{Heading}
 use Rattle.submission.specs.Fields.{outcome, headingAt, fieldOutcome}
 use Rattle.submission.specs.FieldsLaws.{up-none, up-more, field-whole, field-judged}
+use Rattle.submission.specs.BookLimits.{BookLimits}
 use Rattle.submission.specs.Values.{valueIn}
-use Rattle.submission.specs.Marks.{BookLimits, markOf, marked, unmarked, marksAfter, Marked, Before}
+use Rattle.submission.specs.Marks.{markOf, marked, unmarked, marksAfter, Marked, Before}
 use Rattle.submission.specs.MarksLaws.{length-unmarked, marked-none, marked-more}
 use Rattle.submission.specs.ValuesLaws.{values-part, values-end}
 

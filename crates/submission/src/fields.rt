@@ -19,12 +19,14 @@ pub enum Outcome {
     Stopped(Why, usize),
 }
 
+// A byte, for a field's number.
 fn byte(x: u8) -> usize
     ensures { λ r. ⌜ (r ≡ x) × (r < 256) ⌝ }
 {
     x as usize
 }
 
+// A byte, for a value.
 fn wide(x: u8) -> u64
     ensures { λ r. ⌜ (r ≡ x) × (r < 256) ⌝ }
 {

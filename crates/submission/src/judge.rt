@@ -13,7 +13,11 @@ ghost use lib.ListN.{length};
 ghost use Rattle.rulebook.specs.File.{rowPos, sectionEnd};
 ghost use Rattle.rulebook.specs.Judging.{upTo, judgedRow, judgedSection, judged};
 ghost use Rattle.submission.specs.Fields.{outcome};
-ghost use Rattle.submission.specs.Marks.{BookLimits, unmarked};
+ghost use Rattle.submission.specs.BookLimits.{BookLimits};
+ghost use Rattle.submission.specs.Marks.{unmarked};
+
+// 32 accounts, and at most 75 + 92 open days: a mark for each.
+const MARKS: usize = 5344;
 
 // The rows of a section, the first at a position; the position past the last. No account and day is marked at first.
 fn judge_rows(
@@ -41,7 +45,7 @@ fn judge_rows(
     Outcome::Passed(at)
 }
 
-// The section at a position: its count of rows, then the rows; the position past it. The marks have a byte for each account and open day.
+// The section at a position: its count of rows, then the rows; the position past it.
 fn judge_section(limits: Limits, sec: Section, file: &[u8], at: usize) -> Outcome
     requires { ⌜ (BookLimits limits) × (at ≤ length (now file)) ⌝ }
     ensures { λ r. ⌜ r ≡ outcome (judgedSection limits sec (now (file .entry)) at) (sectionEnd sec (now (file .entry)) at) ⌝ }
@@ -49,7 +53,7 @@ fn judge_section(limits: Limits, sec: Section, file: &[u8], at: usize) -> Outcom
     match field_at(file, at, 2) {
         Field::Cut => Outcome::Stopped(Why::NotWhole, at),
         Field::Whole(count, first) => {
-            let mut marks = [0u8; 5344];
+            let mut marks = [0u8; MARKS];
             judge_rows(limits, sec, file, first, count, &mut marks)
         }
     }

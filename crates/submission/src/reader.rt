@@ -18,6 +18,7 @@ pub struct Heading {
     pub day: Field,
 }
 
+// The two fields together.
 fn heading_of(account: Field, day: Field) -> Heading
     ensures { λ r. ⌜ r ≡ headingOf account day ⌝ }
 {

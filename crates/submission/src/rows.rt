@@ -25,7 +25,12 @@ ghost use Rattle.rulebook.specs.File.{num, accountBytes, countBytes, rowEnd};
 ghost use Rattle.rulebook.specs.Judging.{upTo, fieldIn, key, rest, rowAfter};
 ghost use Rattle.submission.specs.Fields.{outcome};
 ghost use Rattle.submission.specs.Values.{valueIn};
-ghost use Rattle.submission.specs.Marks.{BookLimits, markOf, marked, marksAfter, mostMarks};
+ghost use Rattle.submission.specs.BookLimits.{BookLimits};
+ghost use Rattle.submission.specs.Marks.{markOf, marked, marksAfter, mostMarks};
+
+const INTERVALS: usize = 48;
+
+const MOST_ACCOUNTS: usize = 32;
 
 // The account and the day of the row at a position: the place of their mark.
 fn judge_key(limits: Limits, sec: Section, file: &[u8], at: usize) -> Outcome
@@ -33,23 +38,23 @@ fn judge_key(limits: Limits, sec: Section, file: &[u8], at: usize) -> Outcome
     ensures { λ r. ⌜ r ≡ outcome (key limits sec (now (file .entry)) at) (markOf limits sec (now (file .entry)) at) ⌝ }
 {
     let n = account_bytes(sec);
-    let h = read_heading(file, at, n);
-    let a = h.account;
-    let account = match judge_field(a, at, 0, limits.accounts - 1, Why::OutOfRange) {
+    let heading = read_heading(file, at, n);
+    let account_field = heading.account;
+    let day_field = heading.day;
+    let account = match judge_field(account_field, at, 0, limits.accounts - 1, Why::OutOfRange) {
         Outcome::Passed(v) => v,
         Outcome::Stopped(w, p) => return Outcome::Stopped(w, p),
     };
     let low = open_from(limits, sec);
-    let d = h.day;
-    let day = match judge_field(d, at + n, low, limits.last, Why::DayNotOpen) {
+    let day = match judge_field(day_field, at + n, low, limits.last, Why::DayNotOpen) {
         Outcome::Passed(v) => v,
         Outcome::Stopped(w, p) => return Outcome::Stopped(w, p),
     };
-    Outcome::Passed(32 * (day - low) + account)
+    Outcome::Passed(MOST_ACCOUNTS * (day - low) + account)
 }
 
-// Whether an account and day were given before; they are marked as given.
-fn give(marks: &mut [u8], k: usize) -> bool
+// Marks an account and day as given; whether they were given before.
+fn mark_given(marks: &mut [u8], k: usize) -> bool
     requires { ⌜ k < length (now marks) ⌝ }
     ensures { λ r. ⌜ (r ≡ marked (now (marks .entry)) k) × (now (marks .exit) ≡ set (now (marks .entry)) k 1) ⌝ }
 {
@@ -75,12 +80,14 @@ fn judge_values(part: &[u8], from: usize, sec: Section, n: usize) -> Verdict
     Verdict::Accepted
 }
 
+// The lesser of two numbers.
 fn least(a: usize, b: usize) -> usize
     ensures { λ r. ⌜ r ≡ min a b ⌝ }
 {
     if a < b { a } else { b }
 }
 
+// A verdict on a stretch of the file, with the number that goes on where it is accepted.
 fn outcome_of(v: Verdict, next: usize) -> Outcome
     ensures { λ r. ⌜ r ≡ outcome v next ⌝ }
 {
@@ -103,16 +110,16 @@ fn judge_rest(sec: Section, file: &[u8], at: usize) -> Outcome
     requires { ⌜ at + accountBytes sec + 2 ≤ length (now file) ⌝ }
     ensures { λ r. ⌜ r ≡ outcome (rest sec (now (file .entry)) at) (rowEnd sec (now (file .entry)) at) ⌝ }
 {
-    let p = at + account_bytes(sec) + 2;
-    let count = match judge_count(sec, file, p) {
+    let count_at = at + account_bytes(sec) + 2;
+    let count = match judge_count(sec, file, count_at) {
         Outcome::Passed(v) => v,
-        Outcome::Stopped(w, q) => return Outcome::Stopped(w, q),
+        Outcome::Stopped(w, p) => return Outcome::Stopped(w, p),
     };
-    let a = p + count_bytes(sec);
-    let n = 48 * per_interval(sec, count);
-    let end = a + 4 * n;
-    let e = least(end, file.len());
-    outcome_of(judge_values(&file[a..e], a, sec, n), end)
+    let from = count_at + count_bytes(sec);
+    let n = INTERVALS * per_interval(sec, count);
+    let end = from + 4 * n;
+    let cut = least(end, file.len());
+    outcome_of(judge_values(&file[from..cut], from, sec, n), end)
 }
 
 // The row at a position, after the rows whose accounts and days are marked; the position past it.
@@ -124,7 +131,7 @@ pub fn judge_row(limits: Limits, sec: Section, file: &[u8], at: usize, marks: &m
         Outcome::Passed(v) => v,
         Outcome::Stopped(w, p) => return Outcome::Stopped(w, p),
     };
-    if give(marks, k) {
+    if mark_given(marks, k) {
         return Outcome::Stopped(Why::Repeated, at + account_bytes(sec));
     }
     judge_rest(sec, file, at)

@@ -32,7 +32,7 @@ pub fn count_bytes(sec: Section) -> usize
     }
 }
 
-// The range of that count.
+// The least such count.
 pub fn least_count(sec: Section) -> usize
     ensures { λ r. ⌜ r ≡ leastCount sec ⌝ }
 {
@@ -44,6 +44,7 @@ pub fn least_count(sec: Section) -> usize
     }
 }
 
+// The most such count.
 pub fn most_count(sec: Section) -> usize
     ensures { λ r. ⌜ r ≡ mostCount sec ⌝ }
 {

@@ -20,11 +20,11 @@ use Rattle.submission.proofs.rows.judge_rest.Tie as tie
 account-bytes-requires : tie.Need-account-bytes-requires
 account-bytes-requires c κs = search needs
 
-add-p : tie.Need-add-p
-add-p c = search needs
+add-count-at : tie.Need-add-count-at
+add-count-at c = search needs
 
-add-p-2 : tie.Need-add-p-2
-add-p-2 c = search needs
+add-count-at-2 : tie.Need-add-count-at-2
+add-count-at-2 c = search needs
 
 judge-count-requires : tie.Need-judge-count-requires
 judge-count-requires c κs = search needs
@@ -66,8 +66,8 @@ returns c =
 count-bytes-requires : tie.Need-count-bytes-requires
 count-bytes-requires c κs = search needs
 
-add-a : tie.Need-add-a
-add-a c = search needs
+add-from : tie.Need-add-from
+add-from c = search needs
 
 per-interval-requires : tie.Need-per-interval-requires
 per-interval-requires c κs =
@@ -122,14 +122,14 @@ judge-rest-spec =
     tie.close
     (tie.spec
     account-bytes-requires
-    add-p
-    add-p-2
+    add-count-at
+    add-count-at-2
     judge-count-requires
     enum-known-v
     enum-known-w
     returns
     count-bytes-requires
-    add-a
+    add-from
     per-interval-requires
     mul-n
     mul-end

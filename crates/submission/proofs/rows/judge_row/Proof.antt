@@ -44,8 +44,8 @@ returns c =
     let e : key (g .limits) (g .sec) (g .file .now) (g .at) ≡ Refused _ _ = outcome-stopped _ _ _ _ (sym (c .before .before .before .judge-key .ensures) ∙ c .before .w .given .1) in
     (rw (row-refused (g .limits) (g .sec) (g .file .now) (g .at) _ _ _ e), rw e)
 
-give-requires : tie.Need-give-requires
-give-requires c κs = let k = key-on (c .before) .1 in let s = small (c .before) in omega arith
+mark-given-requires : tie.Need-mark-given-requires
+mark-given-requires c κs = let k = key-on (c .before) .1 in let s = small (c .before) in omega arith
 
 account-bytes-requires : tie.Need-account-bytes-requires
 account-bytes-requires c κs = search needs
@@ -62,8 +62,8 @@ returns-2 c =
     let h = b .before .before in
     let k = key-on h in
     let g = start h .args in
-    let m : marked (g .marks .now) (markOf (g .limits) (g .sec) (g .file .now) (g .at)) ≡ true = rw (k .1) (sym (b .give .ensures .0) ∙ c .before .if1 .taken) in
-    (rw (row-again (g .limits) (g .sec) (g .file .now) (g .at) _ (k .0) m, c .account-bytes .ensures .0), rw (k .0, k .1) (b .give .ensures .1))
+    let m : marked (g .marks .now) (markOf (g .limits) (g .sec) (g .file .now) (g .at)) ≡ true = rw (k .1) (sym (b .mark-given .ensures .0) ∙ c .before .if1 .taken) in
+    (rw (row-again (g .limits) (g .sec) (g .file .now) (g .at) _ (k .0) m, c .account-bytes .ensures .0), rw (k .0, k .1) (b .mark-given .ensures .1))
 
 judge-rest-requires : tie.Need-judge-rest-requires
 judge-rest-requires c κs = let k = known (c .before .before .before .before .before) in omega arith
@@ -77,8 +77,8 @@ returns-3 c =
     let h = b .before .before in
     let k = key-on h in
     let g = start h .args in
-    let m : marked (g .marks .now) (markOf (g .limits) (g .sec) (g .file .now) (g .at)) ≡ false = rw (k .1) (sym (b .give .ensures .0) ∙ c .before .if1 .left) in
-    (rw (row-rest (g .limits) (g .sec) (g .file .now) (g .at) _ (k .0) m) (c .judge-rest .ensures), rw (k .0, k .1) (b .give .ensures .1))
+    let m : marked (g .marks .now) (markOf (g .limits) (g .sec) (g .file .now) (g .at)) ≡ false = rw (k .1) (sym (b .mark-given .ensures .0) ∙ c .before .if1 .left) in
+    (rw (row-rest (g .limits) (g .sec) (g .file .now) (g .at) _ (k .0) m) (c .judge-rest .ensures), rw (k .0, k .1) (b .mark-given .ensures .1))
 
 pub judge-row-spec : {M : Type 1} → statement M
 judge-row-spec =
@@ -88,7 +88,7 @@ judge-row-spec =
     enum-known-v
     enum-known-w
     returns
-    give-requires
+    mark-given-requires
     account-bytes-requires
     add-t17
     same-length
