@@ -6,3 +6,4 @@ pub mod interval; // interval.rt: the words of an interval
 pub mod slots; // slots.rt: the slots, of days and blank
 pub mod header; // header.rt: the header, the size, the balances
 pub mod judge; // judge.rt: is a lent book well formed?
+pub mod open; // open.rt: opening

@@ -1,13 +1,15 @@
-// Tests of one word of a part, at its index, and of zeros. No word goes from one function to another.
+// Tests of one word of a part, at its index, and of zeros; zeros written. No word goes from one function to another.
+use integer::put_word;
 use integer::word_at;
 use rulebook::Kind;
 use rules::ranges::in_range;
 ghost use mathlib.Core.Path.{_≡_};
 ghost use Prim.Native.Nat.{_<_, _*_, _^_};
 ghost use lib.Dec.{leb};
-ghost use lib.IntN.{natAbs};
+ghost use lib.IntN.{pos, natAbs};
 ghost use lib.ListN.{length};
 ghost use lib.Signed.{ltZ};
+ghost use Rattle.integer.specs.Below.{tabulate};
 ghost use Rattle.integer.specs.Words.{word};
 ghost use Rattle.rulebook.specs.Units.{between, inRange};
 ghost use Rattle.rulebook.specs.WellFormed.{isZero};
@@ -77,4 +79,13 @@ pub fn are_blank(rows: &[i64], m: usize) -> bool
         ok = ok & is_blank(&rows[i..e]);
     }
     ok
+}
+
+// Writes a zero to every word.
+pub fn clear(part: &mut [i64])
+    ensures { λ _. ⌜ now (part .exit) ≡ tabulate (length (now (part .entry))) (λ k. pos 0) ⌝ }
+{
+    for k in 0..part.len() {
+        put_word(part, k, 0);
+    }
 }

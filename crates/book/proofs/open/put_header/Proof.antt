@@ -1,0 +1,43 @@
+-- `put_header` meets its contract: six words are stored, one after another.
+use borrow.Author.Needs.{needs}
+use Rattle.rulebook.specs.Layout.{stored}
+use Rattle.book.proofs.open.put_header.Statement.{statement}
+use Rattle.book.proofs.open.put_header.Tie as tie
+
+put-count-requires : tie.Need-put-count-requires
+put-count-requires c κs = search needs
+
+put-count-requires-2 : tie.Need-put-count-requires-2
+put-count-requires-2 c κs = search needs
+
+put-count-requires-3 : tie.Need-put-count-requires-3
+put-count-requires-3 c κs = search needs
+
+put-count-requires-4 : tie.Need-put-count-requires-4
+put-count-requires-4 c κs = search needs
+
+put-count-requires-5 : tie.Need-put-count-requires-5
+put-count-requires-5 c κs = search needs
+
+put-count-requires-6 : tie.Need-put-count-requires-6
+put-count-requires-6 c κs = search needs
+
+same-length : tie.Need-same-length
+same-length c = search needs
+
+returns : tie.Need-returns
+unfolding stored
+returns c = rw (c .before .put-count6 .ensures, c .before .before .before .before .put-count5 .ensures, c .before .before .before .before .before .before .before .put-count4 .ensures, c .before .before .before .before .before .before .before .before .before .before .put-count3 .ensures, c .before .before .before .before .before .before .before .before .before .before .before .before .before .put-count2 .ensures, c .before .before .before .before .before .before .before .before .before .before .before .before .before .before .before .before .put-count .ensures)
+
+pub put-header-spec : {M : Type 1} → statement M
+put-header-spec =
+    tie.close
+    (tie.spec
+    put-count-requires
+    put-count-requires-2
+    put-count-requires-3
+    put-count-requires-4
+    put-count-requires-5
+    put-count-requires-6
+    same-length
+    returns)

@@ -1,0 +1,12 @@
+-- `terms_fit` meets its contract: its tests are those of `termsFit`.
+use borrow.Author.Needs.{needs}
+use Rattle.rulebook.specs.Terms.{termsFit}
+use Rattle.book.proofs.open.terms_fit.Statement.{statement}
+use Rattle.book.proofs.open.terms_fit.Tie as tie
+
+returns : tie.Need-returns
+unfolding termsFit
+returns c = search needs
+
+pub terms-fit-spec : {M : Type 1} → statement M
+terms-fit-spec = tie.close (tie.spec returns)

@@ -1,0 +1,85 @@
+// Document 01, "The book": opening.
+use crate::header::book_size;
+use crate::words::clear;
+use integer::put_word;
+use rulebook::OpenAnswer;
+use rulebook::Terms;
+ghost use mathlib.Core.Path.{_≡_};
+ghost use Prim.Native.Nat.{_≤_, _<_, _^_};
+ghost use lib.IntN.{pos};
+ghost use lib.ListN.{length, set};
+ghost use Rattle.integer.specs.Words.{word};
+ghost use Rattle.rulebook.specs.Terms.{termsFit, InTerms};
+ghost use Rattle.rulebook.specs.Layout.{size, stored};
+ghost use Rattle.rulebook.specs.Opening.{header, newBook};
+ghost use Rattle.rulebook.specs.Promises.{OpenPromise};
+
+// N is 1 to 32, L 1 to 75, H 1 to 92, F 9,497 to 36,524.
+fn terms_fit(terms: Terms) -> bool
+    ensures { λ r. ⌜ r ≡ termsFit terms ⌝ }
+{
+    (1 <= terms.accounts)
+        & (terms.accounts <= 32)
+        & (1 <= terms.lag)
+        & (terms.lag <= 75)
+        & (1 <= terms.horizon)
+        & (terms.horizon <= 92)
+        & (9497 <= terms.first)
+        & (terms.first <= 36524)
+}
+
+fn put_count(book: &mut [i64], i: usize, n: usize)
+    requires { ⌜ (i < length (now book)) × (n < 2 ^ 63) ⌝ }
+    ensures { λ _. ⌜ now (book .exit) ≡ set (now (book .entry)) i (pos n) ⌝ }
+{
+    put_word(book, i, n as i64);
+}
+
+// 395, N, L, H, F, C = F.
+fn put_header(book: &mut [i64], terms: Terms)
+    requires { ⌜ InTerms terms × (6 ≤ length (now book)) ⌝ }
+    ensures { λ _. ⌜ now (book .exit) ≡ stored (now (book .entry)) 0 6 (word (header terms)) ⌝ }
+{
+    put_count(book, 0, 395);
+    put_count(book, 1, terms.accounts);
+    put_count(book, 2, terms.lag);
+    put_count(book, 3, terms.horizon);
+    put_count(book, 4, terms.first);
+    put_count(book, 5, terms.first);
+}
+
+// "Opening writes every word of the size": the header, then zeros.
+fn put_new_book(book: &mut [i64], terms: Terms)
+    requires { ⌜ InTerms terms × (size terms ≤ length (now book)) ⌝ }
+    ensures { λ _. ⌜ now (book .exit) ≡ newBook terms (now (book .entry)) ⌝ }
+{
+    put_header(book, terms);
+    let end = book_size(terms);
+    clear(&mut book[6..end]);
+}
+
+// The opening call: number 1 for terms outside their ranges, 2 for too few words, and then the book is not touched; words beyond the size never are.
+pub fn open_book(
+    book: &mut [i64],
+    accounts: usize,
+    lag: usize,
+    horizon: usize,
+    first: usize,
+) -> OpenAnswer
+    ensures { λ answer. ⌜ OpenPromise (record { accounts = accounts; lag = lag; horizon = horizon; first = first }) (now (book .entry)) answer (now (book .exit)) ⌝ }
+{
+    let terms = Terms {
+        accounts: accounts,
+        lag: lag,
+        horizon: horizon,
+        first: first,
+    };
+    if !terms_fit(terms) {
+        return OpenAnswer::BadTerms;
+    }
+    if book.len() < book_size(terms) {
+        return OpenAnswer::TooShort;
+    }
+    put_new_book(book, terms);
+    OpenAnswer::Opened
+}
