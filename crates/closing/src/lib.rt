@@ -1,0 +1,2 @@
+// The daily close of document 01: the search for absent data, the day amounts, and what an accepted close writes.
+pub mod cell; // cell.rt: the amounts of one account at one interval
