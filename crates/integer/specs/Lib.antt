@@ -4,6 +4,7 @@ pub mod Ring
 pub mod Bits
 pub mod Below
 pub mod BelowLaws
+pub mod CountLaws
 pub mod Words
 pub mod WordsLaws
 pub mod Nearest
