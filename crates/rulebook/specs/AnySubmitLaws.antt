@@ -67,8 +67,8 @@ submitted-formed w file t = rw (T-path (wellFormed w) t) (go (judged (limitsOf (
     go Accepted e =
         let q = opened-of w t in
         let x : Each (Sound (limitsOf (termsOf w) (termsOf w .first + (nextDay w - termsOf w .first)))) (fileRows file)
-        = subst (λ (C : ℕ). Each (Sound (limitsOf (termsOf w) C)) (fileRows file)) (sym day) (file-sound (limitsOf (termsOf w) (nextDay w)) (q .accounts1) file e) in
+        = subst (λ (C : ℕ). Each (Sound (limitsOf (termsOf w) C)) (fileRows file)) (sym day) (file-sound (limitsOf (termsOf w) (nextDay w)) (q .accountsFrom) file e) in
         well-formed (termsOf w) q (submittedTo (fileRows file) (ledgerOf w)) (rowsStored (termsOf w) (fileRows file) w)
-        (rows-held (termsOf w) (ring-pos (termsOf w) q) (fileRows file) (ledgerOf w) w (storable (termsOf w) (nextDay w - termsOf w .first) (q .horizon1) (fileRows file) x) (formed-holds w t))
-        (file-fit (termsOf w) (ledgerOf w) (formed-fit w t) (q .horizon1) (fileRows file) x)
+        (rows-held (termsOf w) (ring-pos (termsOf w) q) (fileRows file) (ledgerOf w) w (storable (termsOf w) (nextDay w - termsOf w .first) (q .horizonFrom) (fileRows file) x) (formed-holds w t))
+        (file-fit (termsOf w) (ledgerOf w) (formed-fit w t) (q .horizonFrom) (fileRows file) x)
     go (Refused why at) e = t

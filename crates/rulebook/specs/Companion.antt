@@ -1,6 +1,6 @@
 -- Demand 3's companion: on every run, each call's whole answer, and what it leaves of statement and book, told from the history. Assumes nothing.
 use mathlib.Core.Path.{_≡_}
-use mathlib.Core.Logic.{_≢_}
+use mathlib.Core.Logic.{_≢_, _↔_}
 use mathlib.Core.Bool.{cond}
 use mathlib.Core.List.{List}
 use mathlib.Core.Option.{Option, none, some}
@@ -20,10 +20,12 @@ use Rattle.rulebook.specs.declared.Verdict.the-variants.{Accepted, Refus
 use Rattle.rulebook.specs.declared.OpenAnswer.{OpenAnswer}
 use Rattle.rulebook.specs.Units.{lastDay, intervals}
 use Rattle.rulebook.specs.DayAmount.{residualDue, residualDay}
+use Rattle.rulebook.specs.Terms.{InTerms}
 use Rattle.rulebook.specs.Layout.{size, flagWord}
+use Rattle.rulebook.specs.Opening.{header}
 use Rattle.rulebook.specs.File.{Row}
 use Rattle.rulebook.specs.Judging.{limitsOf, judged}
-use Rattle.rulebook.specs.Numbers.{Answer, numbered, whyNumber, accepted, notWellFormed, bookFinished, outputTooShort, datumAbsent, ofOpen, ofSubmit, ofClose}
+use Rattle.rulebook.specs.Numbers.{Answer, numbered, whyNumber, accepted, outsideRange, wordsTooFew, notWellFormed, bookFinished, outputTooShort, datumAbsent, ofOpen, ofSubmit, ofClose}
 use Rattle.rulebook.specs.History.{Event, closingDay, inForce, formulaAmount}
 use Rattle.rulebook.specs.Promises.{OpenPromise, Run, begun, thenSubmit, thenClose}
 
@@ -71,6 +73,16 @@ pub record KeptFrom (n : ℕ) (before after : List ℤ) : Type 0 where
   pub long : length after ≡ length before
   pub words : (m : ℕ) → n ≤ m → word after m ≡ word before m
 
+-- an opening: 0 exactly if each parameter is in its range and the words suffice, and then 395, N, L, H, F, F and zeros to the size;
+-- 1 exactly if a parameter is out of range, else 2; every other figure is 0
+pub record OpenTells (o : Terms) (before : List ℤ) (answer : Answer) (after : List ℤ) : Type 0 where
+  pub taken : (answer ≡ numbered accepted 0) ↔ (InTerms o × (size o ≤ length before))
+  pub outside : (answer ≡ numbered outsideRange 0) ↔ (InTerms o → ⊥)
+  pub short : (answer ≡ numbered wordsTooFew 0) ↔ (InTerms o × (length before < size o))
+  pub words : answer .number ≡ accepted → (m : ℕ) → m < size o → word after m ≡ word (header o) m
+  pub beyond : KeptFrom (size o) before after
+  pub refused : answer .number ≢ accepted → after ≡ before
+
 pub record SubmitTells (o : Terms) (past : List Event) (before : List ℤ) (file : List ℕ) (answer : Answer) (after : List ℤ) : Type 0 where
   pub answered : answer ≡ submitTold o past file
   pub wellFormed : answer .number ≢ notWellFormed
@@ -97,7 +109,11 @@ EachTold o (thenSubmit {past = past} {before = before} {after = after} {file = f
 EachTold o (thenClose {past = past} {before = before} {after = after} {statement = statement} {written = written} {answer = answer} run promise) =
     CloseTells o past before statement (ofClose answer) after written × EachTold o run
 
+-- for every opening
+abbrev pub OpeningHolds : Type 0
+OpeningHolds = (o : Terms) (lent start : List ℤ) (answer : OpenAnswer) → OpenPromise o lent answer start → OpenTells o lent (ofOpen answer) start
+
 -- for every accepted opening, and every run of calls on the book that it left
 abbrev pub CompanionHolds : Type 0
 CompanionHolds = (o : Terms) (lent start : List ℤ) (answer : OpenAnswer) → OpenPromise o lent answer start → ofOpen answer .number ≡ accepted
-    → (past : List Event) (book : List ℤ) (run : Run start past book) → KeptFrom (size o) lent start × EachTold o run
+    → (past : List Event) (book : List ℤ) (run : Run start past book) → EachTold o run

@@ -17,26 +17,26 @@ use Rattle.rulebook.specs.declared.Why.{Why}
 use Rattle.rulebook.specs.declared.Why.the-variants.{NotWhole, OutOfRange, DayNotOpen, Repeated, Excess}
 use Rattle.rulebook.specs.declared.Verdict.{Verdict}
 use Rattle.rulebook.specs.declared.Verdict.the-variants.{Accepted, Refused}
-use Rattle.rulebook.specs.declared.OpenAnswer.{OpenAnswer}
 use Rattle.rulebook.specs.declared.SubmitAnswer.{SubmitAnswer}
 use Rattle.rulebook.specs.declared.CloseAnswer.{CloseAnswer}
 use Rattle.rulebook.specs.Units.{lastDay}
+use Rattle.rulebook.specs.DayAmount.{msslAmount}
+use Rattle.rulebook.specs.Terms.{InTerms}
 use Rattle.rulebook.specs.Layout.{size}
 use Rattle.rulebook.specs.File.{fileRows}
 use Rattle.rulebook.specs.Judging.{limitsOf, judged}
 use Rattle.rulebook.specs.Submit.{Submission, submitted, taken}
 use Rattle.rulebook.specs.Close.{Closing, closed, settled, posted, postedToMssl, residualCount, firstMissing}
-use Rattle.rulebook.specs.Numbers.{accepted, notWellFormed, whyNumber, ofOpen, ofSubmit, ofClose}
+use Rattle.rulebook.specs.Numbers.{notWellFormed, whyNumber, ofSubmit, ofClose}
 use Rattle.rulebook.specs.History.{Event, closes, inForce, formulaBalance, closingDay, formulaAmount}
-use Rattle.rulebook.specs.Promises.{OpenPromise, SubmitPromise, ClosePromise, Run, begun, thenSubmit, thenClose}
-use Rattle.rulebook.specs.Companion.{verdictTold, firstLacking, searchTold, closeTold, KeptFrom, SubmitTells, CloseTells, EachTold, CompanionHolds}
+use Rattle.rulebook.specs.Promises.{SubmitPromise, ClosePromise, Run, begun, thenSubmit, thenClose}
+use Rattle.rulebook.specs.Companion.{verdictTold, firstLacking, searchTold, closeTold, SubmitTells, CloseTells, EachTold, CompanionHolds}
 use Rattle.rulebook.specs.SoundLaws.{file-sound}
-use Rattle.rulebook.specs.FormLaws.{InTerms, ring-pos}
+use Rattle.rulebook.specs.FormLaws.{ring-pos}
 use Rattle.rulebook.specs.SearchLaws.{search-is}
 use Rattle.rulebook.specs.StepLaws.{storable}
-use Rattle.rulebook.specs.BeyondLaws.{kept-all, new-beyond, rows-beyond, closed-beyond, statement-beyond, statement-amount, statement-mssl}
+use Rattle.rulebook.specs.BeyondLaws.{kept-all, rows-beyond, closed-beyond, statement-beyond, statement-amount, statement-mssl}
 use Rattle.rulebook.specs.StateLaws.{State, terms, submit-is, close-is, closedBy, amount-same}
-use Rattle.rulebook.specs.StartLaws.{accepted-opening}
 use Rattle.rulebook.specs.Demand3Proof.{run-state, opening-state}
 
 not-3 : (why : Why) → whyNumber why ≢ notWellFormed
@@ -54,7 +54,7 @@ module _ (o : Terms) (t : InTerms o) (past : List Event) (w : List ℤ) (h : Sta
     wellFormed = λ x. omega arith;
     refused = λ x. absurd (x refl);
     beyond = rw (terms o t past w h) (rows-beyond o (ring-pos o t) (closes past) (fileRows file) w
-        (storable o (closes past) (t .horizon1) (fileRows file) (file-sound (limitsOf o (closingDay o past)) (t .accounts1) file e)));
+        (storable o (closes past) (t .horizonFrom) (fileRows file) (file-sound (limitsOf o (closingDay o past)) (t .accountsFrom) file e)));
   }
   submit-by file (Refused why at) e = record {
     answered = ap verdictTold (sym e);
@@ -88,7 +88,7 @@ module _ (o : Terms) (t : InTerms o) (past : List Event) (w : List ℤ) (h : Sta
   }
     where
       mssl-is : postedToMssl o w (closingDay o past) ≡ negℤ (sumℤ (o .accounts) (formulaAmount o past))
-      mssl-is = unfold postedToMssl in ap negℤ (sumℤ-cong (o .accounts) (posted o w (closingDay o past)) (formulaAmount o past) (amount-same o t past w h))
+      mssl-is = unfold postedToMssl posted msslAmount in ap negℤ (sumℤ-cong (o .accounts) (posted o w (closingDay o past)) (formulaAmount o past) (amount-same o t past w h))
   settled-by st room (At n) e = record {
     answered = sym e;
     wellFormed = λ x. omega arith;
@@ -144,12 +144,5 @@ each-told o t s (thenSubmit {past = past} {before = before} {after = after} {fil
 each-told o t s (thenClose {past = past} {before = before} {after = after} {statement = statement} {written = written} {answer = answer} run p) =
     (close-told o t past before after statement written answer (run-state o t s run) p, each-told o t s run)
 
-opening-beyond : (o : Terms) (lent start : List ℤ) (answer : OpenAnswer) → OpenPromise o lent answer start → ofOpen answer .number ≡ accepted → KeptFrom (size o) lent start
-opening-beyond o lent start answer p e =
-    let x = accepted-opening o lent (subst (λ (y : OpenAnswer). ofOpen y .number ≡ accepted) (p .answered) e) in
-    rw (p .bookAfter, x .2) (new-beyond o lent)
-
 pub companion : CompanionHolds
-companion o lent start answer p e past book run =
-    let x = opening-state o lent start answer p e in
-    (opening-beyond o lent start answer p e, each-told o (x .0) (x .1) run)
+companion o lent start answer p e past book run = let x = opening-state o lent start answer p e in each-told o (x .0) (x .1) run

@@ -16,9 +16,10 @@ use Rattle.rulebook.specs.declared.OpenAnswer.{OpenAnswer}
 use Rattle.rulebook.specs.Units.{lastDay, intervals}
 use Rattle.rulebook.specs.DayAmount.{residualDue, residualDay}
 use Rattle.rulebook.specs.Layout.{balanceWord, msslWord}
+use Rattle.rulebook.specs.Opening.{opened}
 use Rattle.rulebook.specs.Numbers.{Answer, accepted, datumAbsent, ofOpen}
 use Rattle.rulebook.specs.History.{Call, submit, close, Event, closes, closingDay, inForce, formulaBalance, residualCounts}
-use Rattle.rulebook.specs.Promises.{OpenPromise, Run}
+use Rattle.rulebook.specs.Promises.{OpenPromise, Run, bookOf, historyOf}
 
 -- ---- A close reports a missing datum exactly when
 
@@ -62,7 +63,12 @@ pub record Demand3 (o : Terms) (book : List ℤ) (past : List Event) : Type 0 wh
   pub residuals : residualCounts past ≡ intervals * o .accounts * (closes past - o .lag)
   pub reported : EachReported o past
 
--- for every accepted opening, and every run of calls on the book that it left
+-- for every accepted opening, and every list of submit and close calls in the order made on the book that it left
+abbrev pub Demand3OnCalls : Type 0
+Demand3OnCalls = (o : Terms) (lent : List ℤ) → ofOpen (opened o lent .answer) .number ≡ accepted
+    → (calls : List Call) → Demand3 o (bookOf (opened o lent .words) calls) (historyOf (opened o lent .words) calls)
+
+-- the same for every run of calls that keep their promises
 abbrev pub Demand3Holds : Type 0
 Demand3Holds = (o : Terms) (lent start : List ℤ) (answer : OpenAnswer) → OpenPromise o lent answer start → ofOpen answer .number ≡ accepted
     → (past : List Event) (book : List ℤ) → Run start past book → Demand3 o book past

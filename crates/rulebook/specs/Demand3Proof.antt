@@ -1,5 +1,5 @@
 -- The theorem of demand 3, by induction on the run. Assumes nothing.
-use mathlib.Core.Path.{_≡_, ap, _∙_, subst}
+use mathlib.Core.Path.{_≡_, ap, _∙_, subst, refl}
 use mathlib.Core.List.{List, [], _∷_}
 use Prim.Native.Nat.{ℕ}
 use lib.IntN.{ℤ, negℤ, _+ℤ_, +ℤ-invr}
@@ -10,14 +10,16 @@ use Rattle.rulebook.specs.declared.Terms.{Terms}
 use Rattle.rulebook.specs.declared.OpenAnswer.{OpenAnswer}
 use Rattle.rulebook.specs.declared.SubmitAnswer.{SubmitAnswer}
 use Rattle.rulebook.specs.declared.CloseAnswer.{CloseAnswer}
+use Rattle.rulebook.specs.Terms.{InTerms}
 use Rattle.rulebook.specs.Layout.{balanceWord}
-use Rattle.rulebook.specs.Numbers.{ofSubmit, ofClose, accepted, ofOpen}
+use Rattle.rulebook.specs.Opening.{opened}
+use Rattle.rulebook.specs.Numbers.{Answer, ofSubmit, ofClose, accepted, ofOpen}
 use Rattle.rulebook.specs.History.{submit, close, Event, formulaBalance}
-use Rattle.rulebook.specs.Promises.{SubmitPromise, ClosePromise, OpenPromise, Run, begun, thenSubmit, thenClose}
-use Rattle.rulebook.specs.Demand3.{Demand3, Demand3Holds}
-use Rattle.rulebook.specs.FormLaws.{InTerms}
+use Rattle.rulebook.specs.Promises.{SubmitPromise, ClosePromise, OpenPromise, Run, begun, thenSubmit, thenClose, historyOf, bookOf}
+use Rattle.rulebook.specs.Demand3.{Demand3, Demand3Holds, Demand3OnCalls}
 use Rattle.rulebook.specs.StateLaws.{State, submit-step, close-step}
 use Rattle.rulebook.specs.StartLaws.{opened-terms, new-state, accepted-opening}
+use Rattle.rulebook.specs.RunLaws.{run-of}
 
 -- a call that keeps its promise keeps the state
 submit-kept : (o : Terms) (t : InTerms o) (past : List Event) (before after : List ℤ) (file : List ℕ) (answer : SubmitAnswer) → State o past before → SubmitPromise before file answer after
@@ -37,7 +39,7 @@ run-state o t s (thenClose {past = past} {before = before} {after = after} {stat
 -- an accepted opening leaves a new book
 pub opening-state : (o : Terms) (lent start : List ℤ) (answer : OpenAnswer) → OpenPromise o lent answer start → ofOpen answer .number ≡ accepted → InTerms o × State o [] start
 opening-state o lent start answer p e =
-    let x = accepted-opening o lent (subst (λ (y : OpenAnswer). ofOpen y .number ≡ accepted) (p .answered) e) in
+    let x = accepted-opening o lent (subst (λ (y : Answer). y .number ≡ accepted) (p .answered) e) in
     let t = opened-terms o (x .0) in
     (t, rw (p .bookAfter, x .2) (new-state o t lent (x .1)))
 
@@ -52,3 +54,8 @@ demanded o past book h = record {
 
 pub demand3 : Demand3Holds
 demand3 o lent start answer p e past book run = let x = opening-state o lent start answer p e in demanded o past book (run-state o (x .0) (x .1) run)
+
+pub demand3-on-calls : Demand3OnCalls
+demand3-on-calls o lent e calls =
+    demand3 o lent (opened o lent .words) (opened o lent .answer) (record { answered = refl; bookAfter = refl }) e
+    (historyOf (opened o lent .words) calls) (bookOf (opened o lent .words) calls) (run-of (opened o lent .words) calls)

@@ -20,7 +20,7 @@ use Rattle.rulebook.specs.RowWordLaws.{Usable, figure-word, flag-inside}
 use Rattle.rulebook.specs.LedgerLaws.{entryOf, entriesIn}
 use Rattle.rulebook.specs.SoundLaws.{Ranged}
 use Rattle.rulebook.specs.KeptLaws.{Kept, zero-ranged, number-ranged, entry-flag, own-figure, entry-figure}
-use Rattle.rulebook.specs.SizeLaws.{RangedEntries}
+use Rattle.rulebook.specs.RangeLaws.{RangedEntries}
 
 -- cells that agree on day d, with few facilities, agree by name
 pub data-agree : (n : ℕ) (c c′ : Entries) (d : ℕ) → zero < n → ((s : Section) (a i j : ℕ) → a < accountsOf s n → i < 48 → j < width s → c s a d i j ≡ c′ s a d i j)

@@ -15,6 +15,7 @@ use Rattle.rulebook.specs.declared.Section.{Section}
 use Rattle.rulebook.specs.declared.Section.the-variants.{Vesting, Meter, Residual, Ncc}
 use Rattle.rulebook.specs.declared.Terms.{Terms}
 use Rattle.rulebook.specs.Units.{lastDay, between, positive}
+use Rattle.rulebook.specs.Terms.{InTerms}
 use Rattle.rulebook.specs.Sections.{accountsOf, mostCount}
 use Rattle.rulebook.specs.Layout.{width, intervalSize, ring, size, slot, intervalWord, rowWord, Word, spare, isSpare, intervalTable, accountTable, intervalWords, accountWords, accountPlace, wordName, flagIndex, msslWord, markWord, accountsWord, lagWord, horizonWord, firstDayWord, nextDayWord, balanceWord, accountSpare, headerSpare, headerSpares, accountSpares}
 use Rattle.rulebook.specs.BookData.{termsOf, nextDay}
@@ -27,17 +28,6 @@ use Rattle.rulebook.specs.RingLaws.{place-slot, place-day}
 use Rattle.rulebook.specs.WalkLaws.{walk-days}
 use Rattle.rulebook.specs.LedgerLaws.{Ledger, Holds, Padding, ofInterval, ofAccount}
 use Rattle.rulebook.specs.CoverLaws.{Cover, ofRow, ofPadding, cover}
-
--- an accepted opening's terms
-pub record InTerms (o : Terms) : Type 0 where
-  pub accounts1 : 1 ≤ o .accounts
-  pub accounts32 : o .accounts ≤ 32
-  pub lag1 : 1 ≤ o .lag
-  pub lag75 : o .lag ≤ 75
-  pub horizon1 : 1 ≤ o .horizon
-  pub horizon92 : o .horizon ≤ 92
-  pub first1 : 9497 ≤ o .first
-  pub last : o .first ≤ lastDay
 
 pub ring-pos : (o : Terms) → InTerms o → zero < ring o
 unfolding ring
@@ -195,7 +185,7 @@ module _ (o : Terms) (t : InTerms o) (b : Ledger) (w : List ℤ) (h : Holds o b 
       let l = le→leb (size o) (length w) (h .long) in
       let c : T (balanceFits (o .accounts) (o .first + k - o .first) (word w msslWord)) = rw n mssl-fits in
       let d : T (all (o .accounts) (accountFits w (o .first + k - o .first))) = rw n (all-yes (o .accounts) (accountFits w k) account-fits) in
-      let e = walk-days o w k (t .horizon1) (all-yes (ring o) (windowSlotFits o w k) window-fits) in
+      let e = walk-days o w k (t .horizonFrom) (all-yes (ring o) (windowSlotFits o w k) window-fits) in
       search and-both depth 6
 
   pub terms-of : termsOf w ≡ o

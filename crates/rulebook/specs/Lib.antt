@@ -19,6 +19,7 @@ pub mod History
 pub mod Promises
 pub mod Demand3
 pub mod Companion
+pub mod SearchOrder
 pub mod Figures
 pub mod WorkedDay
 pub mod Examples
@@ -46,12 +47,15 @@ pub mod SoundLaws
 pub mod KeptLaws
 pub mod FormLaws
 pub mod SizeLaws
+pub mod RangeLaws
 pub mod FigureLaws
 pub mod SlotLaws
 pub mod FormedLaws
+pub mod BookSizeLaws
 pub mod OpeningLaws
 pub mod CloseLaws
 pub mod SearchLaws
+pub mod SearchOrderLaws
 pub mod StepLaws
 pub mod AnySubmitLaws
 pub mod AnyCloseLaws

@@ -24,7 +24,7 @@ sum-zero zero = refl
 sum-zero (suc n) = ap (λ (x : ℤ). x +ℤ pos 0) (sum-zero n)
 
 module _ (o : Terms) (lent : List ℤ) (p : zero < ring o) (l : size o ≤ length lent) where
-  new-word : (n : ℕ) → n < size o → word (newBook o lent) n ≡ word (header o) n
+  pub new-word : (n : ℕ) → n < size o → word (newBook o lent) n ≡ word (header o) n
   unfolding newBook
   new-word n h = subst (λ (m : ℕ). word (stored lent 0 (size o) (word (header o))) m ≡ word (header o) n) (zero-add n)
       (stored-in lent 0 (size o) (word (header o)) n (omega arith) h)

@@ -17,6 +17,7 @@ use Rattle.rulebook.specs.declared.Section.{Section}
 use Rattle.rulebook.specs.declared.Section.the-variants.{Vesting, Meter, Residual, Ncc}
 use Rattle.rulebook.specs.declared.Terms.{Terms}
 use Rattle.rulebook.specs.DayAmount.{residualDue}
+use Rattle.rulebook.specs.Terms.{InTerms}
 use Rattle.rulebook.specs.Sections.{accountsOf}
 use Rattle.rulebook.specs.Layout.{flagIndex, rowWord, flagWord}
 use Rattle.rulebook.specs.WellFormed.{isZero}
@@ -29,7 +30,7 @@ use Rattle.rulebook.specs.RowWordLaws.{flag-inside}
 use Rattle.rulebook.specs.LayoutLaws.{InWindow}
 use Rattle.rulebook.specs.LedgerLaws.{entriesIn, entryOf, Holds}
 use Rattle.rulebook.specs.KeptLaws.{Kept, none-or, flag-more, nonzero}
-use Rattle.rulebook.specs.FormLaws.{InTerms, zero-yes}
+use Rattle.rulebook.specs.FormLaws.{zero-yes}
 
 pub nothing-at : {X : Type 0} {v : ℕ} {x : Found} → x ≡ Nothing → x ≡ At v → X
 nothing-at e f = let z : _≡_ {A = ℕ} 0 1 = cc in absurd (omega arith)

@@ -25,7 +25,7 @@ use Rattle.rulebook.specs.LayoutLaws.{InWindow, row-inside}
 use Rattle.rulebook.specs.RingLaws.{placeOf, day-place}
 use Rattle.rulebook.specs.LedgerLaws.{Padding, ofInterval, ofAccount}
 use Rattle.rulebook.specs.KeptLaws.{zero-ranged}
-use Rattle.rulebook.specs.SizeLaws.{RangedEntries}
+use Rattle.rulebook.specs.RangeLaws.{RangedEntries}
 
 pub row-in-interval : (o : Terms) (s : Section) (a j : ℕ) → a < accountsOf s (o .accounts) → j < width s → place s a j < intervalSize o
 unfolding intervalSize

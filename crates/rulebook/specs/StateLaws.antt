@@ -25,7 +25,8 @@ use Rattle.rulebook.specs.declared.Verdict.the-variants.{Accepted, Refus
 use Rattle.rulebook.specs.declared.SubmitAnswer.the-variants.{FileRefused}
 use Rattle.rulebook.specs.declared.CloseAnswer.the-variants.{Finished, NoRoom, DatumMissing}
 use Rattle.rulebook.specs.Units.{lastDay, positive}
-use Rattle.rulebook.specs.DayAmount.{residualDue, residualDay, postedAmount}
+use Rattle.rulebook.specs.DayAmount.{residualDue, residualDay, postedAmount, msslAmount}
+use Rattle.rulebook.specs.Terms.{InTerms}
 use Rattle.rulebook.specs.Layout.{flagIndex}
 use Rattle.rulebook.specs.BookData.{termsOf, nextDay, entriesOf, bookData, dataOf}
 use Rattle.rulebook.specs.WellFormed.{wellFormed, dayBound}
@@ -43,8 +44,9 @@ use Rattle.rulebook.specs.LayoutLaws.{InWindow}
 use Rattle.rulebook.specs.LedgerLaws.{entriesIn, entryOf, Holds, held-same, rows-held}
 use Rattle.rulebook.specs.SoundLaws.{file-sound}
 use Rattle.rulebook.specs.KeptLaws.{Kept, none-or}
-use Rattle.rulebook.specs.FormLaws.{InTerms, Fit, terms-of, next-day, well-formed, ring-pos}
-use Rattle.rulebook.specs.SizeLaws.{posted-size, RangedEntries, data-sized}
+use Rattle.rulebook.specs.FormLaws.{Fit, terms-of, next-day, well-formed, ring-pos}
+use Rattle.rulebook.specs.SizeLaws.{posted-size}
+use Rattle.rulebook.specs.RangeLaws.{RangedEntries, data-sized}
 use Rattle.rulebook.specs.FigureLaws.{rows-ranged, data-agree, rows-agree}
 use Rattle.rulebook.specs.CloseLaws.{day-held}
 use Rattle.rulebook.specs.SearchLaws.{all-there, some-missing, today, back}
@@ -91,11 +93,11 @@ module _ (o : Terms) (t : InTerms o) (past : List Event) (w : List ℤ) (h : Sta
       → State o (record { call = submit file; answer = ofSubmit (taken w file v .answer) } ∷ past) (taken w file v .words)
   unfolding closes inForce acceptedRows formulaBalance residualCounts latest lastFor
   submit-done file Accepted e =
-      let s = file-sound (limitsOf o (closingDay o past)) (t .accounts1) file e in
+      let s = file-sound (limitsOf o (closingDay o past)) (t .accountsFrom) file e in
       record {
         holds = held-same refl (λ s a d i j. newer-entries (fileRows file) (inForce past) s a d i j) (λ a ha. refl) refl
-            (rw terms (rows-held o (ring-pos o t) (fileRows file) (ledger o (closes past) (inForce past) (formulaBalance o past)) w (storable o (closes past) (t .horizon1) (fileRows file) s) (h .holds)));
-        kept = kept-same (λ s a d. refl) (file-kept o (closes past) (inForce past) (formulaBalance o past) (h .kept) (t .horizon1) (fileRows file) s);
+            (rw terms (rows-held o (ring-pos o t) (fileRows file) (ledger o (closes past) (inForce past) (formulaBalance o past)) w (storable o (closes past) (t .horizonFrom) (fileRows file) s) (h .holds)));
+        kept = kept-same (λ s a d. refl) (file-kept o (closes past) (inForce past) (formulaBalance o past) (h .kept) (t .horizonFrom) (fileRows file) s);
         counted = h .counted;
         reported = (tt, h .reported);
       }
@@ -212,7 +214,7 @@ module _ (o : Terms) (t : InTerms o) (past : List Event) (w : List ℤ) (h : Sta
       go (inr x) = absurd (omega (arith, h .kept .ahead s a (o .first + closes past + o .horizon) (x .0) (x .1)))
 
   mssl-grown : negℤ (sumℤ (o .accounts) (formulaBalance o past)) +ℤ postedToMssl o w (closingDay o past) ≡ negℤ (sumℤ (o .accounts) (λ a. formulaBalance o past a +ℤ formulaAmount o past a))
-  unfolding postedToMssl
+  unfolding postedToMssl posted msslAmount
   mssl-grown =
       ap (λ (x : ℤ). negℤ (sumℤ (o .accounts) (formulaBalance o past)) +ℤ negℤ x) (sumℤ-cong (o .accounts) (posted o w (closingDay o past)) (formulaAmount o past) amount-same)
       ∙ sym (negℤ-+ℤ (sumℤ (o .accounts) (formulaBalance o past)) (sumℤ (o .accounts) (formulaAmount o past)))

@@ -1,6 +1,6 @@
 -- Document 01, "The book": the opening's arguments N, L, H, F and their ranges. Assumes nothing.
 use mathlib.Core.Bool.{Bool, _&&_}
-use Prim.Native.Nat.{ℕ}
+use Prim.Native.Nat.{ℕ, _≤_}
 use lib.Dec.{leb}
 use Rattle.rulebook.specs.declared.Terms.{Terms}
 use Rattle.rulebook.specs.Units.{lastDay}
@@ -20,3 +20,14 @@ earliestFirstDay = 9497
 unfoldable pub termsFit : Terms → Bool
 termsFit o = leb 1 (o .accounts) && leb (o .accounts) mostAccounts && leb 1 (o .lag) && leb (o .lag) mostLag
     && leb 1 (o .horizon) && leb (o .horizon) mostHorizon && leb earliestFirstDay (o .first) && leb (o .first) lastDay
+
+-- the same, as inequalities
+pub record InTerms (o : Terms) : Type 0 where
+  pub accountsFrom : 1 ≤ o .accounts
+  pub accountsTo : o .accounts ≤ 32
+  pub lagFrom : 1 ≤ o .lag
+  pub lagTo : o .lag ≤ 75
+  pub horizonFrom : 1 ≤ o .horizon
+  pub horizonTo : o .horizon ≤ 92
+  pub firstFrom : 9497 ≤ o .first
+  pub firstTo : o .first ≤ 36524

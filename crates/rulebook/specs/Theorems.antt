@@ -16,8 +16,9 @@ use Rattle.rulebook.specs.WellFormed.{wellFormed, dayBound}
 use Rattle.rulebook.specs.Submit.{submitted}
 use Rattle.rulebook.specs.Close.{closed}
 use Rattle.rulebook.specs.History.{Call}
-use Rattle.rulebook.specs.Demand3.{Demand3Holds}
-use Rattle.rulebook.specs.Companion.{CompanionHolds}
+use Rattle.rulebook.specs.Promises.{Run, historyOf, bookOf}
+use Rattle.rulebook.specs.Demand3.{Demand3OnCalls, Demand3Holds}
+use Rattle.rulebook.specs.Companion.{OpeningHolds, CompanionHolds}
 use Rattle.rulebook.specs.Figures.{Right, starred, starred-right}
 use Rattle.rulebook.specs.WorkedDay.{WorkedDay, worked-day}
 use Rattle.rulebook.specs.Examples.{RowExamples, row-examples, Headers, headers, Ranges, ranges}
@@ -25,20 +26,24 @@ use Rattle.rulebook.specs.NumberExamples.{Returned, returned, Table, tab
 use Rattle.rulebook.specs.SharesLaws.{ShareTotal, share-total}
 use Rattle.rulebook.specs.WindowWalk.{windowSlot}
 use Rattle.rulebook.specs.RingLaws.{slot-once}
-use Rattle.rulebook.specs.FormedLaws.{close-amount}
+use Rattle.rulebook.specs.BookSizeLaws.{close-amount}
 use Rattle.rulebook.specs.AnySubmitLaws.{submitted-formed}
 use Rattle.rulebook.specs.AnyCloseLaws.{closed-formed}
-use Rattle.rulebook.specs.RunLaws.{Ran, every-list}
-use Rattle.rulebook.specs.Demand3Proof.{demand3}
+use Rattle.rulebook.specs.StartLaws.{opening-told}
+use Rattle.rulebook.specs.RunLaws.{run-of}
+use Rattle.rulebook.specs.Demand3Proof.{demand3, demand3-on-calls}
 use Rattle.rulebook.specs.CompanionProof.{companion}
 
 pub record Theorems : Type 0 where
-  -- on every run of calls after an accepted opening: balances, total, residual counts, 11 exactly when
-  pub demand3 : Demand3Holds
+  -- on every list of calls after an accepted opening: balances, total, residual counts, 11 exactly when; and on every run
+  pub demand3 : Demand3OnCalls
+  pub demand3OnRuns : Demand3Holds
   -- on the same runs: each call's whole answer, statement, and what is kept
   pub companion : CompanionHolds
-  -- every list of calls, the latest first, has a run
-  pub everyList : (start : List ℤ) (calls : List Call) → Ran start calls
+  -- what an opening answers and leaves
+  pub opening : OpeningHolds
+  -- every list of calls is such a run
+  pub everyList : (start : List ℤ) (calls : List Call) → Run start (historyOf start calls) (bookOf start calls)
   -- any well-formed lent book stays so, and what a close posts is within the bound
   pub submitKeeps : (w : List ℤ) (file : List ℕ) → T (wellFormed w) → T (wellFormed (submitted w file .words))
   pub closeKeeps : (w st : List ℤ) → T (wellFormed w) → T (wellFormed (closed w st .words))
@@ -62,9 +67,11 @@ pub record Theorems : Type 0 where
 
 pub theorems : Theorems
 theorems = record {
-  demand3 = demand3;
+  demand3 = demand3-on-calls;
+  demand3OnRuns = demand3;
   companion = companion;
-  everyList = every-list;
+  opening = opening-told;
+  everyList = run-of;
   submitKeeps = submitted-formed;
   closeKeeps = closed-formed;
   postedFits = close-amount;
