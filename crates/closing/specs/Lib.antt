@@ -1,2 +1,4 @@
 pub mod Cell
 pub mod CellLaws
+pub mod Interval
+pub mod IntervalLaws

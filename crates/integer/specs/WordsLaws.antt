@@ -13,7 +13,7 @@ use lib.ListN.{length, getD, set, take, drop, length-append, length-drop, List·
 use lib.Seq.{drop-length, getD-take, getD-drop, getD-append-add, length-take-le}
 use Rattle.integer.specs.Below.{turns, tabulate}
 use Rattle.integer.specs.BelowLaws.{lt-or-le, turns-suc, turns-inv, turns-miss, turns-hit, length-tabulate, getD-tabulate, tabulate-of, tabulate-each}
-use Rattle.integer.specs.Words.{filled, inside, patched, onPart, gridRow, grid, gridWords}
+use Rattle.integer.specs.Words.{filled, part, inside, patched, onPart, gridRow, grid, gridWords}
 
 -- ---- Rows of a stride
 
@@ -54,6 +54,17 @@ filled-suc i f xs l = rw add-one (sym (fill-one i f xs l))
 
 pub filled-all {ℓ} : {A : Type ℓ} (f : ℕ → A) (xs : List A) → filled (length xs) f xs ≡ tabulate (length xs) f
 filled-all f xs = simp (drop-length, append-nil)
+
+-- ---- A part that is lent: `&xs[i..i + n]`
+
+pub lent {ℓ} : {A : Type ℓ} (xs : List A) (i n : ℕ) → take (i + n - i) (drop i xs) ≡ part xs i n
+lent xs i n = let e : i + n - i ≡ n = omega arith in rw e
+
+pub length-part {ℓ} : {A : Type ℓ} (xs : List A) (i n : ℕ) → i + n ≤ length xs → length (part xs i n) ≡ n
+length-part xs i n h = length-take-le n (drop i xs) (simp length-drop (omega arith))
+
+pub getD-part {ℓ} : {A : Type ℓ} (xs : List A) (i n k : ℕ) (d : A) → k < n → getD (part xs i n) k d ≡ getD xs (i + k) d
+getD-part xs i n k d h = getD-take n (drop i xs) k d h ∙ getD-drop i xs k d
 
 -- ---- A part lent onward
 
