@@ -2,3 +2,4 @@ pub mod Cell
 pub mod CellLaws
 pub mod Interval
 pub mod IntervalLaws
+pub mod Total
