@@ -3,3 +3,5 @@ pub mod CellLaws
 pub mod Interval
 pub mod IntervalLaws
 pub mod Total
+pub mod Day
+pub mod DayLaws
