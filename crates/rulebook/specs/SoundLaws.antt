@@ -43,7 +43,7 @@ even-turn i m k =
     let e : i * (2 * m) ≡ 2 * (i * m) = sym (mul-assoc i 2 m) ∙ ap (λ (x : ℕ). x * m) (mul-comm i 2) ∙ mul-assoc 2 i m in
     rw e (omega arith)
 
-kind-turn : (sec : Section) (c i k : ℕ) → kindOf sec (i * perInterval sec c + k) ≡ kindOf sec k
+pub kind-turn : (sec : Section) (c i k : ℕ) → kindOf sec (i * perInterval sec c + k) ≡ kindOf sec k
 kind-turn Vesting c i k =
     let e : 2 + 2 * c ≡ 2 * (1 + c) = omega arith in
     let f : (i * (2 + 2 * c) + k) % 2 ≡ k % 2 = rw e (even-turn i (1 + c) k) in

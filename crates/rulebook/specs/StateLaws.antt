@@ -74,7 +74,7 @@ module _ (o : Terms) (t : InTerms o) (past : List Event) (w : List ℤ) (h : Sta
   fit : Fit o (ledger o (closes past) (inForce past) (formulaBalance o past))
   fit = kept-fit o (closes past) (inForce past) (formulaBalance o past) (h .kept)
 
-  formed : wellFormed w ≡ true
+  pub formed : wellFormed w ≡ true
   formed = T-path (wellFormed w) (well-formed o t (ledger o (closes past) (inForce past) (formulaBalance o past)) w (h .holds) fit)
 
   pub terms : termsOf w ≡ o

@@ -1,0 +1,72 @@
+-- `balance_fits` meets its contract: the balance, and the zeros, a part of the book.
+use mathlib.Core.Path.{_≡_, ap, _∙_}
+use Prim.Native.Nat.{ℕ, _+_, _*_}
+use native.Mathlib.Nat.{one-mul}
+use native.Mathlib.Omega.{arith}
+use borrow.Author.Needs.{needs}
+use Rattle.integer.specs.Below.{all}
+use Rattle.integer.specs.Words.{word}
+use Rattle.rulebook.specs.WellFormed.{isZero, balanceFits, accountFits}
+use Rattle.book.specs.BlankLaws.{blank-part}
+use Rattle.book.specs.LoopLaws.{lent}
+use Rattle.book.specs.Parts.{blank}
+use Rattle.book.proofs.header.balance_fits.Statement.{statement}
+use Rattle.book.proofs.header.balance_fits.Tie as tie
+
+mul-i : tie.Need-mul-i
+mul-i c = search needs
+
+add-i : tie.Need-add-i
+add-i c = search needs
+
+add-s : tie.Need-add-s
+add-s c = search needs
+
+add-e : tie.Need-add-e
+add-e c = search needs
+
+mul-within-at : tie.Need-mul-within-at
+mul-within-at c = search needs
+
+within-at-requires : tie.Need-within-at-requires
+within-at-requires c κs = search needs
+
+mul-is-blank : tie.Need-mul-is-blank
+mul-is-blank c = search needs
+
+sub-is-blank : tie.Need-sub-is-blank
+sub-is-blank c = search needs
+
+part-is-blank-start : tie.Need-part-is-blank-start
+part-is-blank-start c = search needs
+
+part-is-blank-end : tie.Need-part-is-blank-end
+part-is-blank-end c = search needs
+
+is-blank-requires : tie.Need-is-blank-requires
+is-blank-requires c κs = search needs
+
+returns : tie.Need-returns
+unfolding accountFits balanceFits
+returns c =
+    let a = c .before .before .before .args in
+    let i : 64 + 8 * a .a ≡ 64 + a .a * 8 = omega arith in
+    let s : 65 + 8 * a .a ≡ 64 + a .a * 8 + 1 = omega arith in
+    rw (i, s, one-mul, c .before .before .within-at .ensures, c .is-blank .ensures, lent (a .book .now) (64 + a .a * 8 + 1) 7, blank-part (a .book .now) (64 + a .a * 8 + 1) 7 (omega arith))
+
+pub balance-fits-spec : {M : Type 1} → statement M
+balance-fits-spec =
+    tie.close
+    (tie.spec
+    mul-i
+    add-i
+    add-s
+    add-e
+    mul-within-at
+    within-at-requires
+    mul-is-blank
+    sub-is-blank
+    part-is-blank-start
+    part-is-blank-end
+    is-blank-requires
+    returns)

@@ -1,0 +1,15 @@
+-- `next_day_of` meets its contract: the word is not below zero.
+use native.Mathlib.Omega.{arith}
+use borrow.Author.Needs.{needs}
+use Rattle.book.specs.HeaderLaws.{header-says}
+use Rattle.book.proofs.header.next_day_of.Statement.{statement}
+use Rattle.book.proofs.header.next_day_of.Tie as tie
+
+count-at-requires : tie.Need-count-at-requires
+count-at-requires c κs = let h = header-says (c .args .book .now) (c .pre .1) in (omega arith, h .nextSign)
+
+returns : tie.Need-returns
+returns c = search needs
+
+pub next-day-of-spec : {M : Type 1} → statement M
+next-day-of-spec = tie.close (tie.spec count-at-requires returns)

@@ -1,0 +1,31 @@
+-- `terms_of` meets its contract: none of the four words is below zero.
+use native.Mathlib.Omega.{arith}
+use borrow.Author.Needs.{needs}
+use Rattle.book.specs.HeaderLaws.{header-says}
+use Rattle.book.proofs.header.terms_of.Statement.{statement}
+use Rattle.book.proofs.header.terms_of.Tie as tie
+
+count-at-requires : tie.Need-count-at-requires
+count-at-requires c κs = let h = header-says (c .args .book .now) (c .pre .1) in (omega arith, h .accountsSign)
+
+count-at-requires-2 : tie.Need-count-at-requires-2
+count-at-requires-2 c κs = let h = header-says (c .before .args .book .now) (c .before .pre .1) in (omega arith, h .lagSign)
+
+count-at-requires-3 : tie.Need-count-at-requires-3
+count-at-requires-3 c κs = let h = header-says (c .before .before .args .book .now) (c .before .before .pre .1) in (omega arith, h .horizonSign)
+
+count-at-requires-4 : tie.Need-count-at-requires-4
+count-at-requires-4 c κs = let h = header-says (c .before .before .before .args .book .now) (c .before .before .before .pre .1) in (omega arith, h .firstSign)
+
+returns : tie.Need-returns
+returns c = cc
+
+pub terms-of-spec : {M : Type 1} → statement M
+terms-of-spec =
+    tie.close
+    (tie.spec
+    count-at-requires
+    count-at-requires-2
+    count-at-requires-3
+    count-at-requires-4
+    returns)

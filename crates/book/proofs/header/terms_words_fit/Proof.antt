@@ -1,0 +1,35 @@
+-- `terms_words_fit` meets its contract: five words are read.
+use borrow.Author.Needs.{needs}
+use Rattle.book.specs.Header.{termsWordsFit}
+use Rattle.book.proofs.header.terms_words_fit.Statement.{statement}
+use Rattle.book.proofs.header.terms_words_fit.Tie as tie
+
+between-at-requires : tie.Need-between-at-requires
+between-at-requires c κs = search needs
+
+between-at-requires-2 : tie.Need-between-at-requires-2
+between-at-requires-2 c κs = search needs
+
+between-at-requires-3 : tie.Need-between-at-requires-3
+between-at-requires-3 c κs = search needs
+
+between-at-requires-4 : tie.Need-between-at-requires-4
+between-at-requires-4 c κs = search needs
+
+between-at-requires-5 : tie.Need-between-at-requires-5
+between-at-requires-5 c κs = search needs
+
+returns : tie.Need-returns
+unfolding termsWordsFit
+returns c = cc
+
+pub terms-words-fit-spec : {M : Type 1} → statement M
+terms-words-fit-spec =
+    tie.close
+    (tie.spec
+    between-at-requires
+    between-at-requires-2
+    between-at-requires-3
+    between-at-requires-4
+    between-at-requires-5
+    returns)

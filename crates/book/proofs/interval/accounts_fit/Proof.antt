@@ -1,0 +1,80 @@
+-- `accounts_fit` meets its contract: each turn is one account more.
+use mathlib.Core.Path.{_≡_, ap, _∙_}
+use Prim.Native.Nat.{_+_, _-_, _*_, _≤_}
+use native.Mathlib.Omega.{arith}
+use borrow.Author.Needs.{needs}
+use Rattle.integer.specs.Below.{fold, all}
+use Rattle.book.specs.LoopLaws.{all-step, lent, length-lent}
+use Rattle.book.specs.Parts.{part, accountFits, accountsFit}
+use Rattle.book.proofs.interval.accounts_fit.Statement.{statement}
+use Rattle.book.proofs.interval.accounts_fit.Tie as tie
+
+abbrev Inv-loop : tie.InvT-loop
+Inv-loop interval n closed ok₀ a₀ ok a = (a ≤ n) × (ok ≡ all a (λ a. accountFits closed (part interval (4 + a * 24) 24)))
+
+abbrev μ-loop : tie.MeasureT-loop
+μ-loop interval n closed ok₀ a₀ ok a = n - a
+
+loop-holds : tie.Need-loop-holds Inv-loop μ-loop
+unfolding fold
+loop-holds c = search needs
+
+mul-i : tie.Need-mul-i Inv-loop μ-loop
+mul-i c = search needs
+
+add-i : tie.Need-add-i Inv-loop μ-loop
+add-i c = search needs
+
+add-e : tie.Need-add-e Inv-loop μ-loop
+add-e c = search needs
+
+mul-account-fits : tie.Need-mul-account-fits Inv-loop μ-loop
+mul-account-fits c = search needs
+
+sub-account-fits : tie.Need-sub-account-fits Inv-loop μ-loop
+sub-account-fits c = search needs
+
+part-account-fits-start : tie.Need-part-account-fits-start Inv-loop μ-loop
+part-account-fits-start c = search needs
+
+part-account-fits-end : tie.Need-part-account-fits-end Inv-loop μ-loop
+part-account-fits-end c = search needs
+
+account-fits-requires : tie.Need-account-fits-requires Inv-loop μ-loop
+account-fits-requires c κs = length-lent (c .before .before .before .args .interval .now) (4 + c .before .before .loop .a * 24) 24 (omega arith)
+
+add-a : tie.Need-add-a Inv-loop μ-loop
+add-a c = search needs
+
+loop-less : tie.Need-loop-less Inv-loop μ-loop
+loop-less c = search needs
+
+loop-again : tie.Need-loop-again Inv-loop μ-loop
+loop-again c =
+    let s = c .before .before .before .before .args in
+    let l = c .before .before .before .loop in
+    (omega arith, all-step (l .a) _ (l .inv .1) (c .account-fits .ensures ∙ ap (accountFits (s .closed)) (lent _ (4 + l .a * 24) 24)))
+
+returns : tie.Need-returns Inv-loop μ-loop
+unfolding accountsFit
+returns c = let e : c .before .loop .a ≡ c .before .before .args .n = omega arith in rw e at (c .before .loop .inv .1)
+
+pub accounts-fit-spec : {M : Type 1} → statement M
+accounts-fit-spec =
+    tie.close
+    (tie.spec
+    Inv-loop
+    μ-loop
+    loop-holds
+    mul-i
+    add-i
+    add-e
+    mul-account-fits
+    sub-account-fits
+    part-account-fits-start
+    part-account-fits-end
+    account-fits-requires
+    add-a
+    loop-less
+    loop-again
+    returns)

@@ -1,0 +1,82 @@
+-- `contents_fit` meets its contract: by `slots-are-days` the slots as they lie are the days of the window.
+use mathlib.Core.List.{List}
+use mathlib.Core.Path.{_≡_, sym, ap, _∙_}
+use Prim.Native.Nat.{ℕ, _+_, _-_, _*_, _≤_}
+use native.Mathlib.Omega.{arith}
+use borrow.Author.Needs.{needs}
+use lib.IntN.{ℤ}
+use lib.ListN.{length, take, drop}
+use Rattle.rulebook.specs.Layout.{ring}
+use Rattle.rulebook.specs.WellFormed.{daysFit}
+use Rattle.book.specs.JudgeLaws.{header-inside}
+use Rattle.book.specs.Judged.{contentsFit}
+use Rattle.book.specs.LoopLaws.{lent, length-lent}
+use Rattle.book.specs.Slots.{slotLength, slotsFit}
+use Rattle.book.specs.WalkLaws.{size-by-slots, slots-are-days}
+use Rattle.book.proofs.judge.contents_fit.Statement.{statement}
+use Rattle.book.proofs.judge.contents_fit.Tie as tie
+
+-- where the slots end
+slots-end : (c : tie.After-book-size) → c .book-size .result ≡ 64 + 8 * c .before .args .terms .accounts + ring (c .before .args .terms) * slotLength (c .before .args .terms .accounts)
+slots-end c = c .book-size .ensures ∙ size-by-slots (c .before .args .terms)
+
+mul-base : tie.Need-mul-base
+mul-base c = search needs
+
+add-base : tie.Need-add-base
+add-base c = search needs
+
+book-size-requires : tie.Need-book-size-requires
+book-size-requires c κs = search needs
+
+mssl-fits-requires : tie.Need-mssl-fits-requires
+mssl-fits-requires c κs = omega (arith, header-inside (c .before .args .terms))
+
+balances-fit-requires : tie.Need-balances-fit-requires
+balances-fit-requires c κs = omega (arith, header-inside (c .before .before .args .terms))
+
+mul-slots-fit : tie.Need-mul-slots-fit
+mul-slots-fit c = search needs
+
+sub-slots-fit : tie.Need-sub-slots-fit
+sub-slots-fit c = omega (arith, header-inside (c .before .before .before .args .terms))
+
+part-slots-fit-start : tie.Need-part-slots-fit-start
+part-slots-fit-start c = omega (arith, header-inside (c .before .before .before .args .terms))
+
+part-slots-fit-end : tie.Need-part-slots-fit-end
+part-slots-fit-end c = search needs
+
+slots-fit-requires : tie.Need-slots-fit-requires
+slots-fit-requires c κs =
+    let s = c .before .before .before .before in
+    let n = s .args .terms .accounts in
+    let e = slots-end (c .before .before .before) in
+    (s .pre .0, s .pre .1, rw e (length-lent (s .args .book .now) (64 + 8 * n) (ring (s .args .terms) * slotLength n) (omega (arith, size-by-slots (s .args .terms)))))
+
+returns : tie.Need-returns
+unfolding contentsFit
+returns c =
+    let s = c .before .before .before .before .before in
+    let t = s .args .terms in
+    let e = slots-end (c .before .before .before .before) in
+    let d : c .slots-fit .result ≡ daysFit t (s .args .book .now) (t .first + s .args .closed)
+    = c .slots-fit .ensures ∙ rw (e, lent (s .args .book .now) (64 + 8 * t .accounts) (ring t * slotLength (t .accounts)))
+    (slots-are-days t (s .args .book .now) (s .args .closed) (s .pre .0 .horizonFrom) (s .pre .2)) in
+    cc
+
+pub contents-fit-spec : {M : Type 1} → statement M
+contents-fit-spec =
+    tie.close
+    (tie.spec
+    mul-base
+    add-base
+    book-size-requires
+    mssl-fits-requires
+    balances-fit-requires
+    mul-slots-fit
+    sub-slots-fit
+    part-slots-fit-start
+    part-slots-fit-end
+    slots-fit-requires
+    returns)

@@ -1,0 +1,123 @@
+-- `slots_fit` meets its contract: each turn is one slot more.
+use mathlib.Core.Bool.{Bool}
+use mathlib.Core.List.{List}
+use mathlib.Core.Path.{_≡_, refl, sym, ap, _∙_}
+use Prim.Native.Nat.{ℕ, _+_, _-_, _*_, _≤_, _<_}
+use native.Mathlib.Omega.{arith}
+use borrow.Author.Needs.{needs}
+use lib.Dec.{ltb}
+use lib.IntN.{ℤ}
+use Rattle.integer.specs.Below.{fold, all}
+use Rattle.integer.specs.WordsLaws.{row-fits}
+use Rattle.rulebook.specs.Layout.{ring}
+use Rattle.rulebook.specs.RingLaws.{turn-of}
+use Rattle.rulebook.specs.declared.Terms.{Terms}
+use Rattle.book.specs.LoopLaws.{all-step, lent, length-lent}
+use Rattle.book.specs.Parts.{part, slotFits}
+use Rattle.book.specs.Slots.{slotLength, isDay, slotsFit}
+use Rattle.book.proofs.slots.slots_fit.Statement.{statement}
+use Rattle.book.proofs.slots.slots_fit.Tie as tie
+
+-- what `slot_fits` answered, of the slot's place
+slot-told : (o : Terms) (k v p : ℕ) (u : Bool) {r : Bool} (xs : List ℤ) {ys : List ℤ} → r ≡ slotFits (o .accounts) u (ltb p (o .lag)) xs → u ≡ isDay o k p → p ≡ turn-of o k v → xs ≡ ys
+    → r ≡ slotFits (o .accounts) (isDay o k (turn-of o k v)) (ltb (turn-of o k v) (o .lag)) ys
+slot-told o k v p u xs e f g h = cc
+
+abbrev Inv-loop : tie.InvT-loop
+Inv-loop slots terms closed n r size ok₀ v₀ ok v =
+    (n ≡ terms .accounts) × (r ≡ ring terms) × (size ≡ slotLength (terms .accounts)) × (v ≤ ring terms)
+    × (ok ≡ all v (λ v. slotFits (terms .accounts) (isDay terms closed (turn-of terms closed v)) (ltb (turn-of terms closed v) (terms .lag)) (part slots (v * slotLength (terms .accounts)) (slotLength (terms .accounts)))))
+
+abbrev μ-loop : tie.MeasureT-loop
+μ-loop slots terms closed n r size ok₀ v₀ ok v = ring terms - v
+
+add-ring : tie.Need-add-ring Inv-loop μ-loop
+unfolding ring
+add-ring c = search needs
+
+mul-size : tie.Need-mul-size Inv-loop μ-loop
+mul-size c = search needs
+
+add-size : tie.Need-add-size Inv-loop μ-loop
+add-size c = search needs
+
+mul-size-2 : tie.Need-mul-size-2 Inv-loop μ-loop
+mul-size-2 c = search needs
+
+loop-holds : tie.Need-loop-holds Inv-loop μ-loop
+unfolding fold ring
+loop-holds c = search needs
+
+mul-i : tie.Need-mul-i Inv-loop μ-loop
+unfolding ring
+mul-i c = omega (arith, row-fits (c .before .loop .v) (ring (c .before .before .before .args .terms)) (slotLength (c .before .before .before .args .terms .accounts)) (omega arith))
+
+add-e : tie.Need-add-e Inv-loop μ-loop
+add-e c = omega (arith, row-fits (c .before .loop .v) (ring (c .before .before .before .args .terms)) (slotLength (c .before .before .before .args .terms .accounts)) (omega arith))
+
+place-of-requires : tie.Need-place-of-requires Inv-loop μ-loop
+place-of-requires c κs = search needs
+
+mul-slot-fits : tie.Need-mul-slot-fits Inv-loop μ-loop
+mul-slot-fits c = omega (arith, row-fits (c .before .before .loop .v) (ring (c .before .before .before .before .args .terms)) (slotLength (c .before .before .before .before .args .terms .accounts)) (omega arith))
+
+sub-slot-fits : tie.Need-sub-slot-fits Inv-loop μ-loop
+sub-slot-fits c = search needs
+
+part-slot-fits-start : tie.Need-part-slot-fits-start Inv-loop μ-loop
+part-slot-fits-start c = search needs
+
+part-slot-fits-end : tie.Need-part-slot-fits-end Inv-loop μ-loop
+part-slot-fits-end c = omega (arith, row-fits (c .before .before .loop .v) (ring (c .before .before .before .before .args .terms)) (slotLength (c .before .before .before .before .args .terms .accounts)) (omega arith))
+
+is-day-requires : tie.Need-is-day-requires Inv-loop μ-loop
+is-day-requires c κs = search needs
+
+slot-fits-requires : tie.Need-slot-fits-requires Inv-loop μ-loop
+slot-fits-requires c κs =
+    let a = c .before .before .before .before .before .before .before .args in
+    let v = c .before .before .before .before .before .loop .v in
+    (length-lent (a .slots .now) (v * slotLength (a .terms .accounts)) (slotLength (a .terms .accounts)) (omega (arith, row-fits v (ring (a .terms)) (slotLength (a .terms .accounts)) (omega arith))), search needs)
+
+add-v : tie.Need-add-v Inv-loop μ-loop
+add-v c = search needs
+
+loop-less : tie.Need-loop-less Inv-loop μ-loop
+loop-less c = search needs
+
+loop-again : tie.Need-loop-again Inv-loop μ-loop
+unfolding ring
+loop-again c =
+    let a = c .before .before .before .before .before .before .before .before .args in
+    let l = c .before .before .before .before .before .before .loop in
+    let n = a .terms .accounts in
+    (refl, refl, refl, omega arith, all-step (l .v) _ (l .inv .4) (slot-told (a .terms) (a .closed) (l .v) _ _ _ (c .slot-fits .ensures) (c .before .before .is-day .ensures) (c .before .before .before .before .place-of .ensures .0) (lent _ (l .v * slotLength n) (slotLength n))))
+
+returns : tie.Need-returns Inv-loop μ-loop
+unfolding slotsFit
+returns c = let e : c .before .loop .v ≡ ring (c .before .before .before .args .terms) = omega arith in rw e at (c .before .loop .inv .4)
+
+pub slots-fit-spec : {M : Type 1} → statement M
+slots-fit-spec =
+    tie.close
+    (tie.spec
+    Inv-loop
+    μ-loop
+    add-ring
+    mul-size
+    add-size
+    mul-size-2
+    loop-holds
+    mul-i
+    add-e
+    place-of-requires
+    mul-slot-fits
+    sub-slot-fits
+    part-slot-fits-start
+    part-slot-fits-end
+    is-day-requires
+    slot-fits-requires
+    add-v
+    loop-less
+    loop-again
+    returns)

@@ -1,0 +1,12 @@
+pub mod Parts
+pub mod Slots
+pub mod Header
+pub mod Judged
+pub mod LoopLaws
+pub mod WordLaws
+pub mod RowLaws
+pub mod BlankLaws
+pub mod SlotLaws
+pub mod WalkLaws
+pub mod HeaderLaws
+pub mod JudgeLaws

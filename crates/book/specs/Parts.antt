@@ -1,0 +1,65 @@
+-- What each test of the judge decides, of the part of the book that it is lent. Assumes nothing.
+use mathlib.Core.Bool.{Bool, cond, not, _&&_, _||_}
+use mathlib.Core.List.{List}
+use Prim.Native.Nat.{ℕ, _+_, _*_}
+use lib.IntN.{ℤ}
+use lib.ListN.{length, take, drop}
+use Rattle.integer.specs.Below.{all}
+use Rattle.integer.specs.Words.{word}
+use Rattle.rulebook.specs.declared.Kind.{Kind}
+use Rattle.rulebook.specs.declared.Section.{Section}
+use Rattle.rulebook.specs.declared.Section.the-variants.{Vesting, Meter, Residual, Ncc}
+use Rattle.rulebook.specs.Units.{inRange, intervals}
+use Rattle.rulebook.specs.Layout.{intervalTable, accountTable, tablePlace, flagIndex}
+use Rattle.rulebook.specs.WellFormed.{isZero, rowFits, sparesZero}
+
+-- the n words of xs from i on
+abbrev pub part : List ℤ → ℕ → ℕ → List ℤ
+part xs i n = take n (drop i xs)
+
+-- every word is zero
+unfoldable pub blank : List ℤ → Bool
+blank xs = all (length xs) (λ k. isZero (word xs k))
+
+-- ---- An account's words at an interval
+
+-- two values of a row: in range where the row has them, else zero
+unfoldable pub pairFits : Kind → Kind → Bool → ℤ → ℤ → Bool
+pairFits k l used x y = cond used (inRange k x && inRange l y) (isZero x && isZero y)
+
+-- word j of the row of section s, of a table's words
+abbrev pub rowOf : List ℤ → Section → ℕ → ℤ
+rowOf xs s j = word xs (tablePlace s j)
+
+-- vesting and meter rows are there
+unfoldable pub rowsThere : List ℤ → Bool
+rowsThere xs = not (isZero (rowOf xs Vesting (flagIndex Vesting))) && not (isZero (rowOf xs Meter (flagIndex Meter)))
+
+-- each row absent or fitting; of a closed day, vesting and meter rows there
+unfoldable pub accountFits : Bool → List ℤ → Bool
+accountFits closed xs = (sparesZero accountTable (word xs) && rowFits Vesting (rowOf xs Vesting) && rowFits Meter (rowOf xs Meter) && rowFits Residual (rowOf xs Residual))
+    && (not closed || rowsThere xs)
+
+-- ---- An interval, a slot
+
+-- the interval's own words
+unfoldable pub nccFits : List ℤ → Bool
+nccFits xs = sparesZero intervalTable (word xs) && rowFits Ncc (rowOf xs Ncc)
+
+-- the words of each of n accounts
+unfoldable pub accountsFit : ℕ → Bool → List ℤ → Bool
+accountsFit n closed xs = all n (λ a. accountFits closed (part xs (4 + a * 24) 24))
+
+unfoldable pub intervalFits : ℕ → Bool → List ℤ → Bool
+intervalFits n closed xs = nccFits xs && accountsFit n closed xs
+
+-- an interval's words, n accounts
+abbrev pub intervalLength : ℕ → ℕ
+intervalLength n = 4 + n * 24
+
+unfoldable pub intervalsFit : ℕ → Bool → List ℤ → Bool
+intervalsFit n closed xs = all intervals (λ i. intervalFits n closed (part xs (i * intervalLength n) (intervalLength n)))
+
+-- a slot of a day of the window, or a blank one
+unfoldable pub slotFits : ℕ → Bool → Bool → List ℤ → Bool
+slotFits n dated closed xs = cond dated (intervalsFit n closed xs) (blank xs)

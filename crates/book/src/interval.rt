@@ -1,0 +1,52 @@
+// Document 01, "The book": an interval's words, its own and those of each account.
+use crate::cell::account_fits;
+use crate::words::above_at;
+use crate::words::between_at;
+use crate::words::value_at;
+use crate::words::zero_at;
+use rulebook::Kind;
+ghost use mathlib.Core.Path.{_≡_};
+ghost use Prim.Native.Nat.{_+_, _*_, _≤_};
+ghost use lib.ListN.{length};
+ghost use Rattle.rulebook.specs.Layout.{intervalWords};
+ghost use Rattle.rulebook.specs.Shares.{mostAccounts};
+ghost use Rattle.book.specs.Parts.{nccFits, accountsFit, intervalFits, intervalLength};
+
+// NCC load, NCC present, two zeros.
+fn ncc_fits(interval: &[i64]) -> bool
+    requires { ⌜ intervalWords ≤ length (now interval) ⌝ }
+    ensures { λ r. ⌜ r ≡ nccFits (now (interval .entry)) ⌝ }
+{
+    if !(zero_at(interval, 2) & zero_at(interval, 3)) {
+        return false;
+    }
+    if !between_at(interval, 1, 0, 1) {
+        return false;
+    }
+    if above_at(interval, 1, 0) {
+        value_at(interval, 0, Kind::Load)
+    } else {
+        zero_at(interval, 0)
+    }
+}
+
+fn accounts_fit(interval: &[i64], n: usize, closed: bool) -> bool
+    requires { ⌜ (intervalLength n ≤ length (now interval)) × (n ≤ mostAccounts) ⌝ }
+    ensures { λ r. ⌜ r ≡ accountsFit n closed (now (interval .entry)) ⌝ }
+{
+    let mut ok = true;
+    for a in 0..n {
+        let i = 4 + a * 24;
+        let e = i + 24;
+        ok = ok & account_fits(&interval[i..e], closed);
+    }
+    ok
+}
+
+// The interval's words, of n accounts, of a closed day or an open one.
+pub fn interval_fits(interval: &[i64], n: usize, closed: bool) -> bool
+    requires { ⌜ (intervalLength n ≤ length (now interval)) × (n ≤ mostAccounts) ⌝ }
+    ensures { λ r. ⌜ r ≡ intervalFits n closed (now (interval .entry)) ⌝ }
+{
+    ncc_fits(interval) & accounts_fit(interval, n, closed)
+}

@@ -1,0 +1,85 @@
+// Document 01, "The book": the slots, as they lie. A slot of a day of the window has 48 intervals that fit, every other is blank.
+use crate::interval::interval_fits;
+use crate::words::are_blank;
+use rulebook::Terms;
+ghost use mathlib.Core.Path.{_≡_};
+ghost use Prim.Native.Nat.{_*_, _≤_, _<_};
+ghost use lib.ListN.{length};
+ghost use Rattle.rulebook.specs.Units.{intervals, lastDay};
+ghost use Rattle.rulebook.specs.Shares.{mostAccounts};
+ghost use Rattle.rulebook.specs.Layout.{ring};
+ghost use Rattle.rulebook.specs.Terms.{InTerms};
+ghost use Rattle.rulebook.specs.RingLaws.{turn-of};
+ghost use Rattle.book.specs.Parts.{intervalLength, intervalsFit, slotFits};
+ghost use Rattle.book.specs.Slots.{slotLength, isDay, slotsFit};
+
+fn intervals_fit(slot: &[i64], n: usize, closed: bool) -> bool
+    requires { ⌜ (intervals * intervalLength n ≤ length (now slot)) × (n ≤ mostAccounts) ⌝ }
+    ensures { λ r. ⌜ r ≡ intervalsFit n closed (now (slot .entry)) ⌝ }
+{
+    let size = 4 + n * 24;
+    let mut ok = true;
+    for h in 0..48 {
+        let i = h * size;
+        let e = i + size;
+        ok = ok & interval_fits(&slot[i..e], n, closed);
+    }
+    ok
+}
+
+// A slot of n accounts, of a day of the window or of none.
+fn slot_fits(slot: &[i64], n: usize, dated: bool, closed: bool) -> bool
+    requires { ⌜ (length (now slot) ≡ intervals * intervalLength n) × (n ≤ mostAccounts) ⌝ }
+    ensures { λ r. ⌜ r ≡ slotFits n dated closed (now (slot .entry)) ⌝ }
+{
+    if dated {
+        intervals_fit(slot, n, closed)
+    } else {
+        are_blank(slot, 3 + n * 18)
+    }
+}
+
+// The place of slot v in the window of L + H days from C − L on, where some days are closed.
+fn place_of(terms: Terms, closed: usize, v: usize) -> usize
+    requires { ⌜ InTerms terms × (closed ≤ lastDay) × (v < ring terms) ⌝ }
+    ensures { λ r. ⌜ (r ≡ turn-of terms closed v) × (r < ring terms) ⌝ }
+{
+    let ring = terms.lag + terms.horizon;
+    (v + (ring - (closed + terms.horizon) % ring)) % ring
+}
+
+// The place is of a day from F to 36,524.
+fn is_day(terms: Terms, closed: usize, place: usize) -> bool
+    requires { ⌜ InTerms terms × (closed ≤ lastDay) × (place < ring terms) ⌝ }
+    ensures { λ r. ⌜ r ≡ isDay terms closed place ⌝ }
+{
+    let at = closed + place;
+    if at < terms.lag {
+        return false;
+    }
+    !(36524 < terms.first + (at - terms.lag))
+}
+
+// Every slot, in the order in which they lie.
+pub fn slots_fit(slots: &[i64], terms: Terms, closed: usize) -> bool
+    requires { ⌜ InTerms terms × (closed ≤ lastDay) × (length (now slots) ≡ ring terms * slotLength (terms .accounts)) ⌝ }
+    ensures { λ r. ⌜ r ≡ slotsFit terms closed (now (slots .entry)) ⌝ }
+{
+    let n = terms.accounts;
+    let ring = terms.lag + terms.horizon;
+    let size = 48 * (4 + n * 24);
+    let mut ok = true;
+    for v in 0..ring {
+        let i = v * size;
+        let e = i + size;
+        let place = place_of(terms, closed, v);
+        ok = ok
+            & slot_fits(
+                &slots[i..e],
+                n,
+                is_day(terms, closed, place),
+                place < terms.lag,
+            );
+    }
+    ok
+}

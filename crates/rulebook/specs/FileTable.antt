@@ -1,0 +1,179 @@
+-- Document 01, "Numbers returned", 4 to 8: the fields of a file in file order, the table's conditions, and the first that strikes. Assumes nothing.
+use mathlib.Core.Path.{_≡_}
+use mathlib.Core.Bool.{Bool, true, false, _||_}
+use mathlib.Core.List.{List, [], _∷_, _++_, map, flatMap}
+use Prim.Native.Nat.{ℕ, _+_, _*_}
+use lib.Dec.{ltb, leb}
+use lib.ListN.{length}
+use lib.Signed.{ltZ}
+use Rattle.integer.specs.Below.{any, tabulate, Each}
+use Rattle.rulebook.specs.declared.Section.{Section}
+use Rattle.rulebook.specs.declared.Section.the-variants.{Vesting, Meter, Residual, Ncc}
+use Rattle.rulebook.specs.declared.Terms.{Terms}
+use Rattle.rulebook.specs.Units.{intervals}
+use Rattle.rulebook.specs.Sections.{perInterval}
+use Rattle.rulebook.specs.File.{Figure, figurePlace, num, valueAt, valuesPos, countAt, rowAt, rowPos, rowsIn, meterPos, residualPos, nccPos, endPos}
+use Rattle.rulebook.specs.Numbers.{fieldNotWhole, fieldOutOfRange, dayNotOpen, rowRepeated, bytesAfterEnd}
+use Rattle.rulebook.specs.NamedRows.{NamedRow, named}
+use Rattle.rulebook.specs.Encoding.{figures}
+use Rattle.rulebook.specs.Proper.{least, most, sameKey}
+
+-- ---- Fields
+
+-- a field, with its first byte: a section's row count; a row's account, day, count and figures; the file's end. A day is that of row i of a section's rows
+pub data Field : Type 0 where
+  RowCount : ℕ → Field
+  Account : ℕ → Field
+  Day : Section → (ℕ → NamedRow) → ℕ → ℕ → Field
+  TrancheCount FacilityCount : ℕ → Field
+  Value : Figure → ℕ → Field
+  EndOfFile : ℕ → Field
+
+abbrev pub start : Field → ℕ
+start (RowCount at) = at
+start (Account at) = at
+start (Day sec rows i at) = at
+start (TrancheCount at) = at
+start (FacilityCount at) = at
+start (Value g at) = at
+start (EndOfFile at) = at
+
+abbrev pub size : Field → ℕ
+size (RowCount at) = 2
+size (Account at) = 1
+size (Day sec rows i at) = 2
+size (TrancheCount at) = 1
+size (FacilityCount at) = 1
+size (Value g at) = 4
+size (EndOfFile at) = 0
+
+-- ---- The fields of a file, in file order
+
+-- what stands before the values of row i, which is at p
+unfoldable pub headingFields : Section → (ℕ → NamedRow) → ℕ → ℕ → List Field
+headingFields Vesting rows i p = Account p ∷ Day Vesting rows i (p + 1) ∷ TrancheCount (p + 3) ∷ []
+headingFields Meter rows i p = Account p ∷ Day Meter rows i (p + 1) ∷ FacilityCount (p + 3) ∷ []
+headingFields Residual rows i p = Account p ∷ Day Residual rows i (p + 1) ∷ []
+headingFields Ncc rows i p = Day Ncc rows i p ∷ []
+
+-- the values of interval h of the row at p
+unfoldable pub intervalFields : Section → List ℕ → ℕ → ℕ → List Field
+intervalFields sec s p h =
+    map (λ g. Value g (valuesPos sec p + 4 * (h * perInterval sec (countAt sec s p) + figurePlace g))) (figures sec (countAt sec s p))
+
+-- row i of the section at `at`
+abbrev pub rowOf : Section → List ℕ → ℕ → ℕ → NamedRow
+rowOf sec s at i = named (rowAt sec s (rowPos sec s (at + 2) i))
+
+unfoldable pub rowFields : Section → List ℕ → ℕ → ℕ → List Field
+rowFields sec s at i =
+    headingFields sec (rowOf sec s at) i (rowPos sec s (at + 2) i)
+    ++ flatMap (intervalFields sec s (rowPos sec s (at + 2) i)) (tabulate intervals (λ h. h))
+
+unfoldable pub sectionFields : Section → List ℕ → ℕ → List Field
+sectionFields sec s at = RowCount at ∷ flatMap (rowFields sec s at) (tabulate (rowsIn s at) (λ i. i))
+
+unfoldable pub fieldsOf : List ℕ → List Field
+fieldsOf s =
+    sectionFields Vesting s 0
+    ++ (sectionFields Meter s (meterPos s)
+    ++ (sectionFields Residual s (residualPos s) ++ (sectionFields Ncc s (nccPos s) ++ (EndOfFile (endPos s) ∷ []))))
+
+-- each field starts where the one before it ends
+unfoldable pub EndToEnd : ℕ → List Field → ℕ → Type 0
+EndToEnd from [] to = from ≡ to
+EndToEnd from (f ∷ fs) to = (start f ≡ from) × EndToEnd (from + size f) fs to
+
+-- ---- The table's conditions
+
+-- 6, C being the next day to close: past C + H − 1 or past 36,524; before C, or of residual and NCC rows before F or C − L
+abbrev pub late : Terms → ℕ → ℕ → Bool
+late o C d = leb (C + o .horizon) d || ltb 36524 d
+
+abbrev pub shut : Terms → ℕ → Section → ℕ → Bool
+shut o C Vesting d = ltb d C || late o C d
+shut o C Meter d = ltb d C || late o C d
+shut o C Residual d = (ltb d (o .first) || ltb (d + o .lag) C) || late o C d
+shut o C Ncc d = (ltb d (o .first) || ltb (d + o .lag) C) || late o C d
+
+-- a number of the table at a field: does its condition hold there?
+pub record Check : Type 0 where
+  pub field : Field
+  pub number : ℕ
+  pub holds : Bool
+
+module _ (o : Terms) (C : ℕ) (s : List ℕ) where
+  -- 4: field or count not whole
+  abbrev pub notWhole : Field → Bool
+  notWhole f = ltb (length s) (start f + size f)
+
+  -- 5: account, count or value out of range: accounts from N on, more than 3 tranches, other than 1 to 4 facilities, a figure outside its range
+  abbrev pub outOfRange : Field → Bool
+  outOfRange (RowCount at) = false
+  outOfRange (Account at) = leb (o .accounts) (num 1 s at)
+  outOfRange (Day sec rows i at) = false
+  outOfRange (TrancheCount at) = ltb 3 (num 1 s at)
+  outOfRange (FacilityCount at) = ltb (num 1 s at) 1 || ltb 4 (num 1 s at)
+  outOfRange (Value g at) = ltZ (valueAt s at) (least g) || ltZ (most g) (valueAt s at)
+  outOfRange (EndOfFile at) = false
+
+  -- 6: day not open, or above 36,524
+  abbrev pub notOpen : Field → Bool
+  notOpen (RowCount at) = false
+  notOpen (Account at) = false
+  notOpen (Day sec rows i at) = shut o C sec (num 2 s at)
+  notOpen (TrancheCount at) = false
+  notOpen (FacilityCount at) = false
+  notOpen (Value g at) = false
+  notOpen (EndOfFile at) = false
+
+  -- 7: row repeated in its section
+  abbrev pub repeated : Field → Bool
+  repeated (RowCount at) = false
+  repeated (Account at) = false
+  repeated (Day sec rows i at) = any i (λ j. sameKey (rows j) (rows i))
+  repeated (TrancheCount at) = false
+  repeated (FacilityCount at) = false
+  repeated (Value g at) = false
+  repeated (EndOfFile at) = false
+
+  -- 8: bytes after section 4
+  abbrev pub excess : Field → Bool
+  excess (RowCount at) = false
+  excess (Account at) = false
+  excess (Day sec rows i at) = false
+  excess (TrancheCount at) = false
+  excess (FacilityCount at) = false
+  excess (Value g at) = false
+  excess (EndOfFile at) = ltb at (length s)
+
+  -- the checks of a field: "whole, in range, day open, row not yet given; then the end"
+  abbrev pub checksOf : Field → List Check
+  checksOf f =
+      record { field = f; number = fieldNotWhole; holds = notWhole f }
+      ∷ record { field = f; number = fieldOutOfRange; holds = outOfRange f }
+      ∷ record { field = f; number = dayNotOpen; holds = notOpen f }
+      ∷ record { field = f; number = rowRepeated; holds = repeated f }
+      ∷ record { field = f; number = bytesAfterEnd; holds = excess f }
+      ∷ []
+
+  -- those of the file, in file order
+  abbrev pub checks : List Check
+  checks = flatMap checksOf (fieldsOf s)
+
+-- ---- The first that strikes
+
+-- no check of a list strikes
+abbrev pub NoneStrikes : List Check → Type 0
+NoneStrikes cs = Each (λ c. c .holds ≡ false) cs
+
+-- "each is given if its condition holds and no earlier check struck": of these checks number n's strikes first, at a field that starts at p
+pub record FirstStrikes (cs : List Check) (n p : ℕ) : Type 0 where
+  pub before : List Check
+  pub check : Check
+  pub after : List Check
+  pub order : cs ≡ before ++ (check ∷ after)
+  pub passed : NoneStrikes before
+  pub struck : check .holds ≡ true
+  pub number : check .number ≡ n
+  pub position : start (check .field) ≡ p
