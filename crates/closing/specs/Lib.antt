@@ -5,3 +5,5 @@ pub mod IntervalLaws
 pub mod Total
 pub mod Day
 pub mod DayLaws
+pub mod Search
+pub mod SearchLaws

@@ -3,3 +3,4 @@ pub mod cell; // cell.rt: the amounts of one account at one interval
 pub mod interval; // interval.rt: R and S of one interval
 pub mod total; // total.rt: the running total of a day
 pub mod day; // day.rt: the posted amount of a day
+pub mod search; // search.rt: the first absent datum
