@@ -15,6 +15,10 @@ word xs i = getD xs i (pos 0)
 abbrev pub filled {ℓ} : {A : Type ℓ} → ℕ → (ℕ → A) → List A → List A
 filled i f xs = tabulate i f ++ drop i xs
 
+-- the n words of xs from i on
+abbrev pub part {ℓ} : {A : Type ℓ} → List A → ℕ → ℕ → List A
+part xs i n = take n (drop i xs)
+
 -- k lies from a to e
 abbrev pub inside : ℕ → ℕ → ℕ → Bool
 inside a e k = leb a k && ltb k e

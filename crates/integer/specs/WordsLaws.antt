@@ -10,10 +10,10 @@ use native.Mathlib.Omega.{arith}
 use borrow.Author.Tests.{lt-ltb, le-ltb, le-leb, lt-leb}
 use lib.Dec.{leb, ltb}
 use lib.ListN.{length, getD, set, take, drop, length-append, length-drop, List·getD-append}
-use lib.Seq.{drop-length, getD-take, getD-drop, getD-append-add, length-take-le}
+use lib.Seq.{drop-length, take-take, drop-drop, getD-take, getD-drop, getD-append-add, length-take-le}
 use Rattle.integer.specs.Below.{turns, tabulate}
 use Rattle.integer.specs.BelowLaws.{lt-or-le, turns-suc, turns-inv, turns-miss, turns-hit, length-tabulate, getD-tabulate, tabulate-of, tabulate-each}
-use Rattle.integer.specs.Words.{filled, inside, patched, onPart, gridRow, grid, gridWords}
+use Rattle.integer.specs.Words.{filled, part, inside, patched, onPart, gridRow, grid, gridWords}
 
 -- ---- Rows of a stride
 
@@ -54,6 +54,34 @@ filled-suc i f xs l = rw add-one (sym (fill-one i f xs l))
 
 pub filled-all {ℓ} : {A : Type ℓ} (f : ℕ → A) (xs : List A) → filled (length xs) f xs ≡ tabulate (length xs) f
 filled-all f xs = simp (drop-length, append-nil)
+
+-- one more turn of a loop that fills, and its end
+pub filled-step {ℓ} : {A : Type ℓ} (i : ℕ) (f : ℕ → A) (xs : List A) {ys : List A} {v : A} → i < length xs → ys ≡ filled i f xs → v ≡ f i → set ys i v ≡ filled (i + 1) f xs
+filled-step i f xs l e q = rw (e, q) (sym (filled-suc i f xs l))
+
+pub filled-whole {ℓ} : {A : Type ℓ} (i n : ℕ) (f : ℕ → A) (xs : List A) {ys : List A} → length xs ≡ n → i ≡ n → ys ≡ filled i f xs → ys ≡ tabulate n f
+filled-whole i n f xs l e q = q ∙ rw (e, ← l) (filled-all f xs)
+
+-- ---- A part that is lent: `&xs[i..i + n]`
+
+pub lent {ℓ} : {A : Type ℓ} (xs : List A) (i n : ℕ) → take (i + n - i) (drop i xs) ≡ part xs i n
+lent xs i n = let e : i + n - i ≡ n = omega arith in rw e
+
+pub length-part {ℓ} : {A : Type ℓ} (xs : List A) (i n : ℕ) → i + n ≤ length xs → length (part xs i n) ≡ n
+length-part xs i n h = length-take-le n (drop i xs) (simp length-drop (omega arith))
+
+pub getD-part {ℓ} : {A : Type ℓ} (xs : List A) (i n k : ℕ) (d : A) → k < n → getD (part xs i n) k d ≡ getD xs (i + k) d
+getD-part xs i n k d h = getD-take n (drop i xs) k d h ∙ getD-drop i xs k d
+
+-- a part of a part
+take-drop-take {ℓ} : {A : Type ℓ} (m j n : ℕ) (xs : List A) → j + m ≤ n → take m (drop j (take n xs)) ≡ take m (drop j xs)
+take-drop-take m zero n xs h = take-take m n xs (omega arith)
+take-drop-take m (suc j) zero xs h = absurd (omega arith)
+take-drop-take m (suc j) (suc n) [] h = refl
+take-drop-take m (suc j) (suc n) (x ∷ xs) h = take-drop-take m j n xs (omega arith)
+
+pub part-part {ℓ} : {A : Type ℓ} (xs : List A) (i n j m : ℕ) → j + m ≤ n → part (part xs i n) j m ≡ part xs (i + j) m
+part-part xs i n j m h = take-drop-take m j n (drop i xs) h ∙ ap (take m) (drop-drop j i xs)
 
 -- ---- A part lent onward
 
