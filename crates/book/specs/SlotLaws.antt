@@ -18,7 +18,7 @@ use Rattle.rulebook.specs.Layout.{Word, spare, isSpare, intervalTable, accountT
 use Rattle.rulebook.specs.RowWordLaws.{row-word}
 use Rattle.rulebook.specs.TestLaws.{all-same}
 use Rattle.rulebook.specs.FormLaws.{fits-same}
-use Rattle.rulebook.specs.WalkLaws.{tests-same}
+use Rattle.rulebook.specs.TestLaws.{tests-same}
 use Rattle.rulebook.specs.WellFormed as rule
 use Rattle.rulebook.specs.WellFormed.{isZero, rowFits, sparesZero, isThere, slotRow, accountWordsFit, bothThere, closedRowsThere, intervalBlank, slotBlank}
 use Rattle.book.specs.Parts.{part, blank, rowOf, rowsThere, accountFits, nccFits, accountsFit, intervalFits, intervalLength, intervalsFit, slotFits}

@@ -17,7 +17,8 @@ use Rattle.rulebook.specs.Layout.{intervalWords, accountWords, intervalSize, ri
 use Rattle.rulebook.specs.TestLaws.{all-same, all-yes, all-at}
 use Rattle.rulebook.specs.WindowWalk.{windowSlot, windowSlotFits}
 use Rattle.rulebook.specs.RingLaws.{turn-of, turn-inside, turned, places-apart}
-use Rattle.rulebook.specs.WalkLaws.{tests-same, days-are-places}
+use Rattle.rulebook.specs.TestLaws.{tests-same}
+use Rattle.rulebook.specs.WalkLaws.{days-are-places}
 use Rattle.rulebook.specs.WellFormed as rule
 use Rattle.rulebook.specs.WellFormed.{closedRowsThere, slotBlank, daysFit}
 use Rattle.book.specs.Parts.{part, intervalLength, slotFits}

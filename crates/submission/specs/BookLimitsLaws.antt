@@ -9,4 +9,4 @@ use Rattle.rulebook.specs.StartLaws.{opened-terms}
 use Rattle.submission.specs.BookLimits.{BookLimits}
 
 pub limits-of : (o : Terms) (C : ℕ) → T (termsFit o) → BookLimits (limitsOf o C)
-limits-of o C t = let h = opened-terms o t in record { some = h .accounts1; few = h .accounts32; back = omega arith; ahead = omega arith }
+limits-of o C t = let h = opened-terms o t in record { some = h .accountsFrom; few = h .accountsTo; back = omega arith; ahead = omega arith }
