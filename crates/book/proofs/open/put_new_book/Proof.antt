@@ -1,6 +1,5 @@
 -- `put_new_book` meets its contract: the header is stored, then the part from word 6 to the size is cleared.
 use mathlib.Core.Path.{_≡_, _∙_}
-use Prim.Native.Nat.{_≤_}
 use native.Mathlib.Omega.{arith}
 use borrow.Author.Needs.{needs}
 use lib.IntN.{pos}
