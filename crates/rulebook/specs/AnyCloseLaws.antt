@@ -20,6 +20,7 @@ use Rattle.rulebook.specs.declared.Section.the-variants.{Vesting, Meter}
 use Rattle.rulebook.specs.declared.Terms.{Terms}
 use Rattle.rulebook.specs.declared.CloseAnswer.the-variants.{Finished, NoRoom}
 use Rattle.rulebook.specs.Units.{lastDay}
+use Rattle.rulebook.specs.DayAmount.{msslAmount}
 use Rattle.rulebook.specs.Layout.{flagIndex, flagWord, balanceWord, msslWord}
 use Rattle.rulebook.specs.BookData.{Entries, entriesOf, termsOf, nextDay}
 use Rattle.rulebook.specs.WellFormed.{isZero, rowFits, wellFormed, dayBound}
@@ -29,11 +30,12 @@ use Rattle.rulebook.specs.LayoutLaws.{InWindow}
 use Rattle.rulebook.specs.LedgerLaws.{Ledger, Holds}
 use Rattle.rulebook.specs.KeptLaws.{absent-fits}
 use Rattle.rulebook.specs.FormLaws.{Fit, ring-pos, fits-same, well-formed}
-use Rattle.rulebook.specs.FormedLaws.{formed-holds, formed-fit, opened-of, next-of, close-amount}
+use Rattle.rulebook.specs.FormedLaws.{formed-holds, formed-fit, opened-of, next-of}
+use Rattle.rulebook.specs.BookSizeLaws.{close-amount}
 use Rattle.rulebook.specs.CloseLaws.{day-held}
 use Rattle.rulebook.specs.SearchLaws.{nothing-at}
 
--- the entries of a book, and zeros from day last on
+-- the words of a book, and zeros from day last on
 abbrev before : Terms → List ℤ → ℕ → Entries
 before o w last s a d i j = cond (ltb d last) (entriesOf o w s a d i j) (pos 0)
 
@@ -56,7 +58,7 @@ vested-there o w D e a i ha hi =
     (flag-there o w D Vesting a D i (y .0), flag-there o w D Meter a D i (y .1))
 
 module _ (w : List ℤ) (t : T (wellFormed w)) (k : ℕ) (day : termsOf w .first + k ≡ nextDay w) (closes : nextDay w - termsOf w .first ≡ k) (left : nextDay w ≤ lastDay)
-    (first-at : firstMissing (termsOf w) w (nextDay w) ≡ Nothing) where
+    (complete : firstMissing (termsOf w) w (nextDay w) ≡ Nothing) where
   abbrev o : Terms
   o = termsOf w
 
@@ -125,7 +127,7 @@ module _ (w : List ℤ) (t : T (wellFormed w)) (k : ℕ) (day : termsOf w .first
   amount a ha = rw day (close-amount w t left a ha)
 
   mssl-size : natAbs (postedToMssl o w (o .first + k)) ≤ o .accounts * dayBound
-  unfolding postedToMssl
+  unfolding postedToMssl posted msslAmount
   mssl-size = rw abs-neg (abs-sumℤ (o .accounts) dayBound (posted o w (o .first + k)) amount)
 
   new-fit : Fit o new
@@ -134,8 +136,8 @@ module _ (w : List ℤ) (t : T (wellFormed w)) (k : ℕ) (day : termsOf w .first
         (λ l y. fits-same s (before o w last s a d i) (entriesOf o w s a d i) (λ j hj. within s a d i j l) (formed .rows s a d i y ha hi))
         (λ l. absent-fits s (before o w last s a d i) (λ j hj. beyond s a d i j l));
     undated = λ s a d i j x late ha hi hj. by-day (before o w last s a d i j ≡ pos 0) d x (λ l y. within s a d i j l ∙ formed .undated s a d i j y late ha hi hj) (λ l. beyond s a d i j l);
-    vestings = λ a d i x l ha hi. flags-there Vesting a d i ha x l (opened-of w t .horizonFrom) (λ y z. formed .vestings a d i z y ha hi) (vested-there o w (nextDay w) first-at a i ha hi .0);
-    meters = λ a d i x l ha hi. flags-there Meter a d i ha x l (opened-of w t .horizonFrom) (λ y z. formed .meters a d i z y ha hi) (vested-there o w (nextDay w) first-at a i ha hi .1);
+    vestings = λ a d i x l ha hi. flags-there Vesting a d i ha x l (opened-of w t .horizonFrom) (λ y z. formed .vestings a d i z y ha hi) (vested-there o w (nextDay w) complete a i ha hi .0);
+    meters = λ a d i x l ha hi. flags-there Meter a d i ha x l (opened-of w t .horizonFrom) (λ y z. formed .meters a d i z y ha hi) (vested-there o w (nextDay w) complete a i ha hi .1);
     bounded = λ a ha. omega (arith, abs-add (word w (balanceWord a)) (posted o w (o .first + k) a), formed .bounded a ha, amount a ha, suc-mul k dayBound);
     mssl = rw (suc-mul k dayBound, mul-add (o .accounts) (k * dayBound) dayBound)
         (omega (arith, abs-add (word w msslWord) (postedToMssl o w (o .first + k)), formed .mssl, mssl-size));

@@ -2,12 +2,12 @@
 use mathlib.Core.Bool.{cond}
 use mathlib.Core.List.{List}
 use Prim.Native.Nat.{ℕ, zero, suc, _+_, _*_}
-use lib.IntN.{ℤ, pos, _+ℤ_, negℤ}
+use lib.IntN.{ℤ, pos, _+ℤ_}
 use lib.Dec.{ltb}
 use lib.ListN.{length, set}
 use Rattle.integer.specs.declared.Found.{Found}
 use Rattle.integer.specs.declared.Found.the-variants.{At, Nothing}
-use Rattle.integer.specs.Below.{sumℤ, first, orElse}
+use Rattle.integer.specs.Below.{first, orElse}
 use Rattle.integer.specs.Words.{word}
 use Rattle.rulebook.specs.declared.Section.{Section}
 use Rattle.rulebook.specs.declared.Section.the-variants.{Vesting, Meter, Residual, Ncc}
@@ -15,7 +15,7 @@ use Rattle.rulebook.specs.declared.Terms.{Terms}
 use Rattle.rulebook.specs.declared.CloseAnswer.{CloseAnswer}
 use Rattle.rulebook.specs.declared.CloseAnswer.the-variants.{Closed, BookIllFormed, Finished, NoRoom, DatumMissing}
 use Rattle.rulebook.specs.Units.{lastDay, intervals}
-use Rattle.rulebook.specs.DayAmount.{residualDue, residualDay, postedAmount}
+use Rattle.rulebook.specs.DayAmount.{residualDue, residualDay, postedAmount, msslAmount}
 use Rattle.rulebook.specs.Layout.{stored, nextDayWord, msslWord, balanceWord, flagWord, intervalSize, slot, intervalWord}
 use Rattle.rulebook.specs.BookData.{bookData, termsOf, nextDay}
 use Rattle.rulebook.specs.WellFormed.{isZero, wellFormed}
@@ -42,7 +42,7 @@ module _ (o : Terms) (w : List ℤ) (D : ℕ) where
   posted a = postedAmount o (bookData o w) a D
 
   unfoldable pub postedToMssl : ℤ
-  postedToMssl = negℤ (sumℤ (o .accounts) posted)
+  postedToMssl = msslAmount o (bookData o w) D
 
   -- the first n accounts' balances grown
   unfoldable pub balancesGrown : ℕ → List ℤ

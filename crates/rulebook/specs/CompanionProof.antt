@@ -20,6 +20,7 @@ use Rattle.rulebook.specs.declared.Verdict.the-variants.{Accepted, Refus
 use Rattle.rulebook.specs.declared.SubmitAnswer.{SubmitAnswer}
 use Rattle.rulebook.specs.declared.CloseAnswer.{CloseAnswer}
 use Rattle.rulebook.specs.Units.{lastDay}
+use Rattle.rulebook.specs.DayAmount.{msslAmount}
 use Rattle.rulebook.specs.Terms.{InTerms}
 use Rattle.rulebook.specs.Layout.{size}
 use Rattle.rulebook.specs.File.{fileRows}
@@ -35,7 +36,8 @@ use Rattle.rulebook.specs.FormLaws.{ring-pos}
 use Rattle.rulebook.specs.SearchLaws.{search-is}
 use Rattle.rulebook.specs.StepLaws.{storable}
 use Rattle.rulebook.specs.BeyondLaws.{kept-all, rows-beyond, closed-beyond, statement-beyond, statement-amount, statement-mssl}
-use Rattle.rulebook.specs.StateLaws.{State, terms, submit-is, close-is, closedBy, amount-same}
+use Rattle.rulebook.specs.StateLaws.{State, terms, submit-is}
+use Rattle.rulebook.specs.CloseStateLaws.{close-is, closedBy, amount-same}
 use Rattle.rulebook.specs.Demand3Proof.{run-state, opening-state}
 
 not-3 : (why : Why) → whyNumber why ≢ notWellFormed
@@ -87,7 +89,7 @@ module _ (o : Terms) (t : InTerms o) (past : List Event) (w : List ℤ) (h : Sta
   }
     where
       mssl-is : postedToMssl o w (closingDay o past) ≡ negℤ (sumℤ (o .accounts) (formulaAmount o past))
-      mssl-is = unfold postedToMssl in ap negℤ (sumℤ-cong (o .accounts) (posted o w (closingDay o past)) (formulaAmount o past) (amount-same o t past w h))
+      mssl-is = unfold postedToMssl posted msslAmount in ap negℤ (sumℤ-cong (o .accounts) (posted o w (closingDay o past)) (formulaAmount o past) (amount-same o t past w h))
   settled-by st room (At n) e = record {
     answered = sym e;
     wellFormed = λ x. omega arith;

@@ -1,41 +1,39 @@
--- Document 01's ranges, sizes and layouts, in figures computed from the definitions. Assumes nothing.
+-- Document 01's ranges, and rows and headers that are well formed or not, in figures computed from the definitions. Assumes nothing.
 use mathlib.Core.Path.{_≡_, refl}
 use mathlib.Core.Bool.{Bool, true, false}
 use mathlib.Core.List.{List, [], _∷_, _++_}
 use Prim.Native.Nat.{ℕ}
+use native.Mathlib.Omega.{arith}
 use lib.IntN.{ℤ, pos, _+ℤ_, _-ℤ_}
 use lib.ListN.{replicate, getD}
 use Rattle.integer.specs.Integer.{minus}
-use Rattle.integer.specs.Below.{fold, turns, tabulate}
+use Rattle.integer.specs.Below.{fold}
 use Rattle.rulebook.specs.declared.Section.{Section}
 use Rattle.rulebook.specs.declared.Section.the-variants.{Vesting, Meter, Residual, Ncc}
 use Rattle.rulebook.specs.declared.Terms.{Terms}
+use Rattle.rulebook.specs.Terms.{InTerms}
 use Rattle.rulebook.specs.Sections.{valueInRange}
-use Rattle.rulebook.specs.Layout.{size, base, ring, intervalSize, slot, intervalWord, rowWord, flagWord}
-use Rattle.rulebook.specs.WellFormed.{rowFits, rowBlank, rowCounts, headerFits}
-use Rattle.rulebook.specs.File.{num, signed32, valueAt, rowEnd, rowPos, sectionEnd, sectionRows, fileRows}
-use Rattle.rulebook.specs.Judging.{rest}
+use Rattle.rulebook.specs.WellFormed.{rowFits, rowBlank, rowCounts, headerFits, balanceFits}
+use Rattle.rulebook.specs.Figures.{accounts}
 
--- ---- Sizes
+-- ---- Terms
 
--- N = 2, L = H = 1, F = 9,497
+-- L = H = 1, F = 9,497
 abbrev pub two : Terms
-two = record { accounts = 2; lag = 1; horizon = 1; first = 9497 }
+two = accounts 2
 
 abbrev pub one : Terms
-one = record { accounts = 1; lag = 1; horizon = 1; first = 9497 }
+one = accounts 1
 
-pub size-two : size two ≡ 5072
-unfolding size base ring intervalSize
-size-two = refl
+pub in-two : InTerms two
+in-two = omega arith
 
-pub flag-two : flagWord two Vesting 0 9497 0 ≡ 84
-unfolding rowWord intervalWord base ring intervalSize slot
-flag-two = refl
+pub in-one : InTerms one
+in-one = omega arith
 
-pub flag-one : flagWord one Vesting 0 9497 0 ≡ 76
-unfolding rowWord intervalWord base ring intervalSize slot
-flag-one = refl
+-- N = 3, L = 2, H = 3
+abbrev pub three : Terms
+three = record { accounts = 3; lag = 2; horizon = 3; first = 9497 }
 
 abbrev pub zeros : ℕ → List ℕ
 zeros n = replicate n 0
@@ -72,17 +70,6 @@ ranges = record {
   rvp2 = (refl, refl, refl, refl);
   load = (refl, refl, refl, refl);
 }
-
--- ---- Values and row-examples
-
-pub minus-one : valueAt (255 ∷ 255 ∷ 255 ∷ 255 ∷ []) 0 ≡ minus 1
-unfolding valueAt signed32 num
-minus-one = refl
-
--- an NCC row of 48 loads: 258, then zeros
-pub rows-read : fileRows (zeros 6 ++ (1 ∷ 0 ∷ 0x19 ∷ 0x25 ∷ 2 ∷ 1 ∷ zeros 190)) ≡ record { section = Ncc; account = 0; day = 9497; count = 0; numbers = pos 258 ∷ replicate 47 (pos 0) } ∷ []
-unfolding fileRows sectionRows tabulate num rowEnd rowPos sectionEnd turns valueAt signed32
-rows-read = refl
 
 -- ---- Well formed
 
@@ -123,7 +110,7 @@ row-examples = record {
 
 -- a header, N, L, H, F, C and the words after
 abbrev headed : ℤ → ℤ → ℤ → ℤ → ℤ → ℤ → List ℤ → Bool
-headed m n l h f c rest = headerFits (m ∷ n ∷ l ∷ h ∷ f ∷ c ∷ rest)
+headed m n l h f c more = headerFits (m ∷ n ∷ l ∷ h ∷ f ∷ c ∷ more)
 
 pub record Headers : Type 0 where
   pub fine : headed (pos 395) (pos 32) (pos 75) (pos 92) (pos 9497) (pos 36525) (minus 7 ∷ []) ≡ true
@@ -135,6 +122,9 @@ pub record Headers : Type 0 where
   pub earlyFirst : headed (pos 395) (pos 2) (pos 1) (pos 1) (pos 9496) (pos 9497) [] ≡ false
   pub beforeFirst : headed (pos 395) (pos 2) (pos 1) (pos 1) (pos 9498) (pos 9497) [] ≡ false
   pub pastLast : headed (pos 395) (pos 2) (pos 1) (pos 1) (pos 9497) (pos 36526) [] ≡ false
+  pub lastSpareUsed : headed (pos 395) (pos 2) (pos 1) (pos 1) (pos 9497) (pos 9497) (replicate 57 (pos 0) ++ (pos 1 ∷ [])) ≡ false
+  -- words 6 and 64 are balances
+  pub balances : headed (pos 395) (pos 2) (pos 1) (pos 1) (pos 9497) (pos 9497) (pos 1 ∷ replicate 57 (pos 0) ++ (pos 1 ∷ [])) ≡ true
   pub spareUsed : headed (pos 395) (pos 2) (pos 1) (pos 1) (pos 9497) (pos 9497) (pos 0 ∷ pos 1 ∷ []) ≡ false
 
 pub headers : Headers
@@ -149,5 +139,19 @@ headers = record {
   earlyFirst = refl;
   beforeFirst = refl;
   pastLast = refl;
+  lastSpareUsed = refl;
+  balances = refl;
   spareUsed = refl;
 }
+
+-- ---- Balances: (C − F) × 4,800,000,000,000 either way, the MSSL's N times that
+
+pub record Balances : Type 0 where
+  pub newBook : (balanceFits 1 0 (pos 0) ≡ true) × (balanceFits 1 0 (pos 1) ≡ false)
+  pub oneDay : (balanceFits 1 1 (pos 4800000000000) ≡ true) × (balanceFits 1 1 (pos 4800000000001) ≡ false)
+  pub below : (balanceFits 1 1 (minus 4800000000000) ≡ true) × (balanceFits 1 1 (minus 4800000000001) ≡ false)
+  pub mssl : (balanceFits 2 3 (pos 28800000000000) ≡ true) × (balanceFits 2 3 (pos 28800000000001) ≡ false)
+
+pub balances : Balances
+unfolding balanceFits
+balances = record { newBook = (refl, refl); oneDay = (refl, refl); below = (refl, refl); mssl = (refl, refl) }

@@ -1,4 +1,4 @@
--- Figures by name: of cells that agree, and of the rows in force. Assumes nothing.
+-- Data by name: of words that agree, and of the rows in force. Assumes nothing.
 use mathlib.Core.Path.{_≡_, refl, ap, subst}
 use mathlib.Core.Option.{Option, none, some}
 use Prim.Native.Nat.{ℕ, zero, _-_, _≤_, _<_}
@@ -20,9 +20,9 @@ use Rattle.rulebook.specs.RowWordLaws.{Usable, figure-word, flag-inside}
 use Rattle.rulebook.specs.LedgerLaws.{entryOf, entriesIn}
 use Rattle.rulebook.specs.SoundLaws.{Ranged}
 use Rattle.rulebook.specs.KeptLaws.{Kept, zero-ranged, number-ranged, entry-flag, own-figure, entry-figure}
-use Rattle.rulebook.specs.SizeLaws.{RangedEntries}
+use Rattle.rulebook.specs.RangeLaws.{RangedEntries}
 
--- cells that agree on day d, with few facilities, agree by name
+-- words that agree on day d, with few facilities, agree by name
 pub data-agree : (n : ℕ) (c c′ : Entries) (d : ℕ) → zero < n → ((s : Section) (a i j : ℕ) → a < accountsOf s n → i < 48 → j < width s → c s a d i j ≡ c′ s a d i j)
     → ((a i : ℕ) → a < n → i < 48 → positive (c Meter a d i (flagIndex Meter)) ≤ 4) → Agree n (dataOf c) (dataOf c′) d
 data-agree n c c′ d p e few = record {
@@ -55,8 +55,8 @@ module _ (o : Terms) (k : ℕ) (rows : RowsInForce) (balance : ℕ → ℤ) (q :
       go none f = refl
       go (some r) f = entry-figure r i g u (f r refl)
 
-  count-cell : (a i : ℕ) → positive (entriesIn rows Meter a d i (flagIndex Meter)) ≡ countIn (rows Meter a d)
-  count-cell a i = go (rows Meter a d) (q .section Meter a d)
+  count-entry : (a i : ℕ) → positive (entriesIn rows Meter a d i (flagIndex Meter)) ≡ countIn (rows Meter a d)
+  count-entry a i = go (rows Meter a d) (q .section Meter a d)
     where
       go : (x : Option Row) → ((r : Row) → x ≡ some r → r .section ≡ Meter) → positive (entryOf x i (flagIndex Meter)) ≡ countIn x
       go none f = refl
@@ -66,7 +66,7 @@ module _ (o : Terms) (k : ℕ) (rows : RowsInForce) (balance : ℕ → ℤ) (q :
   pub rows-ranged : RangedEntries (o .accounts) (entriesIn rows) d
   rows-ranged = record {
     ranged = λ g a i u ha hi. rw (figure-entry g a i u) (ranged g i hi (rows (figureSection g) a d) (q .section (figureSection g) a d) (q .ranged (figureSection g) a d));
-    few = λ a i ha hi. rw (count-cell a i) (few (rows Meter a d) (q .section Meter a d) (q .ranged Meter a d));
+    few = λ a i ha hi. rw (count-entry a i) (few (rows Meter a d) (q .section Meter a d) (q .ranged Meter a d));
   }
     where
       ranged : (g : Figure) (i : ℕ) → i < 48 → (x : Option Row) → ((r : Row) → x ≡ some r → r .section ≡ figureSection g) → ((r : Row) → x ≡ some r → Ranged r)
@@ -88,7 +88,7 @@ module _ (o : Terms) (k : ℕ) (rows : RowsInForce) (balance : ℕ → ℤ) (q :
       bvp = figure-entry BVP a i tt;
       tvq = λ t h. ap asQuantity (figure-entry (TVQ t) a i h);
       tvp = λ t h. figure-entry (TVP t) a i h;
-      facilities = count-cell a i;
+      facilities = count-entry a i;
       few = rows-ranged .few a i ha hi;
       mep = λ f h. figure-entry (MEP f) a i h;
       ieq = λ f h. figure-entry (IEQ f) a i h;

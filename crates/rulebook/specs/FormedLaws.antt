@@ -14,11 +14,10 @@ use Rattle.integer.specs.Words.{word}
 use Rattle.rulebook.specs.declared.Section.{Section}
 use Rattle.rulebook.specs.declared.Terms.{Terms}
 use Rattle.rulebook.specs.Units.{lastDay, between, positive}
-use Rattle.rulebook.specs.DayAmount.{residualDue, postedAmount}
 use Rattle.rulebook.specs.Terms.{InTerms}
 use Rattle.rulebook.specs.Sections.{accountsOf}
 use Rattle.rulebook.specs.Layout.{width, place, ring, size, intervalSize, slot, intervalWord, rowWord, markWord, accountsWord, lagWord, horizonWord, firstDayWord, nextDayWord, msslWord, balanceWord, accountSpare, headerSpare, headerSpares, accountSpares}
-use Rattle.rulebook.specs.BookData.{termsOf, nextDay, entriesOf, bookData}
+use Rattle.rulebook.specs.BookData.{termsOf, nextDay, entriesOf}
 use Rattle.rulebook.specs.WellFormed.{isZero, rowFits, isThere, intervalBlank, slotBlank, intervalFits, closedRowsThere, accountFits, balanceFits, headerFits, fits, wellFormed, dayBound, daysFit}
 use Rattle.rulebook.specs.TestLaws.{and-left, and-right, all-at}
 use Rattle.rulebook.specs.WindowWalk.{windowSlot, windowSlotFits}
@@ -28,8 +27,7 @@ use Rattle.rulebook.specs.WalkLaws.{days-walk}
 use Rattle.rulebook.specs.LedgerLaws.{Ledger, Holds, Padding, padding-fits}
 use Rattle.rulebook.specs.KeptLaws.{absent-fits}
 use Rattle.rulebook.specs.FormLaws.{Fit, ring-pos}
-use Rattle.rulebook.specs.SizeLaws.{data-sized, posted-size}
-use Rattle.rulebook.specs.SlotLaws.{row-in-interval, is-zero, is-number, interval-padding, undated-blank, closed-there, row-fits-at, entries-ranged}
+use Rattle.rulebook.specs.SlotLaws.{row-in-interval, is-zero, is-number, interval-padding, undated-blank, closed-there, row-fits-at}
 
 -- ---- a well-formed book holds a ledger, and it fits
 
@@ -42,7 +40,7 @@ is-natural a b (pos n) t = (refl, leb→le a n (and-left (leb a n) (leb n b) t),
 is-natural a b (negsuc n) t = absurd t
 
 module _ (w : List ℤ) (t : T (wellFormed w)) where
-  all-fits : T (fits (termsOf w) w (nextDay w))
+  pub all-fits : T (fits (termsOf w) w (nextDay w))
   unfolding wellFormed
   all-fits = t
 
@@ -107,13 +105,13 @@ module _ (w : List ℤ) (t : T (wellFormed w)) where
   spares-at a j ha hj = is-zero (word w (accountSpare a j)) (all-at accountSpares (λ j. isZero (word w (accountSpare a j)))
       (and-right (balanceFits 1 (nextDay w - termsOf w .first) (word w (balanceWord a))) (all accountSpares (λ j. isZero (word w (accountSpare a j)))) (account-of a ha)) j hj)
 
-  balance-at : (a : ℕ) → a < termsOf w .accounts → natAbs (word w (balanceWord a)) ≤ (nextDay w - termsOf w .first) * dayBound
+  pub balance-at : (a : ℕ) → a < termsOf w .accounts → natAbs (word w (balanceWord a)) ≤ (nextDay w - termsOf w .first) * dayBound
   unfolding accountFits balanceFits
   balance-at a ha = let x = leb→le (natAbs (word w (balanceWord a))) (1 * ((nextDay w - termsOf w .first) * dayBound))
       (and-left (balanceFits 1 (nextDay w - termsOf w .first) (word w (balanceWord a))) (all accountSpares (λ j. isZero (word w (accountSpare a j)))) (account-of a ha)) in
       rw one-mul at x
 
-  mssl-at : natAbs (word w msslWord) ≤ termsOf w .accounts * ((nextDay w - termsOf w .first) * dayBound)
+  pub mssl-at : natAbs (word w msslWord) ≤ termsOf w .accounts * ((nextDay w - termsOf w .first) * dayBound)
   unfolding fits balanceFits
   mssl-at = let x = all-fits in leb→le (natAbs (word w msslWord)) (termsOf w .accounts * ((nextDay w - termsOf w .first) * dayBound)) (search (and-left, and-right) depth 6)
 
@@ -207,17 +205,3 @@ module _ (w : List ℤ) (t : T (wellFormed w)) where
           → T (rowFits s (entriesOf (termsOf w) w s a d i))
       dated-or s a d i hd ha hi (yes x) = row-fits-at (termsOf w) w (nextDay w - termsOf w .first) (walk-of w t) p d hd x s a i ha hi
       dated-or s a d i hd ha hi (no x) = absent-fits s (entriesOf (termsOf w) w s a d i) (λ j hj. zeros s a d i j hd (omega arith) ha hi hj)
-
--- in any well-formed book with a day left to close, the amount that a close posts is in range
-pub close-amount : (w : List ℤ) → T (wellFormed w) → nextDay w ≤ lastDay → (a : ℕ) → a < termsOf w .accounts
-    → natAbs (postedAmount (termsOf w) (bookData (termsOf w) w) a (nextDay w)) ≤ dayBound
-unfolding residualDue
-close-amount w t left a ha =
-    let o : Terms = termsOf w in
-    let q = opened-of w t in
-    let n = next-of w t .1 in
-    posted-size o (bookData o w) (nextDay w)
-    (data-sized (o .accounts) (entriesOf o w) (nextDay w) (entries-ranged o w (nextDay w - o .first) (walk-of w t) (ring-pos o q) (nextDay w) (omega arith) left))
-    (λ x. let y = leb→le (o .first + o .lag) (nextDay w) x in
-    data-sized (o .accounts) (entriesOf o w) (nextDay w - o .lag)
-    (entries-ranged o w (nextDay w - o .first) (walk-of w t) (ring-pos o q) (nextDay w - o .lag) (omega arith) (omega arith))) a ha

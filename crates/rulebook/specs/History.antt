@@ -56,10 +56,12 @@ residualCounts (e ∷ past) = cond (isClose (e .call)) (residualCounts past + e 
 
 -- ---- Rows in force
 
+-- the first that is there of two, the later before the earlier
 unfoldable pub latest : {A : Type 0} → Option A → Option A → Option A
 latest none y = y
 latest (some a) y = some a
 
+-- the row for a section, account and day, if there is one
 abbrev pub RowsInForce : Type 0
 RowsInForce = Section → ℕ → ℕ → Option Row
 
@@ -93,6 +95,7 @@ abbrev pub figureIn : Option Row → ℕ → Figure → ℤ
 figureIn none i g = pos 0
 figureIn (some r) i g = figureOf r i g
 
+-- its count
 abbrev pub countIn : Option Row → ℕ
 countIn none = 0
 countIn (some r) = r .count

@@ -179,22 +179,27 @@ place Ncc a j = tablePlace Ncc j
 -- ---- Slots
 
 module _ (o : Terms) where
+  -- words of an interval: 4 + 24N
   unfoldable pub intervalSize : ℕ
   intervalSize = intervalWords + accountWords * o .accounts
 
+  -- how many slots
   unfoldable pub ring : ℕ
   ring = o .lag + o .horizon
 
+  -- where they start
   unfoldable pub base : ℕ
   base = balanceWord (o .accounts)
 
+  -- 64 + 8N + 48(L + H)(4 + 24N)
   unfoldable pub size : ℕ
   size = base + intervals * ring * intervalSize
 
+  -- day d's: (d − F) mod (L + H)
   unfoldable pub slot : ℕ → ℕ
   slot d = (d - o .first) % ring
 
-  -- the window: the days that have a slot, C being the next day to close; how many they are
+  -- the window, C being the next day to close: the days of which a book has data, from max(F, C − L) to min(C + H − 1, 36,524); how many they are
   abbrev pub windowFrom : ℕ → ℕ
   windowFrom C = max (o .first) (C - o .lag)
 
@@ -212,5 +217,6 @@ module _ (o : Terms) where
   unfoldable pub rowWord : Section → ℕ → ℕ → ℕ → ℕ → ℕ
   rowWord s a d i j = intervalWord (slot d) i (place s a j)
 
+  -- its flag's
   abbrev pub flagWord : Section → ℕ → ℕ → ℕ → ℕ
   flagWord s a d i = rowWord s a d i (flagIndex s)

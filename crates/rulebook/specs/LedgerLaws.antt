@@ -104,7 +104,7 @@ entryOf (some r) i j = entry r i j
 abbrev pub entriesIn : RowsInForce → Entries
 entriesIn rows s a d i j = entryOf (rows s a d) i j
 
--- entries with a row, or a file's rows, over them
+-- words with a row's, or a file's rows', over them
 abbrev pub replaced : Row → Entries → Entries
 replaced row g s a d i j = cond (isFor s a d row) (entry row i j) (g s a d i j)
 

@@ -11,7 +11,7 @@ use Rattle.rulebook.specs.File.{num, signed32, valueAt, rowEnd, rowPos, 
 use Rattle.rulebook.specs.Judging.{upTo, fieldIn, value, key, given, rest, rowAfter, judgedRow, judgedSection, limitsOf, judged}
 use Rattle.rulebook.specs.Numbers.{ofOpen, ofSubmit, ofClose, numbered, dayNotOpen}
 use Rattle.rulebook.specs.Companion.{verdictTold}
-use Rattle.rulebook.specs.Examples.{two, zeros}
+use Rattle.rulebook.specs.Examples.{two, three, zeros}
 
 -- ---- The table of numbers, in figures
 
@@ -53,14 +53,18 @@ returned = record {
 abbrev returns : ℕ → List ℕ → ℕ → ℕ → Type 0
 returns C file n p = verdictTold (judged (limitsOf two C) file) ≡ numbered n p
 
+-- the same of N = 3, L = 2, H = 3, C = 9,500
+abbrev returnsThree : List ℕ → ℕ → ℕ → Type 0
+returnsThree file n p = verdictTold (judged (limitsOf three 9500) file) ≡ numbered n p
+
 -- a vesting row of account 0, day 9,497, no tranches, all zero; an NCC and a residual row of that day
-abbrev vestingRow : List ℕ
+abbrev pub vestingRow : List ℕ
 vestingRow = 0 ∷ 0x19 ∷ 0x25 ∷ 0 ∷ zeros 384
 
-abbrev nccRow : List ℕ
+abbrev pub nccRow : List ℕ
 nccRow = 0x19 ∷ 0x25 ∷ zeros 192
 
-abbrev residualRow : List ℕ
+abbrev pub residualRow : List ℕ
 residualRow = 0 ∷ 0x19 ∷ 0x25 ∷ zeros 768
 
 pub record Table : Type 0 where
@@ -94,7 +98,29 @@ pub record Refusals : Type 0 where
   -- an account out of range comes before a day that is cut, a value out of range before a cut later in its row
   pub accountFirst : returns 9497 (1 ∷ 0 ∷ 3 ∷ 0x19 ∷ []) 5 2
   pub valueFirst : returns 9497 (1 ∷ 0 ∷ 0 ∷ 0x19 ∷ 0x25 ∷ 0 ∷ 255 ∷ 255 ∷ 255 ∷ 255 ∷ 0 ∷ []) 5 6
+  -- a row repeated comes before its count
+  pub repeatFirst : returns 9497 (2 ∷ 0 ∷ vestingRow ++ (0 ∷ 0x19 ∷ 0x25 ∷ 4 ∷ [])) 7 391
   pub valueCut : returns 9497 (1 ∷ 0 ∷ 0 ∷ 0x19 ∷ 0x25 ∷ 0 ∷ 1 ∷ 0 ∷ 0 ∷ 0 ∷ 0 ∷ []) 4 10
+
+-- more accounts, days and rows
+abbrev vestingOf : ℕ → List ℕ
+vestingOf a = a ∷ 0x1D ∷ 0x25 ∷ 0 ∷ zeros 384
+
+pub record ThreeAccounts : Type 0 where
+  -- accounts 0 to 2 on one day, 9,501
+  pub sameDay : returnsThree (3 ∷ 0 ∷ vestingOf 0 ++ (vestingOf 1 ++ (vestingOf 2 ++ zeros 6))) 0 0
+  pub noFourth : returnsThree (1 ∷ 0 ∷ 3 ∷ []) 5 2
+  -- vesting days are 9,500 to 9,502, residual and NCC days from 9,498 on
+  pub before : returnsThree (1 ∷ 0 ∷ 0 ∷ 0x1B ∷ 0x25 ∷ []) 6 3
+  pub first : returnsThree (1 ∷ 0 ∷ 0 ∷ 0x1C ∷ 0x25 ∷ []) 4 5
+  pub last : returnsThree (1 ∷ 0 ∷ 0 ∷ 0x1E ∷ 0x25 ∷ []) 4 5
+  pub after : returnsThree (1 ∷ 0 ∷ 0 ∷ 0x1F ∷ 0x25 ∷ []) 6 3
+  pub residualBefore : returnsThree (zeros 4 ++ (1 ∷ 0 ∷ 0 ∷ 0x19 ∷ 0x25 ∷ [])) 6 7
+  pub residualFirst : returnsThree (zeros 4 ++ (1 ∷ 0 ∷ 0 ∷ 0x1A ∷ 0x25 ∷ [])) 4 9
+  pub nccBefore : returnsThree (zeros 6 ++ (1 ∷ 0 ∷ 0x19 ∷ 0x25 ∷ [])) 6 8
+  pub nccFirst : returnsThree (zeros 6 ++ (1 ∷ 0 ∷ 0x1A ∷ 0x25 ∷ [])) 4 10
+  -- 256 rows: a count has two bytes, and the first row's day is 0
+  pub manyRows : returnsThree (0 ∷ 1 ∷ zeros 6) 6 3
 
 pub refusals : Refusals
 unfolding judged judgedSection judgedRow rowAfter rest given key fieldIn value upTo num rowEnd rowPos sectionEnd turns valueAt signed32
@@ -109,6 +135,7 @@ refusals = record {
   dayBefore = refl;
   accountFirst = refl;
   valueFirst = refl;
+  repeatFirst = refl;
   valueCut = refl;
 }
 
@@ -128,4 +155,20 @@ table = record {
   nccTooLate = refl;
   residualTooLate = refl;
   finished = refl;
+}
+
+pub three-accounts : ThreeAccounts
+unfolding judged judgedSection judgedRow rowAfter rest given key fieldIn value upTo num rowEnd rowPos sectionEnd turns valueAt signed32
+three-accounts = record {
+  sameDay = refl;
+  noFourth = refl;
+  before = refl;
+  first = refl;
+  last = refl;
+  after = refl;
+  residualBefore = refl;
+  residualFirst = refl;
+  nccBefore = refl;
+  nccFirst = refl;
+  manyRows = refl;
 }

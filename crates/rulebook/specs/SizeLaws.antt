@@ -1,140 +1,182 @@
--- The amounts of figures in range are in range. Assumes nothing.
-use mathlib.Core.Path.{_≡_, subst}
+-- Data in range give amounts in range: V, R, shares, each product, each partial sum, the running total over intervals, the posted amount.
+-- Every bound is far below 2 ^ 63. Assumes nothing.
 use mathlib.Core.Bool.{Bool, true, false, cond}
-use Prim.Native.Nat.{ℕ, _+_, _-_, _*_, _≤_, _<_, _%_}
+use Prim.Native.Nat.{ℕ, _+_, _*_, _≤_, _<_}
+use native.Mathlib.Nat.{mul-le-mul}
 use native.Mathlib.Omega.{arith}
-use lib.IntN.{ℤ, pos, negsuc, _+ℤ_, _-ℤ_, _*ℤ_, natAbs}
-use lib.Dec.{T, leb, leb→le}
-use Rattle.integer.specs.IntegerLaws.{abs-add, abs-sub, abs-mul-le}
-use Rattle.integer.specs.Below.{sumℤ}
-use Rattle.integer.specs.BelowLaws.{abs-sumℤ}
+use lib.Dec.{T}
+use lib.IntN.{ℤ, pos, natAbs, _+ℤ_, _-ℤ_, _*ℤ_}
+use Rattle.integer.specs.IntegerLaws.{abs-add, abs-sub, abs-mul-le, parts, sub-parts}
+use Rattle.integer.specs.Below.{sumℕ, sumℤ}
+use Rattle.integer.specs.BelowLaws.{sumℕ-le, abs-sumℤ}
 use Rattle.integer.specs.NearestLaws.{nearest-abs}
-use Rattle.rulebook.specs.declared.Section.{Section}
-use Rattle.rulebook.specs.declared.Section.the-variants.{Vesting, Meter}
-use Rattle.rulebook.specs.declared.Kind.the-variants.{Quantity, Price}
 use Rattle.rulebook.specs.declared.Terms.{Terms}
-use Rattle.rulebook.specs.declared.Kind.{Kind}
-use Rattle.rulebook.specs.Units.{inRange, mostQuantity, mostPrice, nearest, positive, asQuantity}
+use Rattle.rulebook.specs.Units.{mostQuantity, mostLoad, mostPrice, nearest, positive}
+use Rattle.rulebook.specs.ReferencePrice.{weight}
 use Rattle.rulebook.specs.Tranches.{tranche1, tranche2}
-use Rattle.rulebook.specs.DayAmount.{AccountData, SettlementData, referencePriceOf, vestingAmount, residualLoad, rvq, residualAmount, residualDue, residualDay, intervalAmount, exactAmount, postedAmount}
-use Rattle.rulebook.specs.Sections.{accountsOf, valueInRange, kindOf, Figure, BVQ, BVP, TVQ, TVP, MEP, UEGQ, RVP1, RVP2, figureSection, figurePlace}
-use Rattle.rulebook.specs.Layout.{flagIndex}
-use Rattle.rulebook.specs.BookData.{Entries, entryNamed, dataOf}
+use Rattle.rulebook.specs.DayAmount.{AccountData, SettlementData, referencePriceOf, vestedQuantity, vestingAmount, residualLoad, rvq, residualAmount, residualDue, residualDay, intervalAmount, exactAmount, postedAmount}
 use Rattle.rulebook.specs.WellFormed.{dayBound}
 use Rattle.rulebook.specs.ReferencePriceLaws.{price-size}
 use Rattle.rulebook.specs.SharesLaws.{share-le}
 use Rattle.rulebook.specs.TranchesLaws.{tranche-split}
-use Rattle.rulebook.specs.TestLaws.{and-left, and-right}
-use Rattle.rulebook.specs.RowWordLaws.{Usable}
 
--- ---- One interval
+-- ---- One account's interval
 
--- figures of an account in range
-pub record Sized (f : AccountData) : Type 0 where
-  pub bvq : f .bvq ≤ mostQuantity
-  pub bvp : natAbs (f .bvp) ≤ mostPrice
-  pub tvq : (t : ℕ) → t < 3 → f .tvq t ≤ mostQuantity
-  pub tvp : (t : ℕ) → t < 3 → natAbs (f .tvp t) ≤ mostPrice
-  pub few : f .facilities ≤ 4
-  pub mep : (k : ℕ) → k < 4 → natAbs (f .mep k) ≤ mostPrice
-  pub uegq : f .uegq ≤ mostQuantity
-  pub rvp1 : natAbs (f .rvp1) ≤ mostPrice
-  pub rvp2 : natAbs (f .rvp2) ≤ mostPrice
+-- an account's data in range
+pub record Sized (x : AccountData) : Type 0 where
+  pub bvq : x .bvq ≤ mostQuantity
+  pub bvp : natAbs (x .bvp) ≤ mostPrice
+  pub tvq : (t : ℕ) → t < 3 → x .tvq t ≤ mostQuantity
+  pub tvp : (t : ℕ) → t < 3 → natAbs (x .tvp t) ≤ mostPrice
+  pub few : x .facilities ≤ 4
+  pub mep : (f : ℕ) → f < 4 → natAbs (x .mep f) ≤ mostPrice
+  pub ieq : (f : ℕ) → f < 4 → natAbs (x .ieq f) ≤ mostQuantity
+  pub uegq : x .uegq ≤ mostQuantity
+  pub mq : x .mq ≤ mostQuantity
+  pub rvp1 : natAbs (x .rvp1) ≤ mostPrice
+  pub rvp2 : natAbs (x .rvp2) ≤ mostPrice
 
-module _ (f : AccountData) (h : Sized f) where
-  pub price-sized : natAbs (referencePriceOf f) ≤ mostPrice
+module _ (x : AccountData) (h : Sized x) where
+  -- the first n facilities: weights, weighted sum, sum of MEP
+  weight-size : (f : ℕ) → f < 4 → weight (x .ieq f) ≤ mostQuantity
+  weight-size f l = omega (arith, parts (x .ieq f) .abs, h .ieq f l)
+
+  pub weights-size : (n : ℕ) → n ≤ 4 → sumℕ n (λ f. weight (x .ieq f)) ≤ n * 10000000
+  weights-size n l = sumℕ-le n 10000000 (λ f. weight (x .ieq f)) (λ f b. weight-size f (omega arith))
+
+  pub weighted-size : (n : ℕ) → n ≤ 4 → natAbs (sumℤ n (λ f. x .mep f *ℤ pos (weight (x .ieq f)))) ≤ n * 10000000000000
+  weighted-size n l = abs-sumℤ n 10000000000000 (λ f. x .mep f *ℤ pos (weight (x .ieq f)))
+      (λ f b. abs-mul-le (x .mep f) (pos (weight (x .ieq f))) 1000000 10000000 (h .mep f (omega arith)) (weight-size f (omega arith)))
+
+  pub prices-size : (n : ℕ) → n ≤ 4 → natAbs (sumℤ n (x .mep)) ≤ n * 1000000
+  prices-size n l = abs-sumℤ n 1000000 (x .mep) (λ f b. h .mep f (omega arith))
+
+  -- V
+  pub price-sized : natAbs (referencePriceOf x) ≤ mostPrice
   unfolding referencePriceOf
-  price-sized = price-size (f .facilities) (f .mep) (f .ieq) (λ k x. h .mep k (omega (arith, h .few)))
+  price-sized = price-size (x .facilities) (x .mep) (x .ieq) (λ f l. h .mep f (omega (arith, h .few)))
 
-  -- a referencePriceOf difference times a quantity
-  pub priced : (x : ℤ) (y b : ℕ) → natAbs x ≤ mostPrice → y ≤ b → natAbs ((x -ℤ referencePriceOf f) *ℤ pos y) ≤ 2000000 * b
-  priced x y b hx hy = abs-mul-le (x -ℤ referencePriceOf f) (pos y) 2000000 b (omega (arith, abs-sub x (referencePriceOf f), price-sized)) hy
+  -- a price less V, and that times a quantity
+  pub difference-size : (p : ℤ) → natAbs p ≤ mostPrice → natAbs (p -ℤ referencePriceOf x) ≤ 2000000
+  difference-size p l = omega (arith, abs-sub p (referencePriceOf x), price-sized)
 
-  pub vesting-size : natAbs (vestingAmount f) ≤ 80000000000000
+  pub priced : (p : ℤ) (q most : ℕ) → natAbs p ≤ mostPrice → q ≤ most → natAbs ((p -ℤ referencePriceOf x) *ℤ pos q) ≤ 2000000 * most
+  priced p q most hp hq = abs-mul-le (p -ℤ referencePriceOf x) (pos q) 2000000 most (difference-size p hp) hq
+
+  pub base-size : natAbs ((x .bvp -ℤ referencePriceOf x) *ℤ pos (x .bvq)) ≤ 20000000000000
+  base-size = priced (x .bvp) (x .bvq) mostQuantity (h .bvp) (h .bvq)
+
+  pub tender-size : (t : ℕ) → t < 3 → natAbs ((x .tvp t -ℤ referencePriceOf x) *ℤ pos (x .tvq t)) ≤ 20000000000000
+  tender-size t l = priced (x .tvp t) (x .tvq t) mostQuantity (h .tvp t l) (h .tvq t l)
+
+  -- the first n tenders
+  pub tenders-size : (n : ℕ) → n ≤ 3 → natAbs (sumℤ n (λ t. (x .tvp t -ℤ referencePriceOf x) *ℤ pos (x .tvq t))) ≤ n * 20000000000000
+  tenders-size n l = abs-sumℤ n 20000000000000 (λ t. (x .tvp t -ℤ referencePriceOf x) *ℤ pos (x .tvq t)) (λ t b. tender-size t (omega arith))
+
+  -- with the base contract
+  pub vesting-partial-size : (n : ℕ) → n ≤ 3
+      → natAbs ((x .bvp -ℤ referencePriceOf x) *ℤ pos (x .bvq) +ℤ sumℤ n (λ t. (x .tvp t -ℤ referencePriceOf x) *ℤ pos (x .tvq t))) ≤ 20000000000000 + n * 20000000000000
+  vesting-partial-size n l = omega (
+    arith,
+    base-size,
+    tenders-size n l,
+    abs-add ((x .bvp -ℤ referencePriceOf x) *ℤ pos (x .bvq)) (sumℤ n (λ t. (x .tvp t -ℤ referencePriceOf x) *ℤ pos (x .tvq t))),
+  )
+
+  pub vesting-size : natAbs (vestingAmount x) ≤ 80000000000000
   unfolding vestingAmount
-  vesting-size =
-      let x = priced (f .bvp) (f .bvq) mostQuantity (h .bvp) (h .bvq) in
-      let y = abs-sumℤ 3 20000000000000 (λ t. (f .tvp t -ℤ referencePriceOf f) *ℤ pos (f .tvq t)) (λ t b. priced (f .tvp t) (f .tvq t) mostQuantity (h .tvp t b) (h .tvq t b)) in
-      omega (arith, abs-add ((f .bvp -ℤ referencePriceOf f) *ℤ pos (f .bvq)) (sumℤ 3 (λ t. (f .tvp t -ℤ referencePriceOf f) *ℤ pos (f .tvq t))))
+  vesting-size = vesting-partial-size 3 (omega arith)
 
-module _ (load n : ℕ) (f : ℕ → AccountData) (a : ℕ) (h : Sized (f a)) where
-  pub rvq-size : rvq load n f a ≤ f a .uegq
-  unfolding rvq
-  rvq-size = share-le (residualLoad load n f) n (λ c. f c .uegq) a
+  pub vested-size : vestedQuantity x ≤ 40000000
+  unfolding vestedQuantity
+  vested-size = omega (arith, h .bvq, sumℕ-le 3 10000000 (x .tvq) (h .tvq))
 
-  pub residual-size : natAbs (residualAmount load n f a) ≤ 20000000000000
-  unfolding residualAmount
-  residual-size =
-      let v : ℕ = rvq load n f a in
-      let b : ℕ = f a .bvq in
-      let m : ℕ = f a .mq in
-      let s = rvq-size in
-      let t = tranche-split v b m .whole in
-      let x = priced (f a) h (f a .rvp1) (tranche1 v b m) (tranche1 v b m) (h .rvp1) (omega arith) in
-      let y = priced (f a) h (f a .rvp2) (tranche2 v b m) (tranche2 v b m) (h .rvp2) (omega arith) in
-      omega (arith, abs-add ((f a .rvp1 -ℤ referencePriceOf (f a)) *ℤ pos (tranche1 v b m)) ((f a .rvp2 -ℤ referencePriceOf (f a)) *ℤ pos (tranche2 v b m)), h .uegq)
+-- ---- All accounts' interval
+
+module _ (load n : ℕ) (x : ℕ → AccountData) (h : (b : ℕ) → b < n → Sized (x b)) where
+  -- the first m accounts: vested quantities, UEGQ
+  pub all-vested-size : (m : ℕ) → m ≤ n → sumℕ m (λ b. vestedQuantity (x b)) ≤ m * 40000000
+  all-vested-size m l = sumℕ-le m 40000000 (λ b. vestedQuantity (x b)) (λ b k. vested-size (x b) (h b (omega arith)))
+
+  pub spare-size : (m : ℕ) → m ≤ n → sumℕ m (λ b. x b .uegq) ≤ m * 10000000
+  spare-size m l = sumℕ-le m 10000000 (λ b. x b .uegq) (λ b k. h b (omega arith) .uegq)
+
+  -- R, from −1,280,000,000 to 1,000,000,000
+  pub residual-load-size : n ≤ 32 → load ≤ mostLoad → (natAbs (residualLoad load n x) ≤ 1280000000) × (positive (residualLoad load n x) ≤ 1000000000)
+  unfolding residualLoad
+  residual-load-size few l =
+      let s : ℕ = sumℕ n (λ b. vestedQuantity (x b)) in
+      let b = all-vested-size n (omega arith) in
+      let p = sub-parts (pos load) (pos s) in
+      let q = parts (pos load -ℤ pos s) in
+      (omega arith, omega arith)
+
+  module _ (a : ℕ) (la : a < n) where
+    -- R × UEGQ
+    pub share-product-size : n ≤ 32 → load ≤ mostLoad → positive (residualLoad load n x) * x a .uegq ≤ 10000000000000000
+    share-product-size few l = mul-le-mul (residual-load-size few l .1) (h a la .uegq)
+
+    pub rvq-size : rvq load n x a ≤ x a .uegq
+    unfolding rvq
+    rvq-size = share-le (residualLoad load n x) n (λ b. x b .uegq) a
+
+    pub tranches-size : tranche1 (rvq load n x a) (x a .bvq) (x a .mq) + tranche2 (rvq load n x a) (x a .bvq) (x a .mq) ≤ 10000000
+    tranches-size = omega (arith, tranche-split (rvq load n x a) (x a .bvq) (x a .mq) .whole, rvq-size, h a la .uegq)
+
+    pub first-tranche-size : natAbs ((x a .rvp1 -ℤ referencePriceOf (x a)) *ℤ pos (tranche1 (rvq load n x a) (x a .bvq) (x a .mq))) ≤ 20000000000000
+    first-tranche-size = priced (x a) (h a la) (x a .rvp1) (tranche1 (rvq load n x a) (x a .bvq) (x a .mq)) mostQuantity (h a la .rvp1) (omega (arith, tranches-size))
+
+    pub second-tranche-size : natAbs ((x a .rvp2 -ℤ referencePriceOf (x a)) *ℤ pos (tranche2 (rvq load n x a) (x a .bvq) (x a .mq))) ≤ 20000000000000
+    second-tranche-size = priced (x a) (h a la) (x a .rvp2) (tranche2 (rvq load n x a) (x a .bvq) (x a .mq)) mostQuantity (h a la .rvp2) (omega (arith, tranches-size))
+
+    -- both together are of no more than RVQ
+    pub residual-size : natAbs (residualAmount load n x a) ≤ 20000000000000
+    unfolding residualAmount
+    residual-size =
+        let t : ℕ = tranche1 (rvq load n x a) (x a .bvq) (x a .mq) in
+        let u : ℕ = tranche2 (rvq load n x a) (x a .bvq) (x a .mq) in
+        let s = tranches-size in
+        let y = priced (x a) (h a la) (x a .rvp1) t t (h a la .rvp1) (omega arith) in
+        let z = priced (x a) (h a la) (x a .rvp2) u u (h a la .rvp2) (omega arith) in
+        omega (arith, abs-add ((x a .rvp1 -ℤ referencePriceOf (x a)) *ℤ pos t) ((x a .rvp2 -ℤ referencePriceOf (x a)) *ℤ pos u))
 
 -- ---- The day
+
+-- the accounts' data of day d are in range
+abbrev pub SizedDay : ℕ → SettlementData → ℕ → Type 0
+SizedDay n x d = (a i : ℕ) → a < n → i < 48 → Sized (x .account a d i)
 
 posted-bound : (z : ℤ) → natAbs z ≤ 4800000000000000 → natAbs (nearest z 1000) ≤ 4800000000000
 posted-bound z h = rw nearest-abs (omega arith)
 
--- the figures of day d are in range
-abbrev pub SizedDay : ℕ → SettlementData → ℕ → Type 0
-SizedDay n g d = (a i : ℕ) → a < n → i < 48 → Sized (g .account a d i)
+module _ (o : Terms) (x : SettlementData) (D : ℕ) (now : SizedDay (o .accounts) x D) (then : T (residualDue o D) → SizedDay (o .accounts) x (residualDay o D)) where
+  module _ (a : ℕ) (la : a < o .accounts) where
+    pub interval-size : (i : ℕ) → i < 48 → natAbs (intervalAmount o x a D i) ≤ 100000000000000
+    unfolding intervalAmount
+    interval-size i hi = go (residualDue o D) then
+      where
+        go : (b : Bool) → (T b → SizedDay (o .accounts) x (residualDay o D))
+            → natAbs (vestingAmount (x .account a D i) +ℤ cond b (residualAmount (x .load (residualDay o D) i) (o .accounts) (λ b. x .account b (residualDay o D) i) a) (pos 0)) ≤ 100000000000000
+        go true r = omega (
+          arith,
+          abs-add (vestingAmount (x .account a D i)) (residualAmount (x .load (residualDay o D) i) (o .accounts) (λ b. x .account b (residualDay o D) i) a),
+          vesting-size (x .account a D i) (now a i la hi),
+          residual-size (x .load (residualDay o D) i) (o .accounts) (λ b. x .account b (residualDay o D) i) (λ b k. r tt b i k hi) a la,
+        )
+        go false r = omega (arith, abs-add (vestingAmount (x .account a D i)) (pos 0), vesting-size (x .account a D i) (now a i la hi))
 
-module _ (o : Terms) (g : SettlementData) (D : ℕ) (now : SizedDay (o .accounts) g D) (then : T (residualDue o D) → SizedDay (o .accounts) g (residualDay o D)) where
-  pub posted-size : (a : ℕ) → a < o .accounts → natAbs (postedAmount o g a D) ≤ dayBound
-  unfolding postedAmount exactAmount intervalAmount
-  posted-size a ha = posted-bound (exactAmount o g a D) (abs-sumℤ 48 100000000000000 _ (λ i hi. go i hi (residualDue o D) then))
-    where
-      go : (i : ℕ) → i < 48 → (b : Bool) → (T b → SizedDay (o .accounts) g (residualDay o D))
-          → natAbs (vestingAmount (g .account a D i) +ℤ cond b (residualAmount (g .load (residualDay o D) i) (o .accounts) (λ b. g .account b (residualDay o D) i) a) (pos 0)) ≤ 100000000000000
-      go i hi true r = omega (
-        arith,
-        abs-add (vestingAmount (g .account a D i)) (residualAmount (g .load (residualDay o D) i) (o .accounts) (λ b. g .account b (residualDay o D) i) a),
-        vesting-size (g .account a D i) (now a i ha hi),
-        residual-size (g .load (residualDay o D) i) (o .accounts) (λ b. g .account b (residualDay o D) i) a (r tt a i ha hi),
-      )
-      go i hi false r = omega (arith, abs-add (vestingAmount (g .account a D i)) (pos 0), vesting-size (g .account a D i) (now a i ha hi))
+    -- the running total after n intervals
+    pub running-size : (n : ℕ) → n ≤ 48 → natAbs (sumℤ n (intervalAmount o x a D)) ≤ n * 100000000000000
+    running-size n l = abs-sumℤ n 100000000000000 (intervalAmount o x a D) (λ i hi. interval-size i (omega arith))
 
--- ---- Entries in range, by name
+    pub exact-size : natAbs (exactAmount o x a D) ≤ 4800000000000000
+    unfolding exactAmount
+    exact-size = running-size 48 (omega arith)
 
-quantity-size : (z : ℤ) → T (inRange Quantity z) → asQuantity z ≤ mostQuantity
-quantity-size (pos n) t = leb→le n 10000000 (and-right (leb 0 n) (leb n 10000000) t)
-quantity-size (negsuc n) t = absurd t
+    pub posted-size : natAbs (postedAmount o x a D) ≤ dayBound
+    unfolding postedAmount
+    posted-size = posted-bound (exactAmount o x a D) exact-size
 
-price-bound : (z : ℤ) → T (inRange Price z) → natAbs z ≤ mostPrice
-price-bound (pos n) t = leb→le n 1000000 t
-price-bound (negsuc n) t = omega (arith, leb→le n 999999 (and-left (leb n 999999) true t))
-
--- the words of day d are in range
-pub record RangedEntries (n : ℕ) (c : Entries) (d : ℕ) : Type 0 where
-  pub ranged : (g : Figure) (a i : ℕ) → Usable g → a < accountsOf (figureSection g) n → i < 48 → T (valueInRange (figureSection g) (figurePlace g) (entryNamed c a d i g))
-  pub few : (a i : ℕ) → a < n → i < 48 → positive (c Meter a d i (flagIndex Meter)) ≤ 4
-
-quantity-place : (s : Section) (k : ℕ) (z : ℤ) → kindOf s k ≡ Quantity → T (valueInRange s k z) → asQuantity z ≤ mostQuantity
-quantity-place s k z e t = quantity-size z (subst (λ (y : Kind). T (inRange y z)) e t)
-
-price-place : (s : Section) (k : ℕ) (z : ℤ) → kindOf s k ≡ Price → T (valueInRange s k z) → natAbs z ≤ mostPrice
-price-place s k z e t = price-bound z (subst (λ (y : Kind). T (inRange y z)) e t)
-
--- what a place's remainder says of its kind
-even : (k : ℕ) → k % 2 ≡ 0 → (kindOf Vesting k ≡ Quantity) × (kindOf Meter k ≡ Price)
-even k e = (rw e, rw e)
-
-odd : (k : ℕ) → k % 2 ≡ 1 → kindOf Vesting k ≡ Price
-odd k e = rw e
-
-pub data-sized : (n : ℕ) (c : Entries) (d : ℕ) → RangedEntries n c d → SizedDay n (dataOf c) d
-data-sized n c d h a i ha hi = record {
-  bvq = quantity-size (entryNamed c a d i BVQ) (h .ranged BVQ a i tt ha hi);
-  bvp = price-bound (entryNamed c a d i BVP) (h .ranged BVP a i tt ha hi);
-  tvq = λ t b. quantity-place Vesting (2 + 2 * t) (entryNamed c a d i (TVQ t)) (even (2 + 2 * t) (omega arith) .0) (h .ranged (TVQ t) a i b ha hi);
-  tvp = λ t b. price-place Vesting (3 + 2 * t) (entryNamed c a d i (TVP t)) (odd (3 + 2 * t) (omega arith)) (h .ranged (TVP t) a i b ha hi);
-  few = h .few a i ha hi;
-  mep = λ f b. price-place Meter (2 * f) (entryNamed c a d i (MEP f)) (even (2 * f) (omega arith) .1) (h .ranged (MEP f) a i b ha hi);
-  uegq = quantity-size (entryNamed c a d i UEGQ) (h .ranged UEGQ a i tt ha hi);
-  rvp1 = price-bound (entryNamed c a d i RVP1) (h .ranged RVP1 a i tt ha hi);
-  rvp2 = price-bound (entryNamed c a d i RVP2) (h .ranged RVP2 a i tt ha hi);
-}
+  -- the first n accounts' posted amounts
+  pub posted-sum-size : (n : ℕ) → n ≤ o .accounts → natAbs (sumℤ n (λ a. postedAmount o x a D)) ≤ n * dayBound
+  posted-sum-size n l = abs-sumℤ n dayBound (λ a. postedAmount o x a D) (λ a k. posted-size a (omega arith))

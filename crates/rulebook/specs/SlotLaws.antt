@@ -25,7 +25,7 @@ use Rattle.rulebook.specs.LayoutLaws.{InWindow, row-inside}
 use Rattle.rulebook.specs.RingLaws.{placeOf, day-place}
 use Rattle.rulebook.specs.LedgerLaws.{Padding, ofInterval, ofAccount}
 use Rattle.rulebook.specs.KeptLaws.{zero-ranged}
-use Rattle.rulebook.specs.SizeLaws.{RangedEntries}
+use Rattle.rulebook.specs.RangeLaws.{RangedEntries}
 
 pub row-in-interval : (o : Terms) (s : Section) (a j : ℕ) → a < accountsOf s (o .accounts) → j < width s → place s a j < intervalSize o
 unfolding intervalSize
@@ -182,7 +182,7 @@ module _ (o : Terms) (w : List ℤ) (k : ℕ) (t : T (all (ring o) (windowSlotFi
     pub row-fits-at : (s : Section) (a i : ℕ) → a < accountsOf s (o .accounts) → i < 48 → T (rowFits s (slotRow o w (slot o d) i s a))
     row-fits-at s a i ha hi = interval-row o w (slot o d) i (all-at 48 (intervalFits o w (slot o d)) intervals-fit i hi) s a ha
 
-    -- the cells of a day of the window are in range
+    -- the words of a day of the window are in range
     pub entries-ranged : RangedEntries (o .accounts) (entriesOf o w) d
     unfolding rowWord
     entries-ranged = record {

@@ -13,6 +13,7 @@ use Rattle.rulebook.specs.declared.OpenAnswer.the-variants.{Opened, BadT
 use Rattle.rulebook.specs.Units.{lastDay}
 use Rattle.rulebook.specs.Terms.{termsFit, InTerms}
 use Rattle.rulebook.specs.Layout.{size}
+use Rattle.rulebook.specs.WellFormed.{wellFormed}
 use Rattle.rulebook.specs.Opening.{newBook, opened, Opening}
 use Rattle.rulebook.specs.Numbers.{Answer, accepted, ofOpen}
 use Rattle.rulebook.specs.History.{closes, inForce, formulaBalance, residualCounts}
@@ -23,7 +24,7 @@ use Rattle.rulebook.specs.FormLaws.{ring-pos}
 use Rattle.rulebook.specs.OpeningLaws.{book-new, sum-zero, new-word}
 use Rattle.rulebook.specs.StepLaws.{some-none}
 use Rattle.rulebook.specs.BeyondLaws.{kept-all, new-beyond}
-use Rattle.rulebook.specs.StateLaws.{State}
+use Rattle.rulebook.specs.StateLaws.{State, formed}
 
 pub opened-terms : (o : Terms) → T (termsFit o) → InTerms o
 unfolding termsFit
@@ -56,6 +57,10 @@ module _ (o : Terms) (t : InTerms o) (lent : List ℤ) (l : size o ≤ length le
     counted = sym (ap (λ (x : ℕ). 48 * o .accounts * x) (zero-sub (o .lag)) ∙ mul-zero (48 * o .accounts));
     reported = tt;
   }
+
+-- it is well formed
+pub new-formed : (o : Terms) → InTerms o → (lent : List ℤ) → size o ≤ length lent → T (wellFormed (newBook o lent))
+new-formed o t lent l = subst T (sym (formed o t [] (newBook o lent) (new-state o t lent l))) tt
 
 -- an accepted opening: its terms are in range, the lent words have the size, and the book is new
 pub accepted-opening : (o : Terms) (lent : List ℤ) → ofOpen (opened o lent .answer) .number ≡ accepted → T (termsFit o) × (size o ≤ length lent) × (opened o lent .words ≡ newBook o lent)

@@ -58,6 +58,12 @@ pub nor-right : (a b : Bool) → T (not (a || b)) → T (not b)
 nor-right true b t = absurd t
 nor-right false b t = t
 
+-- two tests that pass alike are one
+pub tests-same : (a b : Bool) → (T a → T b) → (T b → T a) → a ≡ b
+tests-same true b f g = sym (T-path b (f tt))
+tests-same false true f g = absurd (g tt)
+tests-same false false f g = refl
+
 -- ---- Tests over the numbers below n
 
 pub all-yes : (n : ℕ) (p : ℕ → Bool) → ((i : ℕ) → i < n → T (p i)) → T (all n p)

@@ -1,89 +1,174 @@
 -- What is proved of the rule book, in one place. Assumes nothing.
 use mathlib.Core.Path.{_≡_}
-use mathlib.Core.List.{List}
-use Prim.Native.Nat.{ℕ, _≤_, _<_}
-use lib.IntN.{ℤ, natAbs}
+use mathlib.Core.List.{List, reverse}
+use Prim.Native.Nat.{ℕ, _+_, _*_, _≤_, _<_}
 use lib.Dec.{T}
-use Rattle.integer.specs.Below.{Each}
+use lib.IntN.{ℤ, pos, natAbs, _-ℤ_, _*ℤ_}
+use lib.ListN.{length}
+use Rattle.integer.specs.Below.{all, Each}
 use Rattle.integer.specs.Nearest.{IsNearest}
 use Rattle.integer.specs.NearestLaws.{nearest-is}
 use Rattle.rulebook.specs.declared.Terms.{Terms}
 use Rattle.rulebook.specs.Units.{lastDay, nearest}
-use Rattle.rulebook.specs.DayAmount.{postedAmount}
-use Rattle.rulebook.specs.Layout.{ring}
-use Rattle.rulebook.specs.BookData.{termsOf, nextDay, bookData}
-use Rattle.rulebook.specs.WellFormed.{wellFormed, dayBound}
+use Rattle.rulebook.specs.Shares.{shareOf}
+use Rattle.rulebook.specs.DayAmount.{SettlementData, exactAmount, postedAmount, msslAmount}
+use Rattle.rulebook.specs.Terms.{InTerms}
+use Rattle.rulebook.specs.Layout.{ring, slot, size}
+use Rattle.rulebook.specs.BookData.{nextDay, termsOf}
+use Rattle.rulebook.specs.WellFormed.{daysFit, wellFormed}
+use Rattle.rulebook.specs.Opening.{newBook}
 use Rattle.rulebook.specs.Submit.{submitted}
 use Rattle.rulebook.specs.Close.{closed}
-use Rattle.rulebook.specs.History.{Call}
+use Rattle.rulebook.specs.History.{Call, callsIn}
 use Rattle.rulebook.specs.Promises.{Run, historyOf, bookOf}
 use Rattle.rulebook.specs.Demand3.{Demand3OnCalls, Demand3Holds}
-use Rattle.rulebook.specs.Companion.{OpeningHolds, CompanionHolds}
+use Rattle.rulebook.specs.Companion.{OpeningHolds, CompanionHolds, KeptFrom}
+use Rattle.rulebook.specs.SearchOrder.{SearchHolds}
+use Rattle.rulebook.specs.FormedBook.{WindowDay, FormedBook}
 use Rattle.rulebook.specs.Figures.{Right, starred, starred-right}
 use Rattle.rulebook.specs.WorkedDay.{WorkedDay, worked-day}
-use Rattle.rulebook.specs.Examples.{RowExamples, row-examples, Headers, headers, Ranges, ranges}
-use Rattle.rulebook.specs.NumberExamples.{Returned, returned, Table, table, Refusals, refusals}
-use Rattle.rulebook.specs.SharesLaws.{ShareTotal, share-total}
-use Rattle.rulebook.specs.WindowWalk.{windowSlot}
-use Rattle.rulebook.specs.RingLaws.{slot-once}
-use Rattle.rulebook.specs.FormedLaws.{close-amount}
+use Rattle.rulebook.specs.Examples.{RowExamples, row-examples, Headers, headers, Balances, balances, Ranges, ranges}
+use Rattle.rulebook.specs.AmountExamples.{BoundReached, bound-reached}
+use Rattle.rulebook.specs.LayoutExamples.{Places, places, Windows, windows}
+use Rattle.rulebook.specs.BookExamples.{Days, days}
+use Rattle.rulebook.specs.FileExamples.{FiguresRead, figures-read}
+use Rattle.rulebook.specs.DataExamples.{BookRead, book-read, RowsRead, rows-read}
+use Rattle.rulebook.specs.NumberExamples.{Returned, returned, Table, table, Refusals, refusals, ThreeAccounts, three-accounts}
+use Rattle.rulebook.specs.CallExamples.{Openings, openings, LentBooks, lent-books}
+use Rattle.rulebook.specs.HistoryExamples.{Closes, closes-told, NewBooks, new-books}
+use Rattle.rulebook.specs.SharesLaws.{ShareTotal, share-total, RuleShare, share-rule}
+use Rattle.rulebook.specs.TranchesLaws.{TrancheSplit, tranche-split}
+use Rattle.rulebook.specs.DayAmountLaws.{posted-within, msslExact, mssl-within}
+use Rattle.rulebook.specs.WindowWalk.{windowSlotFits}
+use Rattle.rulebook.specs.WalkLaws.{days-are-places}
+use Rattle.rulebook.specs.WindowLaws.{SlotDay, window-days-apart, slot-day}
+use Rattle.rulebook.specs.FormedBookLaws.{formed-book, book-formed}
+use Rattle.rulebook.specs.BookSizeLaws.{CloseSized, close-sized}
+use Rattle.rulebook.specs.SearchOrderLaws.{search-holds}
 use Rattle.rulebook.specs.AnySubmitLaws.{submitted-formed}
 use Rattle.rulebook.specs.AnyCloseLaws.{closed-formed}
-use Rattle.rulebook.specs.StartLaws.{opening-told}
-use Rattle.rulebook.specs.RunLaws.{run-of}
+use Rattle.rulebook.specs.LentLaws.{CloseKeeps, submitted-beyond, closed-words-beyond}
+use Rattle.rulebook.specs.StartLaws.{opening-told, new-formed}
+use Rattle.rulebook.specs.RunLaws.{run-of, calls-of}
 use Rattle.rulebook.specs.Demand3Proof.{demand3, demand3-on-calls}
 use Rattle.rulebook.specs.CompanionProof.{companion}
 
 pub record Theorems : Type 0 where
-  -- on every list of calls after an accepted opening: balances, total, residual counts, 11 exactly when; and on every run
+  -- ---- Calls on a book
+
+  -- what an opening answers and leaves; a new book is well formed
+  pub opening : OpeningHolds
+  pub newFormed : (o : Terms) → InTerms o → (lent : List ℤ) → size o ≤ length lent → T (wellFormed (newBook o lent))
+  -- on every list of calls after an accepted opening: balances, total, residual counts, 11 exactly when
   pub demand3 : Demand3OnCalls
+  -- the same on every run of calls that keep their promises; every list of calls is such a run, and its history has these calls
   pub demand3OnRuns : Demand3Holds
+  pub everyList : (start : List ℤ) (calls : List Call) → Run start (historyOf start calls) (bookOf start calls)
+  pub theseCalls : (start : List ℤ) (calls : List Call) → callsIn (historyOf start calls) ≡ reverse calls
   -- on the same runs: each call's whole answer, statement, and what is kept
   pub companion : CompanionHolds
-  -- what an opening answers and leaves
-  pub opening : OpeningHolds
-  -- every list of calls is such a run
-  pub everyList : (start : List ℤ) (calls : List Call) → Run start (historyOf start calls) (bookOf start calls)
-  -- any well-formed lent book stays so, and what a close posts is within the bound
+  -- ---- Any well-formed lent book
+
+  -- well formed is what document 01 says, in its figures, and nothing more
+  pub formedSays : (w : List ℤ) → T (wellFormed w) → FormedBook (termsOf w) (nextDay w) w
+  pub saysFormed : (o : Terms) (C : ℕ) (w : List ℤ) → FormedBook o C w → T (wellFormed w)
+  -- stays well formed, and keeps its words beyond the size
   pub submitKeeps : (w : List ℤ) (file : List ℕ) → T (wellFormed w) → T (wellFormed (submitted w file .words))
-  pub closeKeeps : (w st : List ℤ) → T (wellFormed w) → T (wellFormed (closed w st .words))
-  pub postedFits : (w : List ℤ) → T (wellFormed w) → nextDay w ≤ lastDay → (a : ℕ) → a < termsOf w .accounts
-      → natAbs (postedAmount (termsOf w) (bookData (termsOf w) w) a (nextDay w)) ≤ dayBound
-  -- each rounding is the property that a reader knows: nearest with ties away from zero; shares at most R in all, short by fewer than N
+  pub closeKeeps : (w statement : List ℤ) → T (wellFormed w) → T (wellFormed (closed w statement .words))
+  pub submitBeyond : (w : List ℤ) (file : List ℕ) → T (wellFormed w) → KeptFrom (size (termsOf w)) w (submitted w file .words)
+  pub closeBeyond : (w statement : List ℤ) → T (wellFormed w) → CloseKeeps w statement
+  -- data and amounts in range, balances too
+  pub closeSized : (w : List ℤ) → T (wellFormed w) → nextDay w ≤ lastDay → CloseSized w
+  -- 11 is at the first flag in search order that is zero, and 0 is returned if none is
+  pub search : SearchHolds
+  -- ---- The ring
+
+  -- two days of the window share no slot; every slot is of exactly one day of the window or of none
+  pub daysApart : (o : Terms) (C : ℕ) → 1 ≤ o .horizon → o .first ≤ C → (d d′ : ℕ) → WindowDay o C d → WindowDay o C d′ → slot o d ≡ slot o d′ → d ≡ d′
+  pub slotDay : (o : Terms) (C : ℕ) → 1 ≤ o .horizon → o .first ≤ C → (v : ℕ) → v < ring o → SlotDay o C v
+  -- well formed by days is well formed place by place
+  pub daysArePlaces : (o : Terms) (w : List ℤ) (k : ℕ) → 1 ≤ o .horizon → daysFit o w (o .first + k) ≡ all (ring o) (windowSlotFits o w k)
+  -- ---- Roundings: each is the property that a reader knows
+
   pub nearestIs : (z : ℤ) (d : ℕ) → 0 < d → IsNearest z d (nearest z d)
+  pub shareRule : (r : ℤ) (s u : ℕ) → 0 < s → RuleShare r s u (shareOf r s u)
   pub shareTotal : (r : ℤ) (n : ℕ) (uegq : ℕ → ℕ) → ShareTotal r n uegq
-  -- every slot is of exactly one place in the window
-  pub slotOnce : (o : Terms) → 0 < ring o → (k v : ℕ) → v < ring o
-      → (u : ℕ) × (u < ring o) × (windowSlot o k u ≡ v) × ((u′ : ℕ) → u′ < ring o → windowSlot o k u′ ≡ v → u′ ≡ u)
-  -- document 01's starred figures, its ranges, and the examples of its table
-  pub starred : Each Right starred
+  pub tranches : (rvq bvq mq : ℕ) → TrancheSplit rvq bvq mq
+  -- posted cents are within 500 thousandths of the exact amount, the MSSL's within N × 500
+  pub postedWithin : (o : Terms) (x : SettlementData) (D a : ℕ) → natAbs (pos 1000 *ℤ postedAmount o x a D -ℤ exactAmount o x a D) ≤ 500
+  pub msslWithin : (o : Terms) (x : SettlementData) (D : ℕ) → natAbs (pos 1000 *ℤ msslAmount o x D -ℤ msslExact o x D) ≤ o .accounts * 500
+  -- ---- Figures and examples
+
+  -- the starred figures, a day worked by hand, the bound of a day reached
+  pub starredRight : Each Right starred
   pub workedDay : WorkedDay
+  pub boundReached : BoundReached
+  -- ranges, rows, headers, every word's index, the window, figures by name
   pub ranges : Ranges
+  pub rows : RowExamples
+  pub headers : Headers
+  pub places : Places
+  pub windows : Windows
+  pub balances : Balances
+  pub days : Days
+  pub figuresRead : FiguresRead
+  pub bookRead : BookRead
+  pub rowsRead : RowsRead
+  -- the table of numbers
   pub returned : Returned
   pub table : Table
   pub refusals : Refusals
-  pub rows : RowExamples
-  pub headers : Headers
+  pub threeAccounts : ThreeAccounts
+  pub openings : Openings
+  pub lentBooks : LentBooks
+  pub closes : Closes
+  pub newBooks : NewBooks
 
 pub theorems : Theorems
 theorems = record {
+  opening = opening-told;
+  newFormed = new-formed;
   demand3 = demand3-on-calls;
   demand3OnRuns = demand3;
-  companion = companion;
-  opening = opening-told;
   everyList = run-of;
+  theseCalls = calls-of;
+  companion = companion;
+  formedSays = formed-book;
+  saysFormed = book-formed;
   submitKeeps = submitted-formed;
   closeKeeps = closed-formed;
-  postedFits = close-amount;
+  submitBeyond = submitted-beyond;
+  closeBeyond = closed-words-beyond;
+  closeSized = close-sized;
+  search = search-holds;
+  daysApart = window-days-apart;
+  slotDay = slot-day;
+  daysArePlaces = days-are-places;
   nearestIs = nearest-is;
+  shareRule = share-rule;
   shareTotal = share-total;
-  slotOnce = slot-once;
-  starred = starred-right;
+  tranches = tranche-split;
+  postedWithin = posted-within;
+  msslWithin = mssl-within;
+  starredRight = starred-right;
   workedDay = worked-day;
+  boundReached = bound-reached;
   ranges = ranges;
+  rows = row-examples;
+  headers = headers;
+  places = places;
+  windows = windows;
+  balances = balances;
+  days = days;
+  figuresRead = figures-read;
+  bookRead = book-read;
+  rowsRead = rows-read;
   returned = returned;
   table = table;
   refusals = refusals;
-  rows = row-examples;
-  headers = headers;
+  threeAccounts = three-accounts;
+  openings = openings;
+  lentBooks = lent-books;
+  closes = closes-told;
+  newBooks = new-books;
 }

@@ -1,18 +1,23 @@
 -- The ring by days: two days of the window share no slot, and every slot is of exactly one day of the window or of none. Assumes nothing.
-use mathlib.Core.Path.{_≡_, sym, _∙_}
+use mathlib.Core.Path.{_≡_, sym, _∙_, subst}
+use mathlib.Core.Logic.{_⊎_, inl, inr}
+use mathlib.Core.Bool.{true, false, _||_}
+use mathlib.Core.List.{List}
 use Prim.Native.Nat.{ℕ, zero, _+_, _-_, _≤_, _<_}
 use native.Mathlib.Omega.{arith}
 use native.Mathlib.Decide.{decLe}
+use lib.Dec.{T, eqb, eqb→eq, eqb-refl}
+use lib.IntN.{ℤ}
+use Rattle.integer.specs.Below.{all}
+use Rattle.integer.specs.BelowLaws.{either}
 use Rattle.rulebook.specs.declared.Terms.{Terms}
 use Rattle.rulebook.specs.Units.{lastDay}
-use Rattle.rulebook.specs.Layout.{ring, slot, windowFrom, windowTo}
+use Rattle.rulebook.specs.Layout.{ring, slot, windowFrom, windowDays}
+use Rattle.rulebook.specs.WellFormed.{slotBlank, dayFits, isDated, daysFit}
+use Rattle.rulebook.specs.FormedBook.{WindowDay, DaysFit}
+use Rattle.rulebook.specs.TestLaws.{and-left, and-right, and-both, or-left, or-right, or-cases, all-yes, any-yes, all-at, any-at}
 use Rattle.rulebook.specs.LayoutLaws.{InWindow, days-apart}
 use Rattle.rulebook.specs.RingLaws.{turn-of, turn-inside, turned, places-apart, place-slot, place-day, placeOf, day-place}
-
--- a day of the window, C being the next day to close
-pub record WindowDay (o : Terms) (C d : ℕ) : Type 0 where
-  pub from : windowFrom o C ≤ d
-  pub to : d ≤ windowTo o C
 
 -- slot v is of one day of the window, or of none
 pub data SlotDay (o : Terms) (C v : ℕ) : Type 0 where
@@ -63,3 +68,33 @@ module _ (o : Terms) (C : ℕ) (horizon : 1 ≤ o .horizon) (begun : o .first �
           let z = day-place o k d′ (in-window d′ h′) .back in
           let l : d′ ≤ lastDay = omega (arith, h′ .to) in
           b (rw (← (same-place d′ h′ e)) (rw z l)))
+
+-- ---- Well formed by days
+
+module _ (o : Terms) (w : List ℤ) (C : ℕ) where
+  pub days-fit-say : T (daysFit o w C) → DaysFit o w C
+  unfolding daysFit isDated
+  days-fit-say t = record {
+    each = λ d h.
+        let e : windowFrom o C + (d - windowFrom o C) ≡ d = omega (arith, h .from) in
+        subst (λ (y : ℕ). T (dayFits o w C y)) e (all-at (windowDays o C) (λ i. dayFits o w C (windowFrom o C + i)) (and-left (all (windowDays o C) (λ i. dayFits o w C (windowFrom o C + i))) (all (ring o) (λ v. isDated o C v || slotBlank o w v)) t) (d - windowFrom o C) (omega (arith, h .from, h .to)));
+    others = λ v h none. or-cases (isDated o C v) (slotBlank o w v) (all-at (ring o) (λ v. isDated o C v || slotBlank o w v) (and-right (all (windowDays o C) (λ i. dayFits o w C (windowFrom o C + i))) (all (ring o) (λ v. isDated o C v || slotBlank o w v)) t) v h)
+        (λ x. let i = any-at (windowDays o C) (λ i. eqb (slot o (windowFrom o C + i)) v) x in
+        absurd (none (windowFrom o C + i .0) (record { from = omega arith; to = omega (arith, i .1) }) (eqb→eq (slot o (windowFrom o C + i .0)) v (i .2)))) (λ x. x);
+  }
+
+  pub say-days-fit : DaysFit o w C → T (daysFit o w C)
+  unfolding daysFit isDated
+  say-days-fit h = and-both (all (windowDays o C) (λ i. dayFits o w C (windowFrom o C + i))) (all (ring o) (λ v. isDated o C v || slotBlank o w v))
+      (all-yes (windowDays o C) (λ i. dayFits o w C (windowFrom o C + i)) (λ i l. h .each (windowFrom o C + i) (record { from = omega arith; to = omega arith })))
+      (all-yes (ring o) (λ v. isDated o C v || slotBlank o w v) (λ v l. go v l (either (isDated o C v))))
+    where
+      undated : (v : ℕ) → isDated o C v ≡ false → (d : ℕ) → WindowDay o C d → slot o d ≡ v → ⊥
+      undated v e d x s =
+          let q : windowFrom o C + (d - windowFrom o C) ≡ d = omega (arith, x .from) in
+          subst T e (any-yes (windowDays o C) (λ i. eqb (slot o (windowFrom o C + i)) v) (d - windowFrom o C) (omega (arith, x .from, x .to))
+          (subst (λ (y : ℕ). T (eqb (slot o y) v)) (sym q) (subst (λ (y : ℕ). T (eqb (slot o d) y)) s (eqb-refl (slot o d)))))
+
+      go : (v : ℕ) → v < ring o → (isDated o C v ≡ true) ⊎ (isDated o C v ≡ false) → T (isDated o C v || slotBlank o w v)
+      go v l (inl e) = or-left (isDated o C v) (slotBlank o w v) (subst T (sym e) tt)
+      go v l (inr e) = or-right (isDated o C v) (slotBlank o w v) (h .others v l (undated v e))

@@ -1,0 +1,36 @@
+-- Document 01, "Day amount" and "The book": the bound of a day's amount is reached, either way; R of three accounts. Computed. Assumes nothing.
+use mathlib.Core.Path.{_≡_, refl}
+use mathlib.Core.List.{[], _∷_}
+use Prim.Native.Nat.{ℕ}
+use lib.IntN.{ℤ, pos}
+use Rattle.integer.specs.Integer.{minus, withSign}
+use Rattle.integer.specs.Below.{fold}
+use Rattle.rulebook.specs.Units.{nearest}
+use Rattle.rulebook.specs.ReferencePrice.{average, referencePrice}
+use Rattle.rulebook.specs.Shares.{share, shareOf}
+use Rattle.rulebook.specs.Tranches.{tranche1, tranche2}
+use Rattle.rulebook.specs.DayAmount.{AccountData, SettlementData, referencePriceOf, vestedQuantity, vestingAmount, residualLoad, rvq, residualAmount, residualDue, intervalAmount, exactAmount, postedAmount, msslAmount}
+use Rattle.rulebook.specs.Figures.{accountData}
+use Rattle.rulebook.specs.Examples.{one}
+
+-- every quantity and price at its end, V at the other
+abbrev extreme : ℤ → ℤ → AccountData
+extreme price v =
+    accountData 10000000 price (10000000 ∷ 10000000 ∷ 10000000 ∷ []) (price ∷ price ∷ price ∷ []) (v ∷ []) (pos 1 ∷ []) 10000000 0 price price
+
+abbrev days : AccountData → SettlementData
+days x = record { account = λ a d i. x; load = λ d i. 1000000000 }
+
+pub record BoundReached : Type 0 where
+  pub most : postedAmount one (days (extreme (pos 1000000) (minus 1000000))) 0 9498 ≡ pos 4800000000000
+  pub least : postedAmount one (days (extreme (minus 1000000) (pos 1000000))) 0 9498 ≡ minus 4800000000000
+  pub mssl : msslAmount one (days (extreme (pos 1000000) (minus 1000000))) 9498 ≡ minus 4800000000000
+
+pub bound-reached : BoundReached
+unfolding fold share shareOf tranche1 tranche2 referencePrice average nearest withSign msslAmount postedAmount exactAmount intervalAmount residualDue vestingAmount vestedQuantity residualLoad rvq residualAmount referencePriceOf
+bound-reached = record { most = refl; least = refl; mssl = refl }
+
+-- 1000 less three times 10 + 1 + 2 + 4
+pub three-accounts-left : residualLoad 1000 3 (λ b. accountData 10 (pos 0) (1 ∷ 2 ∷ 4 ∷ []) [] (pos 0 ∷ []) (pos 0 ∷ []) 0 0 (pos 0) (pos 0)) ≡ pos 949
+unfolding fold residualLoad vestedQuantity
+three-accounts-left = refl

@@ -1,0 +1,48 @@
+-- Document 01, "The book": days, slots and words that are well formed or not, computed. N = 1, L = H = 1. Assumes nothing.
+use mathlib.Core.Path.{_≡_, refl}
+use mathlib.Core.Bool.{true, false}
+use mathlib.Core.List.{List, [], _∷_, _++_}
+use Prim.Native.Nat.{ℕ, _+_}
+use lib.IntN.{ℤ, pos}
+use lib.ListN.{replicate}
+use Rattle.integer.specs.Below.{fold}
+use Rattle.rulebook.specs.Layout.{base, ring, intervalSize, slot, intervalWord}
+use Rattle.rulebook.specs.WellFormed.{rowBlank, rowCounts, rowFits, sparesZero, isThere, intervalBlank, slotBlank, accountWordsFit, intervalFits, bothThere, closedRowsThere, dayFits, isDated, daysFit}
+use Rattle.rulebook.specs.Examples.{one}
+
+-- zeros, but for a 1 at an index; words past the end read 0
+abbrev with : ℕ → List ℤ
+with n = replicate n (pos 0) ++ (pos 1 ∷ [])
+
+pub record Days : Type 0 where
+  -- an open day may be blank, a closed one may not
+  pub openDay : dayFits one [] 9497 9497 ≡ true
+  pub closedDay : dayFits one [] 9498 9497 ≡ false
+  -- a new book, and one of which the first day is closed without rows
+  pub newBook : daysFit one [] 9497 ≡ true
+  pub noRows : daysFit one [] 9498 ≡ false
+  -- of a closed day both rows, of an interval: flags at 76 and 85
+  pub bothRows : closedRowsThere one (replicate 76 (pos 0) ++ (pos 1 ∷ replicate 8 (pos 0) ++ (pos 1 ∷ []))) 0 0 ≡ true
+  pub vestingAlone : closedRowsThere one (with 76) 0 0 ≡ false
+  pub meterAlone : closedRowsThere one (with 85) 0 0 ≡ false
+  -- a vesting row in one interval of an open day; the interval's spare words, 74 and 75, and the account's, 99
+  pub halfPresent : intervalFits one (with 76) 0 0 ≡ true
+  pub spare74 : intervalFits one (with 74) 0 0 ≡ false
+  pub spare75 : intervalFits one (with 75) 0 0 ≡ false
+  pub spare99 : intervalFits one (with 99) 0 0 ≡ false
+
+pub days : Days
+unfolding fold dayFits daysFit isDated closedRowsThere bothThere isThere intervalFits accountWordsFit sparesZero rowFits rowBlank rowCounts slotBlank intervalBlank base ring intervalSize slot intervalWord
+days = record {
+  openDay = refl;
+  closedDay = refl;
+  newBook = refl;
+  noRows = refl;
+  bothRows = refl;
+  vestingAlone = refl;
+  meterAlone = refl;
+  halfPresent = refl;
+  spare74 = refl;
+  spare75 = refl;
+  spare99 = refl;
+}

@@ -1,0 +1,93 @@
+-- Document 01, "Numbers returned, with examples": openings, and closes and submissions of books. Assumes nothing.
+use mathlib.Core.Path.{_≡_, refl}
+use mathlib.Core.Bool.{true, false}
+use mathlib.Core.List.{List}
+use Prim.Native.Nat.{ℕ, _+_, _≤_}
+use native.Mathlib.Omega.{arith}
+use borrow.Author.Tests.{lt-ltb, le-ltb}
+use lib.Dec.{T}
+use lib.IntN.{ℤ, pos}
+use lib.ListN.{length}
+use Rattle.integer.specs.Below.{tabulate, turns}
+use Rattle.integer.specs.Words.{word}
+use Rattle.rulebook.specs.declared.Terms.{Terms}
+use Rattle.rulebook.specs.Units.{lastDay}
+use Rattle.rulebook.specs.Terms.{termsFit}
+use Rattle.rulebook.specs.BookData.{termsOf, nextDay}
+use Rattle.rulebook.specs.WellFormed.{headerFits, fits, wellFormed}
+use Rattle.rulebook.specs.Opening.{opened}
+use Rattle.rulebook.specs.File.{num, rowPos, sectionEnd, sectionRows, fileRows}
+use Rattle.rulebook.specs.Judging.{upTo, judgedSection, judged}
+use Rattle.rulebook.specs.Submit.{rowsStored, submitted}
+use Rattle.rulebook.specs.Close.{closed}
+use Rattle.rulebook.specs.Numbers.{numbered, ofOpen, ofSubmit, ofClose}
+use Rattle.rulebook.specs.History.{closes}
+use Rattle.rulebook.specs.Examples.{two, in-two, zeros}
+use Rattle.rulebook.specs.LayoutExamples.{places}
+use Rattle.rulebook.specs.TestLaws.{T-path}
+use Rattle.rulebook.specs.StartLaws.{opening-told}
+
+-- ---- Openings
+
+abbrev terms : ℕ → ℕ → ℕ → ℕ → Terms
+terms n l h f = record { accounts = n; lag = l; horizon = h; first = f }
+
+-- what an opening of any words returns
+abbrev opens : Terms → ℕ → Type 0
+opens o number = (w : List ℤ) → ofOpen (opened o w .answer) ≡ numbered number 0
+
+pub record Openings : Type 0 where
+  pub noAccount : opens (terms 0 1 1 9497) 1
+  pub manyAccounts : opens (terms 33 1 1 9497) 1
+  pub noLag : opens (terms 2 0 1 9497) 1
+  pub longLag : opens (terms 2 76 1 9497) 1
+  pub noHorizon : opens (terms 2 1 0 9497) 1
+  pub longHorizon : opens (terms 2 1 93 9497) 1
+  pub earlyFirst : opens (terms 2 1 1 9496) 1
+  pub lateFirst : opens (terms 2 1 1 36525) 1
+  pub most : termsFit (terms 32 75 92 36524) ≡ true
+  pub short : (w : List ℤ) → length w ≡ 5071 → ofOpen (opened two w .answer) ≡ numbered 2 0
+  pub enough : (w : List ℤ) → 5072 ≤ length w → ofOpen (opened two w .answer) ≡ numbered 0 0
+
+pub openings : Openings
+unfolding opened termsFit
+openings = record {
+  noAccount = λ w. refl;
+  manyAccounts = λ w. refl;
+  noLag = λ w. refl;
+  longLag = λ w. refl;
+  noHorizon = λ w. refl;
+  longHorizon = λ w. refl;
+  earlyFirst = λ w. refl;
+  lateFirst = λ w. refl;
+  most = refl;
+  short = λ w e. opening-told two w (opened two w .words) (opened two w .answer) (record { answered = refl; bookAfter = refl }) .short .1 (in-two, omega (arith, places .sizeTwo));
+  enough = λ w e. opening-told two w (opened two w .words) (opened two w .answer) (record { answered = refl; bookAfter = refl }) .taken .1 (in-two, omega (arith, places .sizeTwo));
+}
+
+-- ---- Any lent book
+
+pub record LentBooks : Type 0 where
+  -- word 0 is 394
+  pub submitMark : (w : List ℤ) (file : List ℕ) → word w 0 ≡ pos 394 → ofSubmit (submitted w file .answer) ≡ numbered 3 0
+  pub closeMark : (w statement : List ℤ) → word w 0 ≡ pos 394 → ofClose (closed w statement .answer) ≡ numbered 3 0
+  -- a finished book, whatever the statement
+  pub finished : (w statement : List ℤ) → T (wellFormed w) → nextDay w ≡ 36525 → ofClose (closed w statement .answer) ≡ numbered 9 0
+  -- N + 1 words are needed
+  pub noRoom : (w statement : List ℤ) → T (wellFormed w) → nextDay w ≤ 36524 → length statement ≤ termsOf w .accounts → ofClose (closed w statement .answer) ≡ numbered 10 0
+  -- eight zero bytes are accepted and change nothing
+  pub eightZeros : (w : List ℤ) → T (wellFormed w) → (ofSubmit (submitted w (zeros 8) .answer) ≡ numbered 0 0) × (submitted w (zeros 8) .words ≡ w)
+
+not-formed : (w : List ℤ) → word w 0 ≡ pos 394 → wellFormed w ≡ false
+unfolding wellFormed fits headerFits
+not-formed w e = rw e refl
+
+pub lent-books : LentBooks
+unfolding submitted closed
+lent-books = record {
+  submitMark = λ w file e. rw (not-formed w e) refl;
+  closeMark = λ w statement e. rw (not-formed w e) refl;
+  finished = λ w statement t e. rw (T-path (wellFormed w) t, e) refl;
+  noRoom = λ w statement t left short. rw (T-path (wellFormed w) t, le-ltb lastDay (nextDay w) left, lt-ltb (length statement) (termsOf w .accounts + 1) (omega arith)) refl;
+  eightZeros = λ w t. unfold judged judgedSection upTo num rowPos sectionEnd turns fileRows sectionRows tabulate rowsStored in rw (T-path (wellFormed w) t) (refl, refl);
+}
