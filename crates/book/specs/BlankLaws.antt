@@ -1,8 +1,8 @@
 -- A list is blank part by part. Assumes nothing.
-use mathlib.Core.Path.{_≡_, refl, sym, ap, _∙_}
+use mathlib.Core.Path.{_≡_, sym, ap, _∙_}
 use mathlib.Core.Bool.{Bool, _&&_, and-true, and-assoc}
 use mathlib.Core.List.{List}
-use Prim.Native.Nat.{ℕ, zero, suc, _+_, _*_, _≤_, _<_}
+use Prim.Native.Nat.{ℕ, zero, suc, _+_, _*_, _≤_}
 use native.Mathlib.Nat.{add-zero, add-suc, suc-mul, zero-mul}
 use native.Mathlib.Omega.{arith}
 use lib.IntN.{ℤ}

@@ -2,7 +2,7 @@
 use mathlib.Core.Path.{_≡_, sym, subst}
 use mathlib.Core.Bool.{true}
 use mathlib.Core.List.{List}
-use Prim.Native.Nat.{ℕ, _+_, _*_, _≤_}
+use Prim.Native.Nat.{ℕ, _+_, _*_, _^_, _≤_, _<_}
 use native.Mathlib.Nat.{mul-le-mul}
 use native.Mathlib.Omega.{arith}
 use lib.Dec.{T}
@@ -11,13 +11,14 @@ use Rattle.integer.specs.Integer.{positive, negative}
 use Rattle.integer.specs.IntegerLaws.{parts, le-parts}
 use Rattle.integer.specs.Words.{word}
 use Rattle.rulebook.specs.declared.Terms.{Terms}
-use Rattle.rulebook.specs.Units.{between}
+use Rattle.rulebook.specs.Units.{lastDay, between}
+use Rattle.rulebook.specs.Shares.{mostAccounts}
 use Rattle.rulebook.specs.Terms.{InTerms}
 use Rattle.rulebook.specs.Layout.{accountsWord, lagWord, horizonWord, firstDayWord, nextDayWord}
 use Rattle.rulebook.specs.BookData.{termsOf, nextDay}
 use Rattle.rulebook.specs.TestLaws.{T-path, and-left, and-right}
 use Rattle.rulebook.specs.UnitsLaws.{between-true}
-use Rattle.rulebook.specs.WellFormed.{headerFits}
+use Rattle.rulebook.specs.WellFormed.{dayBound, headerFits}
 
 -- a number that was found from a to b
 record Natural (a b : ℕ) (z : ℤ) : Type 0 where
@@ -79,3 +80,9 @@ header-says w e =
 -- the largest book has 6,188,672 words
 pub slots-small : (o : Terms) → InTerms o → 48 * (o .lag + o .horizon) * (4 + 24 * o .accounts) ≤ 6188352
 slots-small o t = mul-le-mul {n₂ = 8016} {m₂ = 772} (omega arith) (omega arith)
+
+-- the largest bound of a balance fits a word
+pub bound-small : (n k : ℕ) → n ≤ mostAccounts → k ≤ lastDay → n * (k * dayBound) < 2 ^ 63
+bound-small n k h l =
+    let m : n * (k * dayBound) ≤ 32 * 175315200000000000 = mul-le-mul {n₂ = 32} {m₂ = 175315200000000000} h (omega arith) in
+    omega arith

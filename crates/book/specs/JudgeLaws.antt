@@ -1,18 +1,17 @@
 -- The judge's tests, one after another, are `wellFormed`. Assumes nothing.
-use mathlib.Core.Path.{_≡_, refl, sym, ap, _∙_}
-use mathlib.Core.Bool.{Bool, true, false, cond, _&&_, and-false}
+use mathlib.Core.Path.{_≡_}
+use mathlib.Core.Bool.{true, false, and-false}
 use mathlib.Core.List.{List}
-use Prim.Native.Nat.{ℕ, _+_, _-_, _*_, _≤_, _<_}
+use Prim.Native.Nat.{_+_, _-_, _*_, _≤_, _<_}
 use native.Mathlib.Omega.{arith}
 use borrow.Author.Tests.{le-leb, lt-leb}
-use lib.Dec.{leb}
 use lib.IntN.{ℤ}
 use lib.ListN.{length}
 use Rattle.rulebook.specs.declared.Terms.{Terms}
 use Rattle.rulebook.specs.Layout.{base, size}
 use Rattle.rulebook.specs.BookData.{termsOf, nextDay}
-use Rattle.rulebook.specs.WellFormed.{headerFits, daysFit, fits, wellFormed}
-use Rattle.book.specs.declared.judge.Judged.the-variants.{WellFormed, IllFormed}
+use Rattle.rulebook.specs.WellFormed.{headerFits, fits, wellFormed}
+use Rattle.book.specs.declared.judge.Judged.the-variants.{IllFormed}
 use Rattle.book.specs.Judged.{judgedBook, contentsFit}
 
 pub header-inside : (o : Terms) → 64 + 8 * o .accounts ≤ size o
@@ -29,8 +28,8 @@ module _ (w : List ℤ) where
   unfolding judgedBook wellFormed fits
   size-left h = rw (lt-leb (size (termsOf w)) (length w) h, and-false (headerFits w))
 
-  pub header-left-short : length w < 64 → IllFormed ≡ judgedBook w
-  header-left-short h = size-left (omega (arith, header-inside (termsOf w)))
+  pub length-left : length w < 64 → IllFormed ≡ judgedBook w
+  length-left h = size-left (omega (arith, header-inside (termsOf w)))
 
   -- left to the balances and the days
   module _ (e : headerFits w ≡ true) (l : size (termsOf w) ≤ length w) (begun : termsOf w .first ≤ nextDay w) where

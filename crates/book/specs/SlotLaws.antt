@@ -14,11 +14,10 @@ use Rattle.rulebook.specs.declared.Section.{Section}
 use Rattle.rulebook.specs.declared.Section.the-variants.{Vesting, Meter, Residual, Ncc}
 use Rattle.rulebook.specs.declared.Terms.{Terms}
 use Rattle.rulebook.specs.Units.{intervals}
-use Rattle.rulebook.specs.Layout.{Word, spare, isSpare, intervalTable, accountTable, accountWords, intervalWords, width, tableOf, tablePlace, place, accountPlace, intervalSize, base, intervalWord}
+use Rattle.rulebook.specs.Layout.{Word, spare, isSpare, intervalTable, accountTable, accountWords, intervalWords, width, tableOf, tablePlace, accountPlace, intervalSize, base, intervalWord}
 use Rattle.rulebook.specs.RowWordLaws.{row-word}
-use Rattle.rulebook.specs.TestLaws.{all-same}
+use Rattle.rulebook.specs.TestLaws.{all-same, tests-same}
 use Rattle.rulebook.specs.FormLaws.{fits-same}
-use Rattle.rulebook.specs.TestLaws.{tests-same}
 use Rattle.rulebook.specs.WellFormed as rule
 use Rattle.rulebook.specs.WellFormed.{isZero, rowFits, sparesZero, isThere, slotRow, accountWordsFit, bothThere, closedRowsThere, intervalBlank, slotBlank}
 use Rattle.book.specs.Parts.{part, blank, rowOf, rowsThere, accountFits, nccFits, accountsFit, intervalFits, intervalLength, intervalsFit, slotFits}

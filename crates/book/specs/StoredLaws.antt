@@ -1,5 +1,5 @@
 -- Words stored one after another, by parts. Assumes nothing.
-use mathlib.Core.Path.{_≡_, refl, sym, ap, _∙_}
+use mathlib.Core.Path.{_≡_, sym, ap, _∙_}
 use mathlib.Core.Bool.{cond}
 use mathlib.Core.Logic.{⊎-elim}
 use mathlib.Core.List.{List}
@@ -7,10 +7,10 @@ use Prim.Native.Nat.{ℕ, zero, suc, _+_, _-_, _≤_, _<_}
 use native.Mathlib.Nat.{add-zero, add-suc, zero-add}
 use native.Mathlib.Omega.{arith}
 use lib.IntN.{ℤ, pos}
-use lib.ListN.{length, set}
+use lib.ListN.{length}
 use Rattle.integer.specs.Below.{tabulate}
 use Rattle.integer.specs.BelowLaws.{lt-or-le, tabulate-of}
-use Rattle.integer.specs.Words.{word, inside, patched, onPart}
+use Rattle.integer.specs.Words.{word, inside, onPart}
 use Rattle.integer.specs.WordsLaws.{part-patched, inside-yes, inside-before, inside-after}
 use Rattle.rulebook.specs.Layout.{stored}
 use Rattle.rulebook.specs.WordLaws.{length-stored, stored-in, stored-out}

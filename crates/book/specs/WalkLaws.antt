@@ -1,5 +1,5 @@
 -- The slots as they lie are the days of the window: each slot has one place in the window, and each place one slot. Assumes nothing.
-use mathlib.Core.Path.{_≡_, refl, sym, ap, _∙_, subst}
+use mathlib.Core.Path.{_≡_, refl, sym, _∙_, subst}
 use mathlib.Core.Bool.{Bool, true, false, cond, not, _&&_, _||_}
 use mathlib.Core.List.{List}
 use Prim.Native.Nat.{ℕ, zero, _+_, _-_, _*_, _≤_, _<_}
@@ -14,10 +14,9 @@ use Rattle.integer.specs.WordsLaws.{row-fits}
 use Rattle.rulebook.specs.declared.Terms.{Terms}
 use Rattle.rulebook.specs.Units.{lastDay, intervals}
 use Rattle.rulebook.specs.Layout.{intervalWords, accountWords, intervalSize, ring, base, size}
-use Rattle.rulebook.specs.TestLaws.{all-same, all-yes, all-at}
+use Rattle.rulebook.specs.TestLaws.{all-same, all-yes, all-at, tests-same}
 use Rattle.rulebook.specs.WindowWalk.{windowSlot, windowSlotFits}
 use Rattle.rulebook.specs.RingLaws.{turn-of, turn-inside, turned, places-apart}
-use Rattle.rulebook.specs.TestLaws.{tests-same}
 use Rattle.rulebook.specs.WalkLaws.{days-are-places}
 use Rattle.rulebook.specs.WellFormed as rule
 use Rattle.rulebook.specs.WellFormed.{closedRowsThere, slotBlank, daysFit}

@@ -91,32 +91,32 @@ pub fn book_size(terms: Terms) -> usize
 }
 
 // Account a's balance within (C − F) × 4,800,000,000,000 cents either way, and its seven zeros.
-fn balance_fits(book: &[i64], closed: usize, a: usize) -> bool
-    requires { ⌜ (a < mostAccounts) × (closed ≤ lastDay) × (64 + a * 8 + 8 ≤ length (now book)) ⌝ }
-    ensures { λ r. ⌜ r ≡ accountFits (now (book .entry)) closed a ⌝ }
+fn balance_fits(book: &[i64], closes: usize, a: usize) -> bool
+    requires { ⌜ (a < mostAccounts) × (closes ≤ lastDay) × (64 + a * 8 + 8 ≤ length (now book)) ⌝ }
+    ensures { λ r. ⌜ r ≡ accountFits (now (book .entry)) closes a ⌝ }
 {
     let i = 64 + a * 8;
     let s = i + 1;
     let e = s + 7;
-    within_at(book, i, closed * 4800000000000) & is_blank(&book[s..e])
+    within_at(book, i, closes * 4800000000000) & is_blank(&book[s..e])
 }
 
 // Each account's.
-pub fn balances_fit(book: &[i64], n: usize, closed: usize) -> bool
-    requires { ⌜ (n ≤ mostAccounts) × (closed ≤ lastDay) × (64 + n * 8 ≤ length (now book)) ⌝ }
-    ensures { λ r. ⌜ r ≡ all n (accountFits (now (book .entry)) closed) ⌝ }
+pub fn balances_fit(book: &[i64], n: usize, closes: usize) -> bool
+    requires { ⌜ (n ≤ mostAccounts) × (closes ≤ lastDay) × (64 + n * 8 ≤ length (now book)) ⌝ }
+    ensures { λ r. ⌜ r ≡ all n (accountFits (now (book .entry)) closes) ⌝ }
 {
     let mut ok = true;
     for a in 0..n {
-        ok = ok & balance_fits(book, closed, a);
+        ok = ok & balance_fits(book, closes, a);
     }
     ok
 }
 
 // The MSSL's within N times that.
-pub fn mssl_fits(book: &[i64], n: usize, closed: usize) -> bool
-    requires { ⌜ (n ≤ mostAccounts) × (closed ≤ lastDay) × (64 ≤ length (now book)) ⌝ }
-    ensures { λ r. ⌜ r ≡ balanceFits n closed (word (now (book .entry)) msslWord) ⌝ }
+pub fn mssl_fits(book: &[i64], n: usize, closes: usize) -> bool
+    requires { ⌜ (n ≤ mostAccounts) × (closes ≤ lastDay) × (64 ≤ length (now book)) ⌝ }
+    ensures { λ r. ⌜ r ≡ balanceFits n closes (word (now (book .entry)) msslWord) ⌝ }
 {
-    within_at(book, 6, n * (closed * 4800000000000))
+    within_at(book, 6, n * (closes * 4800000000000))
 }

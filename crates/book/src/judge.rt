@@ -22,16 +22,16 @@ pub enum Judged {
 }
 
 // The balances and the slots, where the header fits and the words are no fewer than the size.
-fn contents_fit(book: &[i64], terms: Terms, closed: usize) -> bool
-    requires { ⌜ InTerms terms × (closed ≤ lastDay) × (size terms ≤ length (now book)) ⌝ }
-    ensures { λ r. ⌜ r ≡ contentsFit terms (now (book .entry)) closed ⌝ }
+fn contents_fit(book: &[i64], terms: Terms, closes: usize) -> bool
+    requires { ⌜ InTerms terms × (closes ≤ lastDay) × (size terms ≤ length (now book)) ⌝ }
+    ensures { λ r. ⌜ r ≡ contentsFit terms (now (book .entry)) closes ⌝ }
 {
     let n = terms.accounts;
     let base = 64 + 8 * n;
     let end = book_size(terms);
-    mssl_fits(book, n, closed)
-        & balances_fit(book, n, closed)
-        & slots_fit(&book[base..end], terms, closed)
+    mssl_fits(book, n, closes)
+        & balances_fit(book, n, closes)
+        & slots_fit(&book[base..end], terms, closes)
 }
 
 // "It is well formed if ..": of any words whatever. The header comes before the size, so a wild one is refused with no read past the end.

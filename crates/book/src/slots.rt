@@ -39,21 +39,21 @@ fn slot_fits(slot: &[i64], n: usize, dated: bool, closed: bool) -> bool
     }
 }
 
-// The place of slot v in the window of L + H days from C − L on, where some days are closed.
-fn place_of(terms: Terms, closed: usize, v: usize) -> usize
-    requires { ⌜ InTerms terms × (closed ≤ lastDay) × (v < ring terms) ⌝ }
-    ensures { λ r. ⌜ (r ≡ turn-of terms closed v) × (r < ring terms) ⌝ }
+// The place of slot v in the window of L + H days from C − L on, after some closes.
+fn place_of(terms: Terms, closes: usize, v: usize) -> usize
+    requires { ⌜ InTerms terms × (closes ≤ lastDay) × (v < ring terms) ⌝ }
+    ensures { λ r. ⌜ (r ≡ turn-of terms closes v) × (r < ring terms) ⌝ }
 {
     let ring = terms.lag + terms.horizon;
-    (v + (ring - (closed + terms.horizon) % ring)) % ring
+    (v + (ring - (closes + terms.horizon) % ring)) % ring
 }
 
 // The place is of a day from F to 36,524.
-fn is_day(terms: Terms, closed: usize, place: usize) -> bool
-    requires { ⌜ InTerms terms × (closed ≤ lastDay) × (place < ring terms) ⌝ }
-    ensures { λ r. ⌜ r ≡ isDay terms closed place ⌝ }
+fn is_day(terms: Terms, closes: usize, place: usize) -> bool
+    requires { ⌜ InTerms terms × (closes ≤ lastDay) × (place < ring terms) ⌝ }
+    ensures { λ r. ⌜ r ≡ isDay terms closes place ⌝ }
 {
-    let at = closed + place;
+    let at = closes + place;
     if at < terms.lag {
         return false;
     }
@@ -61,9 +61,9 @@ fn is_day(terms: Terms, closed: usize, place: usize) -> bool
 }
 
 // Every slot, in the order in which they lie.
-pub fn slots_fit(slots: &[i64], terms: Terms, closed: usize) -> bool
-    requires { ⌜ InTerms terms × (closed ≤ lastDay) × (length (now slots) ≡ ring terms * slotLength (terms .accounts)) ⌝ }
-    ensures { λ r. ⌜ r ≡ slotsFit terms closed (now (slots .entry)) ⌝ }
+pub fn slots_fit(slots: &[i64], terms: Terms, closes: usize) -> bool
+    requires { ⌜ InTerms terms × (closes ≤ lastDay) × (length (now slots) ≡ ring terms * slotLength (terms .accounts)) ⌝ }
+    ensures { λ r. ⌜ r ≡ slotsFit terms closes (now (slots .entry)) ⌝ }
 {
     let n = terms.accounts;
     let ring = terms.lag + terms.horizon;
@@ -72,12 +72,12 @@ pub fn slots_fit(slots: &[i64], terms: Terms, closed: usize) -> bool
     for v in 0..ring {
         let i = v * size;
         let e = i + size;
-        let place = place_of(terms, closed, v);
+        let place = place_of(terms, closes, v);
         ok = ok
             & slot_fits(
                 &slots[i..e],
                 n,
-                is_day(terms, closed, place),
+                is_day(terms, closes, place),
                 place < terms.lag,
             );
     }

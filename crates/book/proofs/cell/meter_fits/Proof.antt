@@ -1,8 +1,6 @@
 -- `meter_fits` meets its contract: by `meter-is` the row fits exactly if its flag and its four pairs do.
 use borrow.Author.Needs.{needs}
-use Rattle.rulebook.specs.declared.Section.the-variants.{Meter}
 use Rattle.book.specs.LoopLaws.{passed, left}
-use Rattle.book.specs.Parts.{rowOf}
 use Rattle.book.specs.RowLaws.{meter-is}
 use Rattle.book.proofs.cell.meter_fits.Statement.{statement}
 use Rattle.book.proofs.cell.meter_fits.Tie as tie

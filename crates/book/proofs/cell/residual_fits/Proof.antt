@@ -1,8 +1,6 @@
 -- `residual_fits` meets its contract: by `residual-is` the row fits exactly if its flag and its two pairs do.
 use borrow.Author.Needs.{needs}
-use Rattle.rulebook.specs.declared.Section.the-variants.{Residual}
 use Rattle.book.specs.LoopLaws.{passed, left}
-use Rattle.book.specs.Parts.{rowOf}
 use Rattle.book.specs.RowLaws.{residual-is}
 use Rattle.book.proofs.cell.residual_fits.Statement.{statement}
 use Rattle.book.proofs.cell.residual_fits.Tie as tie

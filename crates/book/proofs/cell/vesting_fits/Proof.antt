@@ -1,8 +1,6 @@
 -- `vesting_fits` meets its contract: by `vesting-is` the row fits exactly if its flag and its four pairs do.
 use borrow.Author.Needs.{needs}
-use Rattle.rulebook.specs.declared.Section.the-variants.{Vesting}
 use Rattle.book.specs.LoopLaws.{passed, left}
-use Rattle.book.specs.Parts.{rowOf}
 use Rattle.book.specs.RowLaws.{vesting-is}
 use Rattle.book.proofs.cell.vesting_fits.Statement.{statement}
 use Rattle.book.proofs.cell.vesting_fits.Tie as tie

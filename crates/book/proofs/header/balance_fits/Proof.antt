@@ -1,15 +1,12 @@
 -- `balance_fits` meets its contract: the balance, and the zeros, a part of the book.
-use mathlib.Core.Path.{_≡_, ap, _∙_}
-use Prim.Native.Nat.{ℕ, _+_, _*_}
+use mathlib.Core.Path.{_≡_}
+use Prim.Native.Nat.{_+_, _*_}
 use native.Mathlib.Nat.{one-mul}
 use native.Mathlib.Omega.{arith}
 use borrow.Author.Needs.{needs}
-use Rattle.integer.specs.Below.{all}
-use Rattle.integer.specs.Words.{word}
-use Rattle.rulebook.specs.WellFormed.{isZero, balanceFits, accountFits}
+use Rattle.rulebook.specs.WellFormed.{balanceFits, accountFits}
 use Rattle.book.specs.BlankLaws.{blank-part}
 use Rattle.book.specs.LoopLaws.{lent}
-use Rattle.book.specs.Parts.{blank}
 use Rattle.book.proofs.header.balance_fits.Statement.{statement}
 use Rattle.book.proofs.header.balance_fits.Tie as tie
 

@@ -10,10 +10,10 @@ use Rattle.book.proofs.header.balances_fit.Statement.{statement}
 use Rattle.book.proofs.header.balances_fit.Tie as tie
 
 abbrev Inv-loop : tie.InvT-loop
-Inv-loop book n closed ok₀ a₀ ok a = (a ≤ n) × (ok ≡ all a (accountFits book closed))
+Inv-loop book n closes ok₀ a₀ ok a = (a ≤ n) × (ok ≡ all a (accountFits book closes))
 
 abbrev μ-loop : tie.MeasureT-loop
-μ-loop book n closed ok₀ a₀ ok a = n - a
+μ-loop book n closes ok₀ a₀ ok a = n - a
 
 loop-holds : tie.Need-loop-holds Inv-loop μ-loop
 unfolding fold

@@ -1,9 +1,8 @@
--- `mssl_fits` meets its contract: 32 times the bound of 36,524 days fits a word.
-use Prim.Native.Nat.{_*_, _≤_}
-use native.Mathlib.Nat.{mul-le-mul}
+-- `mssl_fits` meets its contract: the bound of 32 accounts and 36,524 days fits a word.
 use native.Mathlib.Omega.{arith}
 use borrow.Author.Needs.{needs}
 use Rattle.rulebook.specs.WellFormed.{balanceFits}
+use Rattle.book.specs.HeaderLaws.{bound-small}
 use Rattle.book.proofs.header.mssl_fits.Statement.{statement}
 use Rattle.book.proofs.header.mssl_fits.Tie as tie
 
@@ -11,10 +10,10 @@ mul-within-at : tie.Need-mul-within-at
 mul-within-at c = search needs
 
 mul-within-at-2 : tie.Need-mul-within-at-2
-mul-within-at-2 c = let h : c .args .n * (c .args .closed * 4800000000000) ≤ 32 * 175315200000000000 = mul-le-mul {n₂ = 32} {m₂ = 175315200000000000} (omega arith) (omega arith) in omega arith
+mul-within-at-2 c = omega (arith, bound-small (c .args .n) (c .args .closes) (omega arith) (omega arith))
 
 within-at-requires : tie.Need-within-at-requires
-within-at-requires c κs = let h : c .args .n * (c .args .closed * 4800000000000) ≤ 32 * 175315200000000000 = mul-le-mul {n₂ = 32} {m₂ = 175315200000000000} (omega arith) (omega arith) in omega arith
+within-at-requires c κs = (omega arith, bound-small (c .args .n) (c .args .closes) (omega arith) (omega arith))
 
 returns : tie.Need-returns
 unfolding balanceFits

@@ -1,17 +1,14 @@
 -- `contents_fit` meets its contract: by `slots-are-days` the slots as they lie are the days of the window.
-use mathlib.Core.List.{List}
-use mathlib.Core.Path.{_≡_, sym, ap, _∙_}
-use Prim.Native.Nat.{ℕ, _+_, _-_, _*_, _≤_}
+use mathlib.Core.Path.{_≡_, _∙_}
+use Prim.Native.Nat.{_+_, _*_}
 use native.Mathlib.Omega.{arith}
 use borrow.Author.Needs.{needs}
-use lib.IntN.{ℤ}
-use lib.ListN.{length, take, drop}
 use Rattle.rulebook.specs.Layout.{ring}
 use Rattle.rulebook.specs.WellFormed.{daysFit}
 use Rattle.book.specs.JudgeLaws.{header-inside}
 use Rattle.book.specs.Judged.{contentsFit}
 use Rattle.book.specs.LoopLaws.{lent, length-lent}
-use Rattle.book.specs.Slots.{slotLength, slotsFit}
+use Rattle.book.specs.Slots.{slotLength}
 use Rattle.book.specs.WalkLaws.{size-by-slots, slots-are-days}
 use Rattle.book.proofs.judge.contents_fit.Statement.{statement}
 use Rattle.book.proofs.judge.contents_fit.Tie as tie
@@ -60,9 +57,9 @@ returns c =
     let s = c .before .before .before .before .before in
     let t = s .args .terms in
     let e = slots-end (c .before .before .before .before) in
-    let d : c .slots-fit .result ≡ daysFit t (s .args .book .now) (t .first + s .args .closed)
+    let d : c .slots-fit .result ≡ daysFit t (s .args .book .now) (t .first + s .args .closes)
     = c .slots-fit .ensures ∙ rw (e, lent (s .args .book .now) (64 + 8 * t .accounts) (ring t * slotLength (t .accounts)))
-    (slots-are-days t (s .args .book .now) (s .args .closed) (s .pre .0 .horizonFrom) (s .pre .2)) in
+    (slots-are-days t (s .args .book .now) (s .args .closes) (s .pre .0 .horizonFrom) (s .pre .2)) in
     cc
 
 pub contents-fit-spec : {M : Type 1} → statement M

@@ -1,25 +1,22 @@
 -- `judge` meets its contract: each return is the first test that fails, or the last one.
 use mathlib.Core.Path.{_≡_, sym, ap, _∙_}
-use mathlib.Core.Path.{_≡_, sym, subst}
-use Prim.Native.Nat.{_-_, _≤_}
-use Prim.Native.Nat.{_-_}
+use Prim.Native.Nat.{_≤_}
 use native.Mathlib.Omega.{arith}
 use borrow.Author.Needs.{needs}
 use lib.ListN.{length}
-use Rattle.rulebook.specs.BookData.{termsOf, nextDay}
+use Rattle.rulebook.specs.BookData.{termsOf}
 use Rattle.rulebook.specs.Layout.{size}
-use Rattle.rulebook.specs.Terms.{InTerms}
 use Rattle.rulebook.specs.WellFormed.{wellFormed}
 use Rattle.rulebook.specs.declared.Terms.{Terms}
 use Rattle.book.specs.HeaderLaws.{header-says}
-use Rattle.book.specs.JudgeLaws.{header-left, header-left-short, size-left, contents-left}
+use Rattle.book.specs.JudgeLaws.{header-left, length-left, size-left, contents-left}
 use Rattle.book.specs.Judged.{judgedBook}
 use Rattle.book.specs.LoopLaws.{passed, left}
 use Rattle.book.proofs.judge.judge.Statement.{statement}
 use Rattle.book.proofs.judge.judge.Tie as tie
 
 returns : tie.Need-returns
-returns c = header-left-short (c .before .args .book .now) (omega arith)
+returns c = length-left (c .before .args .book .now) (omega arith)
 
 header-fits-requires : tie.Need-header-fits-requires
 header-fits-requires c κs = search needs

@@ -1,5 +1,4 @@
 -- `put_count` meets its contract: the number fits a word.
-use mathlib.Core.Path.{_≡_}
 use native.Mathlib.Omega.{arith}
 use borrow.Author.Needs.{needs}
 use Rattle.integer.specs.Bits.{holds-nat}

@@ -1,6 +1,5 @@
 -- `put_new_book` meets its contract: the header is stored, then the part from word 6 to the size is cleared.
 use mathlib.Core.Path.{_≡_, _∙_}
-use Prim.Native.Nat.{_≤_}
 use native.Mathlib.Omega.{arith}
 use borrow.Author.Needs.{needs}
 use lib.IntN.{pos}
@@ -46,14 +45,4 @@ returns c =
     (part-stored 6 (size (s .args .terms)) (λ k. pos 0) w (omega (arith, header-inside (s .args .terms))) (omega arith) ∙ header-then-zeros (s .args .terms) (s .args .book .now))
 
 pub put-new-book-spec : {M : Type 1} → statement M
-put-new-book-spec =
-    tie.close
-    (tie.spec
-    put-header-requires
-    book-size-requires
-    sub-clear
-    part-clear-start
-    part-clear-end
-    clear-requires
-    same-length
-    returns)
+put-new-book-spec = tie.close (tie.spec put-header-requires book-size-requires sub-clear part-clear-start part-clear-end clear-requires same-length returns)

@@ -1,7 +1,6 @@
 -- `is_day` meets its contract: its two tests are those of `isDay`.
 use Prim.Native.Nat.{_+_}
 use native.Mathlib.Omega.{arith}
-use borrow.Author.Needs.{needs}
 use borrow.Author.Tests.{lt-ltb, le-ltb}
 use Rattle.rulebook.specs.Layout.{ring}
 use Rattle.book.specs.Slots.{isDay}
@@ -16,7 +15,7 @@ returns : tie.Need-returns
 unfolding isDay
 returns c =
     let a = c .before .before .args in
-    rw (lt-ltb (a .closed + a .place) (a .terms .lag) (omega arith))
+    rw (lt-ltb (a .closes + a .place) (a .terms .lag) (omega arith))
 
 add-result : tie.Need-add-result
 unfolding ring
@@ -26,7 +25,7 @@ returns-2 : tie.Need-returns-2
 unfolding isDay
 returns-2 c =
     let a = c .before .before .before .before .args in
-    rw (le-ltb (a .closed + a .place) (a .terms .lag) (omega arith))
+    rw (le-ltb (a .closes + a .place) (a .terms .lag) (omega arith))
 
 pub is-day-spec : {M : Type 1} → statement M
 is-day-spec = tie.close (tie.spec add-at returns add-result returns-2)

@@ -1,6 +1,6 @@
 -- `place_of` meets its contract: its arithmetic is that of `turn-of`.
 use mathlib.Core.Path.{refl}
-use Prim.Native.Nat.{_+_, _-_, _%_}
+use Prim.Native.Nat.{_+_}
 use native.Mathlib.Nat.{mod-lt}
 use native.Mathlib.Omega.{arith}
 use borrow.Author.Needs.{needs}
@@ -21,7 +21,7 @@ rem-result c = search needs
 sub-result : tie.Need-sub-result
 sub-result c =
     let a = c .before .before .args in
-    omega (arith, mod-lt (a .closed + a .terms .horizon) {m = a .terms .lag + a .terms .horizon} (omega arith))
+    omega (arith, mod-lt (a .closes + a .terms .horizon) {m = a .terms .lag + a .terms .horizon} (omega arith))
 
 add-result-2 : tie.Need-add-result-2
 unfolding ring

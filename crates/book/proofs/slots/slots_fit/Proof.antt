@@ -1,8 +1,8 @@
 -- `slots_fit` meets its contract: each turn is one slot more.
 use mathlib.Core.Bool.{Bool}
 use mathlib.Core.List.{List}
-use mathlib.Core.Path.{_≡_, refl, sym, ap, _∙_}
-use Prim.Native.Nat.{ℕ, _+_, _-_, _*_, _≤_, _<_}
+use mathlib.Core.Path.{_≡_, refl}
+use Prim.Native.Nat.{ℕ, _-_, _*_, _≤_}
 use native.Mathlib.Omega.{arith}
 use borrow.Author.Needs.{needs}
 use lib.Dec.{ltb}
@@ -24,12 +24,12 @@ slot-told : (o : Terms) (k v p : ℕ) (u : Bool) {r : Bool} (xs : List ℤ) {ys 
 slot-told o k v p u xs e f g h = cc
 
 abbrev Inv-loop : tie.InvT-loop
-Inv-loop slots terms closed n r size ok₀ v₀ ok v =
+Inv-loop slots terms closes n r size ok₀ v₀ ok v =
     (n ≡ terms .accounts) × (r ≡ ring terms) × (size ≡ slotLength (terms .accounts)) × (v ≤ ring terms)
-    × (ok ≡ all v (λ v. slotFits (terms .accounts) (isDay terms closed (turn-of terms closed v)) (ltb (turn-of terms closed v) (terms .lag)) (part slots (v * slotLength (terms .accounts)) (slotLength (terms .accounts)))))
+    × (ok ≡ all v (λ v. slotFits (terms .accounts) (isDay terms closes (turn-of terms closes v)) (ltb (turn-of terms closes v) (terms .lag)) (part slots (v * slotLength (terms .accounts)) (slotLength (terms .accounts)))))
 
 abbrev μ-loop : tie.MeasureT-loop
-μ-loop slots terms closed n r size ok₀ v₀ ok v = ring terms - v
+μ-loop slots terms closes n r size ok₀ v₀ ok v = ring terms - v
 
 add-ring : tie.Need-add-ring Inv-loop μ-loop
 unfolding ring
@@ -91,7 +91,7 @@ loop-again c =
     let a = c .before .before .before .before .before .before .before .before .args in
     let l = c .before .before .before .before .before .before .loop in
     let n = a .terms .accounts in
-    (refl, refl, refl, omega arith, all-step (l .v) _ (l .inv .4) (slot-told (a .terms) (a .closed) (l .v) _ _ _ (c .slot-fits .ensures) (c .before .before .is-day .ensures) (c .before .before .before .before .place-of .ensures .0) (lent _ (l .v * slotLength n) (slotLength n))))
+    (refl, refl, refl, omega arith, all-step (l .v) _ (l .inv .4) (slot-told (a .terms) (a .closes) (l .v) _ _ _ (c .slot-fits .ensures) (c .before .before .is-day .ensures) (c .before .before .before .before .place-of .ensures .0) (lent _ (l .v * slotLength n) (slotLength n))))
 
 returns : tie.Need-returns Inv-loop μ-loop
 unfolding slotsFit

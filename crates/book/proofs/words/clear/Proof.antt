@@ -1,6 +1,5 @@
 -- `clear` meets its contract: each turn writes one word more.
-use mathlib.Core.List.{append-nil}
-use mathlib.Core.Path.{_≡_, sym, ap, _∙_}
+use mathlib.Core.Path.{_≡_, ap, _∙_}
 use Prim.Native.Nat.{_-_, _≤_, _<_}
 use native.Mathlib.Omega.{arith}
 use borrow.Author.Needs.{needs}
