@@ -7,3 +7,5 @@ pub mod Day
 pub mod DayLaws
 pub mod Search
 pub mod SearchLaws
+pub mod Slots
+pub mod SlotsLaws
