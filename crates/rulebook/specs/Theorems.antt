@@ -25,6 +25,7 @@ use Rattle.rulebook.specs.Demand3.{Demand3OnCalls, Demand3Holds}
 use Rattle.rulebook.specs.Companion.{OpeningHolds, CompanionHolds, KeptFrom}
 use Rattle.rulebook.specs.SearchOrder.{SearchHolds}
 use Rattle.rulebook.specs.FormedBook.{WindowDay, FormedBook}
+use Rattle.rulebook.specs.FileTheorems.{FileTheorems, file-theorems}
 use Rattle.rulebook.specs.Figures.{Right, starred, starred-right}
 use Rattle.rulebook.specs.WorkedDay.{WorkedDay, worked-day}
 use Rattle.rulebook.specs.Examples.{RowExamples, row-examples, Headers, headers, Balances, balances, Ranges, ranges}
@@ -67,6 +68,10 @@ pub record Theorems : Type 0 where
   pub theseCalls : (start : List ℤ) (calls : List Call) → callsIn (historyOf start calls) ≡ reverse calls
   -- on the same runs: each call's whole answer, statement, and what is kept
   pub companion : CompanionHolds
+  -- ---- A submission file
+
+  -- taken whole; each of 4 to 8 exactly by the table's condition; fields end to end
+  pub files : FileTheorems
   -- ---- Any well-formed lent book
 
   -- well formed is what document 01 says, in its figures, and nothing more
@@ -133,6 +138,7 @@ theorems = record {
   everyList = run-of;
   theseCalls = calls-of;
   companion = companion;
+  files = file-theorems;
   formedSays = formed-book;
   saysFormed = book-formed;
   submitKeeps = submitted-formed;
