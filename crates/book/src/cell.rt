@@ -108,7 +108,7 @@ fn rows_there(cell: &[i64]) -> bool
     !zero_at(cell, VESTING) & !zero_at(cell, METER)
 }
 
-// The account's words, of a closed day or an open one.
+// "The book": an account's 24 words at an interval, of a closed day or an open one.
 pub fn account_fits(cell: &[i64], closed: bool) -> bool
     requires { ⌜ length (now cell) ≡ accountWords ⌝ }
     ensures { λ r. ⌜ r ≡ accountFits closed (now (cell .entry)) ⌝ }

@@ -5,7 +5,7 @@ use crate::words::is_blank;
 use crate::words::within_at;
 use rulebook::Terms;
 ghost use mathlib.Core.Path.{_≡_};
-ghost use mathlib.Core.Bool.{true, _&&_};
+ghost use mathlib.Core.Bool.{true};
 ghost use Prim.Native.Nat.{_+_, _*_, _≤_, _<_};
 ghost use lib.IntN.{pos};
 ghost use lib.ListN.{length};
@@ -57,7 +57,7 @@ fn next_day_fits(book: &[i64]) -> bool
     (first <= next) & (next <= FINISHED)
 }
 
-// The words to 63, but for the MSSL's balance.
+// "The book": words 0 to 63, but for the MSSL's balance.
 pub fn header_fits(book: &[i64]) -> bool
     requires { ⌜ 64 ≤ length (now book) ⌝ }
     ensures { λ r. ⌜ r ≡ headerFits (now (book .entry)) ⌝ }
@@ -75,7 +75,7 @@ fn count_at(book: &[i64], i: usize) -> usize
     book[i] as usize
 }
 
-// N, L, H and F of a header that fits.
+// "The book": N, L, H and F of a header that fits.
 pub fn terms_of(book: &[i64]) -> Terms
     requires { ⌜ (64 ≤ length (now book)) × (headerFits (now book) ≡ true) ⌝ }
     ensures { λ r. ⌜ r ≡ termsOf (now (book .entry)) ⌝ }
@@ -92,7 +92,7 @@ pub fn terms_of(book: &[i64]) -> Terms
     }
 }
 
-// C of a header that fits.
+// "The book": C, the next day to close, of a header that fits.
 pub fn next_day_of(book: &[i64]) -> usize
     requires { ⌜ (64 ≤ length (now book)) × (headerFits (now book) ≡ true) ⌝ }
     ensures { λ r. ⌜ r ≡ nextDay (now (book .entry)) ⌝ }
@@ -100,7 +100,7 @@ pub fn next_day_of(book: &[i64]) -> usize
     count_at(book, layout::NEXT_DAY)
 }
 
-// "Size: 64 + 8N + 48(L + H)(4 + 24N) words"
+// "The book": "Size: 64 + 8N + 48(L + H)(4 + 24N) words"
 pub fn book_size(terms: Terms) -> usize
     requires { ⌜ InTerms terms ⌝ }
     ensures { λ r. ⌜ r ≡ size terms ⌝ }
@@ -123,7 +123,7 @@ fn balance_fits(book: &[i64], closes: usize, a: usize) -> bool
     within_at(book, i, closes * layout::DAY_BOUND) & is_blank(&book[s..e])
 }
 
-// Each account's.
+// "The book": each account's balance and zeros.
 pub fn balances_fit(book: &[i64], n: usize, closes: usize) -> bool
     requires { ⌜ (n ≤ mostAccounts) × (closes ≤ lastDay) × (64 + n * 8 ≤ length (now book)) ⌝ }
     ensures { λ r. ⌜ r ≡ all n (accountFits (now (book .entry)) closes) ⌝ }
@@ -135,7 +135,7 @@ pub fn balances_fit(book: &[i64], n: usize, closes: usize) -> bool
     ok
 }
 
-// The MSSL's within N times that.
+// "The book": the MSSL's balance is within N times that.
 pub fn mssl_fits(book: &[i64], n: usize, closes: usize) -> bool
     requires { ⌜ (n ≤ mostAccounts) × (closes ≤ lastDay) × (64 ≤ length (now book)) ⌝ }
     ensures { λ r. ⌜ r ≡ balanceFits n closes (word (now (book .entry)) msslWord) ⌝ }

@@ -31,6 +31,7 @@ fn ncc_fits(interval: &[i64]) -> bool
     }
 }
 
+// "then 24 words an account"
 fn accounts_fit(interval: &[i64], n: usize, closed: bool) -> bool
     requires { ⌜ (intervalLength n ≤ length (now interval)) × (n ≤ mostAccounts) ⌝ }
     ensures { λ r. ⌜ r ≡ accountsFit n closed (now (interval .entry)) ⌝ }
@@ -44,7 +45,7 @@ fn accounts_fit(interval: &[i64], n: usize, closed: bool) -> bool
     ok
 }
 
-// The interval's words, of n accounts, of a closed day or an open one.
+// "The book": an interval's words, of n accounts, of a closed day or an open one.
 pub fn interval_fits(interval: &[i64], n: usize, closed: bool) -> bool
     requires { ⌜ (intervalLength n ≤ length (now interval)) × (n ≤ mostAccounts) ⌝ }
     ensures { λ r. ⌜ r ≡ intervalFits n closed (now (interval .entry)) ⌝ }

@@ -35,7 +35,8 @@ fn contents_fit(book: &[i64], terms: Terms, closes: usize) -> bool
         & slots_fit(&book[base..end], terms, closes)
 }
 
-// "It is well formed if ..": of any words whatever. The header comes before the size, so a wild one is refused with no read past the end.
+// "The book": "It is well formed if ..", of any words whatever. The header comes before the size, so a wild one is refused with no read past
+// the end.
 pub fn judge(book: &[i64]) -> Judged
     ensures { λ r. ⌜ r ≡ judgedBook (now (book .entry)) ⌝ }
 {

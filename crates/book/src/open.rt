@@ -29,6 +29,7 @@ fn terms_fit(terms: Terms) -> bool
         & (terms.first <= layout::LAST_DAY)
 }
 
+// A number, as a word.
 fn put_count(book: &mut [i64], i: usize, n: usize)
     requires { ⌜ (i < length (now book)) × (n < 2 ^ 63) ⌝ }
     ensures { λ _. ⌜ now (book .exit) ≡ set (now (book .entry)) i (pos n) ⌝ }
@@ -59,7 +60,8 @@ fn put_new_book(book: &mut [i64], terms: Terms)
     clear(&mut book[layout::MSSL..end]);
 }
 
-// The opening call: number 1 for terms outside their ranges, 2 for too few words, and then the book is not touched; words beyond the size never are.
+// The opening call, "The book" and "Numbers returned": 1 for terms outside their ranges, then 2 for too few words, and the book is as it was;
+// else every word of the size is written, and no word beyond.
 pub fn open_book(
     book: &mut [i64],
     accounts: usize,

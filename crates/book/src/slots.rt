@@ -14,6 +14,7 @@ ghost use Rattle.rulebook.specs.RingLaws.{turn-of};
 ghost use Rattle.book.specs.Parts.{intervalLength, intervalsFit, slotFits};
 ghost use Rattle.book.specs.Slots.{slotLength, isDay, slotsFit};
 
+// A day's 48 intervals.
 fn intervals_fit(slot: &[i64], n: usize, closed: bool) -> bool
     requires { ⌜ (intervals * intervalLength n ≤ length (now slot)) × (n ≤ mostAccounts) ⌝ }
     ensures { λ r. ⌜ r ≡ intervalsFit n closed (now (slot .entry)) ⌝ }
@@ -61,7 +62,7 @@ fn is_day(terms: Terms, closes: usize, place: usize) -> bool
     !(layout::LAST_DAY < terms.first + (at - terms.lag))
 }
 
-// Every slot, in the order in which they lie.
+// "The book": every slot, in the order in which they lie; day d has slot (d − F) mod (L + H).
 pub fn slots_fit(slots: &[i64], terms: Terms, closes: usize) -> bool
     requires { ⌜ InTerms terms × (closes ≤ lastDay) × (length (now slots) ≡ ring terms * slotLength (terms .accounts)) ⌝ }
     ensures { λ r. ⌜ r ≡ slotsFit terms closes (now (slots .entry)) ⌝ }
