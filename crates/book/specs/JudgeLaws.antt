@@ -2,19 +2,19 @@
 use mathlib.Core.Path.{_≡_}
 use mathlib.Core.Bool.{true, false, and-false}
 use mathlib.Core.List.{List}
-use Prim.Native.Nat.{_+_, _-_, _*_, _≤_, _<_}
+use Prim.Native.Nat.{_+_, _-_, _≤_, _<_}
 use native.Mathlib.Omega.{arith}
 use borrow.Author.Tests.{le-leb, lt-leb}
 use lib.IntN.{ℤ}
 use lib.ListN.{length}
 use Rattle.rulebook.specs.declared.Terms.{Terms}
-use Rattle.rulebook.specs.Layout.{base, size}
+use Rattle.rulebook.specs.Layout.{balanceWord, base, size}
 use Rattle.rulebook.specs.BookData.{termsOf, nextDay}
 use Rattle.rulebook.specs.WellFormed.{headerFits, fits, wellFormed}
 use Rattle.book.specs.declared.judge.Judged.the-variants.{IllFormed}
 use Rattle.book.specs.Judged.{judgedBook, contentsFit}
 
-pub header-inside : (o : Terms) → 64 + 8 * o .accounts ≤ size o
+pub header-inside : (o : Terms) → balanceWord (o .accounts) ≤ size o
 unfolding size base
 header-inside o = omega arith
 

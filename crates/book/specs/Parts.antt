@@ -10,7 +10,7 @@ use Rattle.rulebook.specs.declared.Kind.{Kind}
 use Rattle.rulebook.specs.declared.Section.{Section}
 use Rattle.rulebook.specs.declared.Section.the-variants.{Vesting, Meter, Residual, Ncc}
 use Rattle.rulebook.specs.Units.{inRange, intervals}
-use Rattle.rulebook.specs.Layout.{intervalTable, accountTable, tablePlace, flagIndex}
+use Rattle.rulebook.specs.Layout.{intervalTable, accountTable, intervalWords, accountWords, tablePlace, flagIndex}
 use Rattle.rulebook.specs.WellFormed.{isZero, rowFits, sparesZero}
 
 -- the n words of xs from i on
@@ -48,14 +48,14 @@ nccFits xs = sparesZero intervalTable (word xs) && rowFits Ncc (rowOf xs Ncc)
 
 -- the words of each of n accounts
 unfoldable pub accountsFit : ℕ → Bool → List ℤ → Bool
-accountsFit n closed xs = all n (λ a. accountFits closed (part xs (4 + a * 24) 24))
+accountsFit n closed xs = all n (λ a. accountFits closed (part xs (intervalWords + a * accountWords) accountWords))
 
 unfoldable pub intervalFits : ℕ → Bool → List ℤ → Bool
 intervalFits n closed xs = nccFits xs && accountsFit n closed xs
 
 -- an interval's words, n accounts
 abbrev pub intervalLength : ℕ → ℕ
-intervalLength n = 4 + n * 24
+intervalLength n = intervalWords + n * accountWords
 
 unfoldable pub intervalsFit : ℕ → Bool → List ℤ → Bool
 intervalsFit n closed xs = all intervals (λ i. intervalFits n closed (part xs (i * intervalLength n) (intervalLength n)))

@@ -85,15 +85,15 @@ module _ (o : Terms) (w : List ℤ) (t i : ℕ) (closed : Bool) where
       row-same Ncc (rowOf xs Ncc) (slotRow o w t i Ncc 0) (λ j h. same (tablePlace Ncc j) (omega (arith, row-word Ncc j h .inside))),
     )
 
-    account-words : (a : ℕ) → a < o .accounts → (q : ℕ) → q < accountWords → word (part xs (4 + a * 24) 24) q ≡ word w (intervalWord o t i (accountPlace a q))
+    account-words : (a : ℕ) → a < o .accounts → (q : ℕ) → q < accountWords → word (part xs (intervalWords + a * accountWords) accountWords) q ≡ word w (intervalWord o t i (accountPlace a q))
     account-words a ha q h =
-        let e : 4 + a * 24 + q ≡ accountPlace a q = omega arith in
-        word-part xs (4 + a * 24) 24 q h ∙ same (4 + a * 24 + q) (omega arith) ∙ ap (λ (m : ℕ). word w (intervalWord o t i m)) e
+        let e : intervalWords + a * accountWords + q ≡ accountPlace a q = omega arith in
+        word-part xs (intervalWords + a * accountWords) accountWords q h ∙ same (intervalWords + a * accountWords + q) (omega arith) ∙ ap (λ (m : ℕ). word w (intervalWord o t i m)) e
 
     accounts-are : accountsFit (o .accounts) closed xs ≡ (all (o .accounts) (accountWordsFit o w t i) && (not closed || closedRowsThere o w t i))
     unfolding accountsFit closedRowsThere
     accounts-are =
-        all-same (o .accounts) _ _ (λ a h. account-is a (part xs (4 + a * 24) 24) (account-words a h))
+        all-same (o .accounts) _ _ (λ a h. account-is a (part xs (intervalWords + a * accountWords) accountWords) (account-words a h))
         ∙ all-closed (o .accounts) (accountWordsFit o w t i) (bothThere o w t i) closed
 
     pub interval-is : intervalFits (o .accounts) closed xs ≡ (rule.intervalFits o w t i && (not closed || closedRowsThere o w t i))

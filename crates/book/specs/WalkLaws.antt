@@ -13,7 +13,7 @@ use Rattle.integer.specs.Words.{word}
 use Rattle.integer.specs.WordsLaws.{row-fits}
 use Rattle.rulebook.specs.declared.Terms.{Terms}
 use Rattle.rulebook.specs.Units.{lastDay, intervals}
-use Rattle.rulebook.specs.Layout.{intervalWords, accountWords, intervalSize, ring, base, size}
+use Rattle.rulebook.specs.Layout.{balanceWord, intervalWords, accountWords, intervalSize, ring, base, size}
 use Rattle.rulebook.specs.TestLaws.{all-same, all-yes, all-at, tests-same}
 use Rattle.rulebook.specs.WindowWalk.{windowSlot, windowSlotFits}
 use Rattle.rulebook.specs.RingLaws.{turn-of, turn-inside, turned, places-apart}
@@ -30,11 +30,11 @@ cond-not true x y = refl
 cond-not false x y = refl
 
 -- the slots lie from base on to the size
-pub base-is : (o : Terms) → base o ≡ 64 + 8 * o .accounts
+pub base-is : (o : Terms) → base o ≡ balanceWord (o .accounts)
 unfolding base
 base-is o = refl
 
-pub size-by-slots : (o : Terms) → size o ≡ 64 + 8 * o .accounts + ring o * slotLength (o .accounts)
+pub size-by-slots : (o : Terms) → size o ≡ balanceWord (o .accounts) + ring o * slotLength (o .accounts)
 unfolding size base intervalSize
 size-by-slots o =
     let e : intervalWords + accountWords * o .accounts ≡ intervalLength (o .accounts) = omega arith in
@@ -60,18 +60,18 @@ module _ (o : Terms) (w : List ℤ) (k : ℕ) (p : 1 ≤ o .horizon) where
 
   module _ (l : size o ≤ length w) where
     abbrev slots : List ℤ
-    slots = part w (64 + 8 * o .accounts) (ring o * slotLength (o .accounts))
+    slots = part w (balanceWord (o .accounts)) (ring o * slotLength (o .accounts))
 
     slot-words : (v : ℕ) → v < ring o → (m : ℕ) → m < slotLength (o .accounts)
         → word (part slots (v * slotLength (o .accounts)) (slotLength (o .accounts))) m ≡ word w (base o + (v * slotLength (o .accounts) + m))
     slot-words v hv m hm =
         rw (base-is o)
         (word-part slots (v * slotLength (o .accounts)) (slotLength (o .accounts)) m hm
-        ∙ word-part w (64 + 8 * o .accounts) (ring o * slotLength (o .accounts)) (v * slotLength (o .accounts) + m) (omega (arith, row-fits v (ring o) (slotLength (o .accounts)) hv)))
+        ∙ word-part w (balanceWord (o .accounts)) (ring o * slotLength (o .accounts)) (v * slotLength (o .accounts) + m) (omega (arith, row-fits v (ring o) (slotLength (o .accounts)) hv)))
 
     slot-long : (v : ℕ) → v < ring o → length (part slots (v * slotLength (o .accounts)) (slotLength (o .accounts))) ≡ slotLength (o .accounts)
     slot-long v hv =
-        let e = length-part w (64 + 8 * o .accounts) (ring o * slotLength (o .accounts)) (omega (arith, size-by-slots o)) in
+        let e = length-part w (balanceWord (o .accounts)) (ring o * slotLength (o .accounts)) (omega (arith, size-by-slots o)) in
         length-part slots (v * slotLength (o .accounts)) (slotLength (o .accounts)) (omega (arith, row-fits v (ring o) (slotLength (o .accounts)) hv))
 
     slot-at : (v : ℕ) → v < ring o

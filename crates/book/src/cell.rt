@@ -1,4 +1,18 @@
 // Document 01, "The book": an account's 24 words at an interval. Each test is left at its first word that does not fit.
+use crate::layout::ACCOUNT_SPARE;
+use crate::layout::BVQ;
+use crate::layout::FIRST_MEP;
+use crate::layout::FIRST_TVQ;
+use crate::layout::FOURTH_MEP;
+use crate::layout::METER;
+use crate::layout::RESIDUAL;
+use crate::layout::RVP1;
+use crate::layout::SECOND_MEP;
+use crate::layout::SECOND_TVQ;
+use crate::layout::THIRD_MEP;
+use crate::layout::THIRD_TVQ;
+use crate::layout::UEGQ;
+use crate::layout::VESTING;
 use crate::words::above_at;
 use crate::words::between_at;
 use crate::words::value_at;
@@ -37,19 +51,19 @@ fn vesting_fits(cell: &[i64]) -> bool
     requires { ⌜ length (now cell) ≡ accountWords ⌝ }
     ensures { λ r. ⌜ r ≡ rowFits Vesting (rowOf (now (cell .entry)) Vesting) ⌝ }
 {
-    if !between_at(cell, 0, 0, 4) {
+    if !between_at(cell, VESTING, 0, 4) {
         return false;
     }
-    if !pair_fits(cell, 0, 0, 1, Kind::Quantity, Kind::Price) {
+    if !pair_fits(cell, VESTING, 0, BVQ, Kind::Quantity, Kind::Price) {
         return false;
     }
-    if !pair_fits(cell, 0, 1, 3, Kind::Quantity, Kind::Price) {
+    if !pair_fits(cell, VESTING, 1, FIRST_TVQ, Kind::Quantity, Kind::Price) {
         return false;
     }
-    if !pair_fits(cell, 0, 2, 5, Kind::Quantity, Kind::Price) {
+    if !pair_fits(cell, VESTING, 2, SECOND_TVQ, Kind::Quantity, Kind::Price) {
         return false;
     }
-    pair_fits(cell, 0, 3, 7, Kind::Quantity, Kind::Price)
+    pair_fits(cell, VESTING, 3, THIRD_TVQ, Kind::Quantity, Kind::Price)
 }
 
 // 0 absent or facility count; four MEP and IEQ pairs.
@@ -57,19 +71,19 @@ fn meter_fits(cell: &[i64]) -> bool
     requires { ⌜ length (now cell) ≡ accountWords ⌝ }
     ensures { λ r. ⌜ r ≡ rowFits Meter (rowOf (now (cell .entry)) Meter) ⌝ }
 {
-    if !between_at(cell, 9, 0, 4) {
+    if !between_at(cell, METER, 0, 4) {
         return false;
     }
-    if !pair_fits(cell, 9, 0, 10, Kind::Price, Kind::Injection) {
+    if !pair_fits(cell, METER, 0, FIRST_MEP, Kind::Price, Kind::Injection) {
         return false;
     }
-    if !pair_fits(cell, 9, 1, 12, Kind::Price, Kind::Injection) {
+    if !pair_fits(cell, METER, 1, SECOND_MEP, Kind::Price, Kind::Injection) {
         return false;
     }
-    if !pair_fits(cell, 9, 2, 14, Kind::Price, Kind::Injection) {
+    if !pair_fits(cell, METER, 2, THIRD_MEP, Kind::Price, Kind::Injection) {
         return false;
     }
-    pair_fits(cell, 9, 3, 16, Kind::Price, Kind::Injection)
+    pair_fits(cell, METER, 3, FOURTH_MEP, Kind::Price, Kind::Injection)
 }
 
 // Residual present; UEGQ, MQ, RVP1, RVP2.
@@ -77,13 +91,13 @@ fn residual_fits(cell: &[i64]) -> bool
     requires { ⌜ length (now cell) ≡ accountWords ⌝ }
     ensures { λ r. ⌜ r ≡ rowFits Residual (rowOf (now (cell .entry)) Residual) ⌝ }
 {
-    if !between_at(cell, 18, 0, 1) {
+    if !between_at(cell, RESIDUAL, 0, 1) {
         return false;
     }
-    if !pair_fits(cell, 18, 0, 19, Kind::Quantity, Kind::Quantity) {
+    if !pair_fits(cell, RESIDUAL, 0, UEGQ, Kind::Quantity, Kind::Quantity) {
         return false;
     }
-    pair_fits(cell, 18, 0, 21, Kind::Price, Kind::Price)
+    pair_fits(cell, RESIDUAL, 0, RVP1, Kind::Price, Kind::Price)
 }
 
 // "days max(F, C − L) to C − 1 have all vesting and meter rows"
@@ -91,15 +105,15 @@ fn rows_there(cell: &[i64]) -> bool
     requires { ⌜ length (now cell) ≡ accountWords ⌝ }
     ensures { λ r. ⌜ r ≡ rowsThere (now (cell .entry)) ⌝ }
 {
-    !zero_at(cell, 0) & !zero_at(cell, 9)
+    !zero_at(cell, VESTING) & !zero_at(cell, METER)
 }
 
-// The account's words, of a closed day or an open one.
+// "The book": an account's 24 words at an interval, of a closed day or an open one.
 pub fn account_fits(cell: &[i64], closed: bool) -> bool
     requires { ⌜ length (now cell) ≡ accountWords ⌝ }
     ensures { λ r. ⌜ r ≡ accountFits closed (now (cell .entry)) ⌝ }
 {
-    if !zero_at(cell, 23) {
+    if !zero_at(cell, ACCOUNT_SPARE) {
         return false;
     }
     if !vesting_fits(cell) {

@@ -1,10 +1,11 @@
 // Document 01, "The book": the header, the size, and the balances.
+use crate::layout;
 use crate::words::between_at;
 use crate::words::is_blank;
 use crate::words::within_at;
 use rulebook::Terms;
 ghost use mathlib.Core.Path.{_≡_};
-ghost use mathlib.Core.Bool.{true, _&&_};
+ghost use mathlib.Core.Bool.{true};
 ghost use Prim.Native.Nat.{_+_, _*_, _≤_, _<_};
 ghost use lib.IntN.{pos};
 ghost use lib.ListN.{length};
@@ -19,16 +20,31 @@ ghost use Rattle.rulebook.specs.BookData.{termsOf, nextDay};
 ghost use Rattle.rulebook.specs.WellFormed.{headerFits, balanceFits, accountFits};
 ghost use Rattle.book.specs.Header.{termsWordsFit};
 
+// Limits, as words.
+const BOOK_MARK: i64 = layout::BOOK_MARK as i64;
+
+const MOST_ACCOUNTS: i64 = layout::MOST_ACCOUNTS as i64;
+
+const MOST_LAG: i64 = layout::MOST_LAG as i64;
+
+const MOST_HORIZON: i64 = layout::MOST_HORIZON as i64;
+
+const EARLIEST_FIRST_DAY: i64 = layout::EARLIEST_FIRST_DAY as i64;
+
+const LAST_DAY: i64 = layout::LAST_DAY as i64;
+
+const FINISHED: i64 = LAST_DAY + 1;
+
 // Word 0 is 395; then N, L, H, F.
 fn terms_words_fit(book: &[i64]) -> bool
     requires { ⌜ 64 ≤ length (now book) ⌝ }
     ensures { λ r. ⌜ r ≡ termsWordsFit (now (book .entry)) ⌝ }
 {
-    between_at(book, 0, 395, 395)
-        & between_at(book, 1, 1, 32)
-        & between_at(book, 2, 1, 75)
-        & between_at(book, 3, 1, 92)
-        & between_at(book, 4, 9497, 36524)
+    between_at(book, layout::MARK, BOOK_MARK, BOOK_MARK)
+        & between_at(book, layout::ACCOUNTS, 1, MOST_ACCOUNTS)
+        & between_at(book, layout::LAG, 1, MOST_LAG)
+        & between_at(book, layout::HORIZON, 1, MOST_HORIZON)
+        & between_at(book, layout::FIRST_DAY, EARLIEST_FIRST_DAY, LAST_DAY)
 }
 
 // C is F to 36,525.
@@ -36,17 +52,19 @@ fn next_day_fits(book: &[i64]) -> bool
     requires { ⌜ 64 ≤ length (now book) ⌝ }
     ensures { λ r. ⌜ r ≡ between (word (now (book .entry)) firstDayWord) (pos 36525) (word (now (book .entry)) nextDayWord) ⌝ }
 {
-    let first = book[4];
-    let next = book[5];
-    (first <= next) & (next <= 36525)
+    let first = book[layout::FIRST_DAY];
+    let next = book[layout::NEXT_DAY];
+    (first <= next) & (next <= FINISHED)
 }
 
-// The words to 63, but for the MSSL's balance.
+// "The book": words 0 to 63, but for the MSSL's balance.
 pub fn header_fits(book: &[i64]) -> bool
     requires { ⌜ 64 ≤ length (now book) ⌝ }
     ensures { λ r. ⌜ r ≡ headerFits (now (book .entry)) ⌝ }
 {
-    terms_words_fit(book) & next_day_fits(book) & is_blank(&book[7..64])
+    terms_words_fit(book)
+        & next_day_fits(book)
+        & is_blank(&book[layout::HEADER_SPARES..layout::HEADER_WORDS])
 }
 
 // A word that is not below zero, as an unsigned number.
@@ -57,15 +75,15 @@ fn count_at(book: &[i64], i: usize) -> usize
     book[i] as usize
 }
 
-// N, L, H and F of a header that fits.
+// "The book": N, L, H and F of a header that fits.
 pub fn terms_of(book: &[i64]) -> Terms
     requires { ⌜ (64 ≤ length (now book)) × (headerFits (now book) ≡ true) ⌝ }
     ensures { λ r. ⌜ r ≡ termsOf (now (book .entry)) ⌝ }
 {
-    let accounts = count_at(book, 1);
-    let lag = count_at(book, 2);
-    let horizon = count_at(book, 3);
-    let first = count_at(book, 4);
+    let accounts = count_at(book, layout::ACCOUNTS);
+    let lag = count_at(book, layout::LAG);
+    let horizon = count_at(book, layout::HORIZON);
+    let first = count_at(book, layout::FIRST_DAY);
     Terms {
         accounts: accounts,
         lag: lag,
@@ -74,20 +92,24 @@ pub fn terms_of(book: &[i64]) -> Terms
     }
 }
 
-// C of a header that fits.
+// "The book": C, the next day to close, of a header that fits.
 pub fn next_day_of(book: &[i64]) -> usize
     requires { ⌜ (64 ≤ length (now book)) × (headerFits (now book) ≡ true) ⌝ }
     ensures { λ r. ⌜ r ≡ nextDay (now (book .entry)) ⌝ }
 {
-    count_at(book, 5)
+    count_at(book, layout::NEXT_DAY)
 }
 
-// "Size: 64 + 8N + 48(L + H)(4 + 24N) words"
+// "The book": "Size: 64 + 8N + 48(L + H)(4 + 24N) words"
 pub fn book_size(terms: Terms) -> usize
     requires { ⌜ InTerms terms ⌝ }
     ensures { λ r. ⌜ r ≡ size terms ⌝ }
 {
-    64 + 8 * terms.accounts + 48 * (terms.lag + terms.horizon) * (4 + 24 * terms.accounts)
+    layout::HEADER_WORDS
+        + layout::BALANCE_WORDS * terms.accounts
+        + layout::INTERVALS
+            * (terms.lag + terms.horizon)
+            * (layout::INTERVAL_WORDS + layout::ACCOUNT_WORDS * terms.accounts)
 }
 
 // Account a's balance within (C − F) × 4,800,000,000,000 cents either way, and its seven zeros.
@@ -95,13 +117,13 @@ fn balance_fits(book: &[i64], closes: usize, a: usize) -> bool
     requires { ⌜ (a < mostAccounts) × (closes ≤ lastDay) × (64 + a * 8 + 8 ≤ length (now book)) ⌝ }
     ensures { λ r. ⌜ r ≡ accountFits (now (book .entry)) closes a ⌝ }
 {
-    let i = 64 + a * 8;
+    let i = layout::HEADER_WORDS + a * layout::BALANCE_WORDS;
     let s = i + 1;
-    let e = s + 7;
-    within_at(book, i, closes * 4800000000000) & is_blank(&book[s..e])
+    let e = s + layout::BALANCE_SPARES;
+    within_at(book, i, closes * layout::DAY_BOUND) & is_blank(&book[s..e])
 }
 
-// Each account's.
+// "The book": each account's balance and zeros.
 pub fn balances_fit(book: &[i64], n: usize, closes: usize) -> bool
     requires { ⌜ (n ≤ mostAccounts) × (closes ≤ lastDay) × (64 + n * 8 ≤ length (now book)) ⌝ }
     ensures { λ r. ⌜ r ≡ all n (accountFits (now (book .entry)) closes) ⌝ }
@@ -113,10 +135,10 @@ pub fn balances_fit(book: &[i64], n: usize, closes: usize) -> bool
     ok
 }
 
-// The MSSL's within N times that.
+// "The book": the MSSL's balance is within N times that.
 pub fn mssl_fits(book: &[i64], n: usize, closes: usize) -> bool
     requires { ⌜ (n ≤ mostAccounts) × (closes ≤ lastDay) × (64 ≤ length (now book)) ⌝ }
     ensures { λ r. ⌜ r ≡ balanceFits n closes (word (now (book .entry)) msslWord) ⌝ }
 {
-    within_at(book, 6, n * (closes * 4800000000000))
+    within_at(book, layout::MSSL, n * (closes * layout::DAY_BOUND))
 }

@@ -1,5 +1,6 @@
 // Document 01, "The book": an interval's words, its own and those of each account.
 use crate::cell::account_fits;
+use crate::layout;
 use crate::words::above_at;
 use crate::words::between_at;
 use crate::words::value_at;
@@ -17,33 +18,34 @@ fn ncc_fits(interval: &[i64]) -> bool
     requires { ⌜ intervalWords ≤ length (now interval) ⌝ }
     ensures { λ r. ⌜ r ≡ nccFits (now (interval .entry)) ⌝ }
 {
-    if !(zero_at(interval, 2) & zero_at(interval, 3)) {
+    if !(zero_at(interval, layout::FIRST_NCC_SPARE) & zero_at(interval, layout::SECOND_NCC_SPARE)) {
         return false;
     }
-    if !between_at(interval, 1, 0, 1) {
+    if !between_at(interval, layout::NCC, 0, 1) {
         return false;
     }
-    if above_at(interval, 1, 0) {
-        value_at(interval, 0, Kind::Load)
+    if above_at(interval, layout::NCC, 0) {
+        value_at(interval, layout::NCC_LOAD, Kind::Load)
     } else {
-        zero_at(interval, 0)
+        zero_at(interval, layout::NCC_LOAD)
     }
 }
 
+// "then 24 words an account"
 fn accounts_fit(interval: &[i64], n: usize, closed: bool) -> bool
     requires { ⌜ (intervalLength n ≤ length (now interval)) × (n ≤ mostAccounts) ⌝ }
     ensures { λ r. ⌜ r ≡ accountsFit n closed (now (interval .entry)) ⌝ }
 {
     let mut ok = true;
     for a in 0..n {
-        let i = 4 + a * 24;
-        let e = i + 24;
+        let i = layout::INTERVAL_WORDS + a * layout::ACCOUNT_WORDS;
+        let e = i + layout::ACCOUNT_WORDS;
         ok = ok & account_fits(&interval[i..e], closed);
     }
     ok
 }
 
-// The interval's words, of n accounts, of a closed day or an open one.
+// "The book": an interval's words, of n accounts, of a closed day or an open one.
 pub fn interval_fits(interval: &[i64], n: usize, closed: bool) -> bool
     requires { ⌜ (intervalLength n ≤ length (now interval)) × (n ≤ mostAccounts) ⌝ }
     ensures { λ r. ⌜ r ≡ intervalFits n closed (now (interval .entry)) ⌝ }

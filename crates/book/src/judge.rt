@@ -5,6 +5,7 @@ use crate::header::header_fits;
 use crate::header::mssl_fits;
 use crate::header::next_day_of;
 use crate::header::terms_of;
+use crate::layout;
 use crate::slots::slots_fit;
 use rulebook::Terms;
 ghost use mathlib.Core.Path.{_≡_};
@@ -27,18 +28,19 @@ fn contents_fit(book: &[i64], terms: Terms, closes: usize) -> bool
     ensures { λ r. ⌜ r ≡ contentsFit terms (now (book .entry)) closes ⌝ }
 {
     let n = terms.accounts;
-    let base = 64 + 8 * n;
+    let base = layout::HEADER_WORDS + layout::BALANCE_WORDS * n;
     let end = book_size(terms);
     mssl_fits(book, n, closes)
         & balances_fit(book, n, closes)
         & slots_fit(&book[base..end], terms, closes)
 }
 
-// "It is well formed if ..": of any words whatever. The header comes before the size, so a wild one is refused with no read past the end.
+// "The book": "It is well formed if ..", of any words whatever. The header comes before the size, so a wild one is refused with no read past
+// the end.
 pub fn judge(book: &[i64]) -> Judged
     ensures { λ r. ⌜ r ≡ judgedBook (now (book .entry)) ⌝ }
 {
-    if book.len() < 64 {
+    if book.len() < layout::HEADER_WORDS {
         return Judged::IllFormed;
     }
     if !header_fits(book) {

@@ -1,5 +1,6 @@
 // Document 01, "The book": opening.
 use crate::header::book_size;
+use crate::layout;
 use crate::words::clear;
 use integer::put_word;
 use rulebook::OpenAnswer;
@@ -19,15 +20,16 @@ fn terms_fit(terms: Terms) -> bool
     ensures { λ r. ⌜ r ≡ termsFit terms ⌝ }
 {
     (1 <= terms.accounts)
-        & (terms.accounts <= 32)
+        & (terms.accounts <= layout::MOST_ACCOUNTS)
         & (1 <= terms.lag)
-        & (terms.lag <= 75)
+        & (terms.lag <= layout::MOST_LAG)
         & (1 <= terms.horizon)
-        & (terms.horizon <= 92)
-        & (9497 <= terms.first)
-        & (terms.first <= 36524)
+        & (terms.horizon <= layout::MOST_HORIZON)
+        & (layout::EARLIEST_FIRST_DAY <= terms.first)
+        & (terms.first <= layout::LAST_DAY)
 }
 
+// A number, as a word.
 fn put_count(book: &mut [i64], i: usize, n: usize)
     requires { ⌜ (i < length (now book)) × (n < 2 ^ 63) ⌝ }
     ensures { λ _. ⌜ now (book .exit) ≡ set (now (book .entry)) i (pos n) ⌝ }
@@ -40,12 +42,12 @@ fn put_header(book: &mut [i64], terms: Terms)
     requires { ⌜ InTerms terms × (6 ≤ length (now book)) ⌝ }
     ensures { λ _. ⌜ now (book .exit) ≡ stored (now (book .entry)) 0 6 (word (header terms)) ⌝ }
 {
-    put_count(book, 0, 395);
-    put_count(book, 1, terms.accounts);
-    put_count(book, 2, terms.lag);
-    put_count(book, 3, terms.horizon);
-    put_count(book, 4, terms.first);
-    put_count(book, 5, terms.first);
+    put_count(book, layout::MARK, layout::BOOK_MARK);
+    put_count(book, layout::ACCOUNTS, terms.accounts);
+    put_count(book, layout::LAG, terms.lag);
+    put_count(book, layout::HORIZON, terms.horizon);
+    put_count(book, layout::FIRST_DAY, terms.first);
+    put_count(book, layout::NEXT_DAY, terms.first);
 }
 
 // "Opening writes every word of the size": the header, then zeros.
@@ -55,10 +57,11 @@ fn put_new_book(book: &mut [i64], terms: Terms)
 {
     put_header(book, terms);
     let end = book_size(terms);
-    clear(&mut book[6..end]);
+    clear(&mut book[layout::MSSL..end]);
 }
 
-// The opening call: number 1 for terms outside their ranges, 2 for too few words, and then the book is not touched; words beyond the size never are.
+// The opening call, "The book" and "Numbers returned": 1 for terms outside their ranges, then 2 for too few words, and the book is as it was;
+// else every word of the size is written, and no word beyond.
 pub fn open_book(
     book: &mut [i64],
     accounts: usize,

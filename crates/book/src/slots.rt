@@ -1,5 +1,6 @@
 // Document 01, "The book": the slots, as they lie. A slot of a day of the window has 48 intervals that fit, every other is blank.
 use crate::interval::interval_fits;
+use crate::layout;
 use crate::words::are_blank;
 use rulebook::Terms;
 ghost use mathlib.Core.Path.{_≡_};
@@ -13,13 +14,14 @@ ghost use Rattle.rulebook.specs.RingLaws.{turn-of};
 ghost use Rattle.book.specs.Parts.{intervalLength, intervalsFit, slotFits};
 ghost use Rattle.book.specs.Slots.{slotLength, isDay, slotsFit};
 
+// A day's 48 intervals.
 fn intervals_fit(slot: &[i64], n: usize, closed: bool) -> bool
     requires { ⌜ (intervals * intervalLength n ≤ length (now slot)) × (n ≤ mostAccounts) ⌝ }
     ensures { λ r. ⌜ r ≡ intervalsFit n closed (now (slot .entry)) ⌝ }
 {
-    let size = 4 + n * 24;
+    let size = layout::INTERVAL_WORDS + n * layout::ACCOUNT_WORDS;
     let mut ok = true;
-    for h in 0..48 {
+    for h in 0..layout::INTERVALS {
         let i = h * size;
         let e = i + size;
         ok = ok & interval_fits(&slot[i..e], n, closed);
@@ -57,17 +59,17 @@ fn is_day(terms: Terms, closes: usize, place: usize) -> bool
     if at < terms.lag {
         return false;
     }
-    !(36524 < terms.first + (at - terms.lag))
+    !(layout::LAST_DAY < terms.first + (at - terms.lag))
 }
 
-// Every slot, in the order in which they lie.
+// "The book": every slot, in the order in which they lie; day d has slot (d − F) mod (L + H).
 pub fn slots_fit(slots: &[i64], terms: Terms, closes: usize) -> bool
     requires { ⌜ InTerms terms × (closes ≤ lastDay) × (length (now slots) ≡ ring terms * slotLength (terms .accounts)) ⌝ }
     ensures { λ r. ⌜ r ≡ slotsFit terms closes (now (slots .entry)) ⌝ }
 {
     let n = terms.accounts;
     let ring = terms.lag + terms.horizon;
-    let size = 48 * (4 + n * 24);
+    let size = layout::INTERVALS * (layout::INTERVAL_WORDS + n * layout::ACCOUNT_WORDS);
     let mut ok = true;
     for v in 0..ring {
         let i = v * size;

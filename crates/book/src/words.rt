@@ -15,6 +15,7 @@ ghost use Rattle.rulebook.specs.Units.{between, inRange};
 ghost use Rattle.rulebook.specs.WellFormed.{isZero};
 ghost use Rattle.book.specs.Parts.{blank};
 
+// The word is zero, as absent data and unused pairs are.
 pub fn zero_at(part: &[i64], i: usize) -> bool
     requires { ⌜ i < length (now part) ⌝ }
     ensures { λ r. ⌜ r ≡ isZero (word (now (part .entry)) i) ⌝ }
@@ -22,7 +23,7 @@ pub fn zero_at(part: &[i64], i: usize) -> bool
     part[i] == 0
 }
 
-// Both ends are included.
+// The word is in a range, both ends included.
 pub fn between_at(part: &[i64], i: usize, low: i64, high: i64) -> bool
     requires { ⌜ i < length (now part) ⌝ }
     ensures { λ r. ⌜ r ≡ between low high (word (now (part .entry)) i) ⌝ }
@@ -31,6 +32,7 @@ pub fn between_at(part: &[i64], i: usize, low: i64, high: i64) -> bool
     (low <= z) & (z <= high)
 }
 
+// The word, a flag, is above a number.
 pub fn above_at(part: &[i64], i: usize, low: i64) -> bool
     requires { ⌜ i < length (now part) ⌝ }
     ensures { λ r. ⌜ r ≡ ltZ low (word (now (part .entry)) i) ⌝ }
@@ -38,7 +40,7 @@ pub fn above_at(part: &[i64], i: usize, low: i64) -> bool
     low < part[i]
 }
 
-// Within a bound either way.
+// The word, a balance, is within a bound either way.
 pub fn within_at(part: &[i64], i: usize, bound: usize) -> bool
     requires { ⌜ (i < length (now part)) × (bound < 2 ^ 63) ⌝ }
     ensures { λ r. ⌜ r ≡ leb (natAbs (word (now (part .entry)) i)) bound ⌝ }
@@ -56,7 +58,7 @@ pub fn value_at(part: &[i64], i: usize, kind: Kind) -> bool
     in_range(kind, word_at(part, i))
 }
 
-// Every word is zero. All are read: a loop that is left early is not vectorised.
+// "The book", blank: every word is zero. All are read: a loop that is left early is not vectorised.
 pub fn is_blank(part: &[i64]) -> bool
     ensures { λ r. ⌜ r ≡ blank (now (part .entry)) ⌝ }
 {
@@ -81,7 +83,7 @@ pub fn are_blank(rows: &[i64], m: usize) -> bool
     ok
 }
 
-// Writes a zero to every word.
+// Blanks a part: every word is written zero.
 pub fn clear(part: &mut [i64])
     ensures { λ _. ⌜ now (part .exit) ≡ tabulate (length (now (part .entry))) (λ k. pos 0) ⌝ }
 {

@@ -1,30 +1,38 @@
 -- What is proved of the rule book, in one place. Assumes nothing.
 use mathlib.Core.Path.{_≡_}
+use mathlib.Core.Logic.{_≢_}
 use mathlib.Core.List.{List, reverse}
-use Prim.Native.Nat.{ℕ, _+_, _*_, _≤_, _<_}
+use Prim.Native.Nat.{ℕ, _+_, _*_, _≤_, _<_, _-_}
 use lib.Dec.{T}
 use lib.IntN.{ℤ, pos, natAbs, _-ℤ_, _*ℤ_}
 use lib.ListN.{length}
 use Rattle.integer.specs.Below.{all, Each}
+use Rattle.integer.specs.Words.{word}
 use Rattle.integer.specs.Nearest.{IsNearest}
 use Rattle.integer.specs.NearestLaws.{nearest-is}
 use Rattle.rulebook.specs.declared.Terms.{Terms}
+use Rattle.rulebook.specs.declared.Section.{Section}
+use Rattle.rulebook.specs.declared.Verdict.the-variants.{Accepted}
 use Rattle.rulebook.specs.Units.{lastDay, nearest}
 use Rattle.rulebook.specs.Shares.{shareOf}
 use Rattle.rulebook.specs.DayAmount.{SettlementData, exactAmount, postedAmount, msslAmount}
 use Rattle.rulebook.specs.Terms.{InTerms}
-use Rattle.rulebook.specs.Layout.{ring, slot, size}
-use Rattle.rulebook.specs.BookData.{nextDay, termsOf}
+use Rattle.rulebook.specs.Sections.{accountsOf}
+use Rattle.rulebook.specs.Layout.{ring, slot, size, width, rowWord}
+use Rattle.rulebook.specs.BookData.{nextDay, termsOf, entriesOf}
 use Rattle.rulebook.specs.WellFormed.{daysFit, wellFormed}
+use Rattle.rulebook.specs.FormedBook.{WindowDay, FormedBook}
 use Rattle.rulebook.specs.Opening.{newBook}
+use Rattle.rulebook.specs.File.{fileRows}
+use Rattle.rulebook.specs.Judging.{limitsOf, judged}
 use Rattle.rulebook.specs.Submit.{submitted}
 use Rattle.rulebook.specs.Close.{closed}
-use Rattle.rulebook.specs.History.{Call, callsIn}
+use Rattle.rulebook.specs.Numbers.{accepted, ofSubmit, ofClose}
+use Rattle.rulebook.specs.History.{Call, callsIn, lastFor}
 use Rattle.rulebook.specs.Promises.{Run, historyOf, bookOf}
 use Rattle.rulebook.specs.Demand3.{Demand3OnCalls, Demand3Holds}
 use Rattle.rulebook.specs.Companion.{OpeningHolds, CompanionHolds, KeptFrom}
 use Rattle.rulebook.specs.SearchOrder.{SearchHolds}
-use Rattle.rulebook.specs.FormedBook.{WindowDay, FormedBook}
 use Rattle.rulebook.specs.FileTheorems.{FileTheorems, file-theorems}
 use Rattle.rulebook.specs.Figures.{Right, starred, starred-right}
 use Rattle.rulebook.specs.WorkedDay.{WorkedDay, worked-day}
@@ -40,15 +48,17 @@ use Rattle.rulebook.specs.HistoryExamples.{Closes, closes-told, NewBooks
 use Rattle.rulebook.specs.SharesLaws.{ShareTotal, share-total, RuleShare, share-rule}
 use Rattle.rulebook.specs.TranchesLaws.{TrancheSplit, tranche-split}
 use Rattle.rulebook.specs.DayAmountLaws.{posted-within, msslExact, mssl-within}
+use Rattle.rulebook.specs.LayoutLaws.{InWindow}
 use Rattle.rulebook.specs.WindowWalk.{windowSlotFits}
 use Rattle.rulebook.specs.WalkLaws.{days-are-places}
 use Rattle.rulebook.specs.WindowLaws.{SlotDay, window-days-apart, slot-day}
 use Rattle.rulebook.specs.FormedBookLaws.{formed-book, book-formed}
 use Rattle.rulebook.specs.BookSizeLaws.{CloseSized, close-sized}
 use Rattle.rulebook.specs.SearchOrderLaws.{search-holds}
+use Rattle.rulebook.specs.StepLaws.{over}
 use Rattle.rulebook.specs.AnySubmitLaws.{submitted-formed}
 use Rattle.rulebook.specs.AnyCloseLaws.{closed-formed}
-use Rattle.rulebook.specs.LentLaws.{CloseKeeps, submitted-beyond, closed-words-beyond}
+use Rattle.rulebook.specs.LentLaws.{CloseKeeps, submitted-beyond, closed-words-beyond, submitted-rows, refused-submit, refused-close}
 use Rattle.rulebook.specs.StartLaws.{opening-told, new-formed}
 use Rattle.rulebook.specs.RunLaws.{run-of, calls-of}
 use Rattle.rulebook.specs.Demand3Proof.{demand3, demand3-on-calls}
@@ -80,6 +90,13 @@ pub record Theorems : Type 0 where
   -- stays well formed, and keeps its words beyond the size
   pub submitKeeps : (w : List ℤ) (file : List ℕ) → T (wellFormed w) → T (wellFormed (submitted w file .words))
   pub closeKeeps : (w statement : List ℤ) → T (wellFormed w) → T (wellFormed (closed w statement .words))
+  -- an accepted row replaces all it names: each word of each day of the window is the last row's, or as it was
+  pub submitStores : (w : List ℤ) (file : List ℕ) → T (wellFormed w) → judged (limitsOf (termsOf w) (nextDay w)) file ≡ Accepted
+      → (s : Section) (a d i j : ℕ) → InWindow (termsOf w) (nextDay w - termsOf w .first) d → a < accountsOf s (termsOf w .accounts) → i < 48 → j < width s
+      → word (submitted w file .words) (rowWord (termsOf w) s a d i j) ≡ over (lastFor (fileRows file) s a d) (entriesOf (termsOf w) w s a d) i j
+  -- a refusal keeps every word, of any book
+  pub submitRefused : (w : List ℤ) (file : List ℕ) → ofSubmit (submitted w file .answer) .number ≢ accepted → submitted w file .words ≡ w
+  pub closeRefused : (w statement : List ℤ) → ofClose (closed w statement .answer) .number ≢ accepted → (closed w statement .words ≡ w) × (closed w statement .statement ≡ statement)
   pub submitBeyond : (w : List ℤ) (file : List ℕ) → T (wellFormed w) → KeptFrom (size (termsOf w)) w (submitted w file .words)
   pub closeBeyond : (w statement : List ℤ) → T (wellFormed w) → CloseKeeps w statement
   -- data and amounts in range, balances too
@@ -143,6 +160,9 @@ theorems = record {
   saysFormed = book-formed;
   submitKeeps = submitted-formed;
   closeKeeps = closed-formed;
+  submitStores = submitted-rows;
+  submitRefused = refused-submit;
+  closeRefused = refused-close;
   submitBeyond = submitted-beyond;
   closeBeyond = closed-words-beyond;
   closeSized = close-sized;

@@ -4,13 +4,14 @@ use Prim.Native.Nat.{_+_, _-_, _*_, _≤_}
 use native.Mathlib.Omega.{arith}
 use borrow.Author.Needs.{needs}
 use Rattle.integer.specs.Below.{fold, all}
+use Rattle.rulebook.specs.Layout.{intervalWords, accountWords}
 use Rattle.book.specs.LoopLaws.{all-step, lent, length-lent}
 use Rattle.book.specs.Parts.{part, accountFits, accountsFit}
 use Rattle.book.proofs.interval.accounts_fit.Statement.{statement}
 use Rattle.book.proofs.interval.accounts_fit.Tie as tie
 
 abbrev Inv-loop : tie.InvT-loop
-Inv-loop interval n closed ok₀ a₀ ok a = (a ≤ n) × (ok ≡ all a (λ a. accountFits closed (part interval (4 + a * 24) 24)))
+Inv-loop interval n closed ok₀ a₀ ok a = (a ≤ n) × (ok ≡ all a (λ a. accountFits closed (part interval (intervalWords + a * accountWords) accountWords)))
 
 abbrev μ-loop : tie.MeasureT-loop
 μ-loop interval n closed ok₀ a₀ ok a = n - a
@@ -41,7 +42,7 @@ part-account-fits-end : tie.Need-part-account-fits-end Inv-loop μ-loop
 part-account-fits-end c = search needs
 
 account-fits-requires : tie.Need-account-fits-requires Inv-loop μ-loop
-account-fits-requires c κs = length-lent (c .before .before .before .args .interval .now) (4 + c .before .before .loop .a * 24) 24 (omega arith)
+account-fits-requires c κs = length-lent (c .before .before .before .args .interval .now) (intervalWords + c .before .before .loop .a * accountWords) accountWords (omega arith)
 
 add-a : tie.Need-add-a Inv-loop μ-loop
 add-a c = search needs
@@ -53,7 +54,7 @@ loop-again : tie.Need-loop-again Inv-loop μ-loop
 loop-again c =
     let s = c .before .before .before .before .args in
     let l = c .before .before .before .loop in
-    (omega arith, all-step (l .a) _ (l .inv .1) (c .account-fits .ensures ∙ ap (accountFits (s .closed)) (lent _ (4 + l .a * 24) 24)))
+    (omega arith, all-step (l .a) _ (l .inv .1) (c .account-fits .ensures ∙ ap (accountFits (s .closed)) (lent _ (intervalWords + l .a * accountWords) accountWords)))
 
 returns : tie.Need-returns Inv-loop μ-loop
 unfolding accountsFit

@@ -3,7 +3,7 @@ use mathlib.Core.Path.{_≡_, _∙_}
 use Prim.Native.Nat.{_+_, _*_}
 use native.Mathlib.Omega.{arith}
 use borrow.Author.Needs.{needs}
-use Rattle.rulebook.specs.Layout.{ring}
+use Rattle.rulebook.specs.Layout.{balanceWord, ring}
 use Rattle.rulebook.specs.WellFormed.{daysFit}
 use Rattle.book.specs.JudgeLaws.{header-inside}
 use Rattle.book.specs.Judged.{contentsFit}
@@ -14,7 +14,7 @@ use Rattle.book.proofs.judge.contents_fit.Statement.{statement}
 use Rattle.book.proofs.judge.contents_fit.Tie as tie
 
 -- where the slots end
-slots-end : (c : tie.After-book-size) → c .book-size .result ≡ 64 + 8 * c .before .args .terms .accounts + ring (c .before .args .terms) * slotLength (c .before .args .terms .accounts)
+slots-end : (c : tie.After-book-size) → c .book-size .result ≡ balanceWord (c .before .args .terms .accounts) + ring (c .before .args .terms) * slotLength (c .before .args .terms .accounts)
 slots-end c = c .book-size .ensures ∙ size-by-slots (c .before .args .terms)
 
 mul-base : tie.Need-mul-base
@@ -49,7 +49,7 @@ slots-fit-requires c κs =
     let s = c .before .before .before .before in
     let n = s .args .terms .accounts in
     let e = slots-end (c .before .before .before) in
-    (s .pre .0, s .pre .1, rw e (length-lent (s .args .book .now) (64 + 8 * n) (ring (s .args .terms) * slotLength n) (omega (arith, size-by-slots (s .args .terms)))))
+    (s .pre .0, s .pre .1, rw e (length-lent (s .args .book .now) (balanceWord n) (ring (s .args .terms) * slotLength n) (omega (arith, size-by-slots (s .args .terms)))))
 
 returns : tie.Need-returns
 unfolding contentsFit
@@ -58,7 +58,7 @@ returns c =
     let t = s .args .terms in
     let e = slots-end (c .before .before .before .before) in
     let d : c .slots-fit .result ≡ daysFit t (s .args .book .now) (t .first + s .args .closes)
-    = c .slots-fit .ensures ∙ rw (e, lent (s .args .book .now) (64 + 8 * t .accounts) (ring t * slotLength (t .accounts)))
+    = c .slots-fit .ensures ∙ rw (e, lent (s .args .book .now) (balanceWord (t .accounts)) (ring t * slotLength (t .accounts)))
     (slots-are-days t (s .args .book .now) (s .args .closes) (s .pre .0 .horizonFrom) (s .pre .2)) in
     cc
 
