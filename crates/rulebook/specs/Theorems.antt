@@ -15,7 +15,7 @@ use Rattle.rulebook.specs.declared.Section.{Section}
 use Rattle.rulebook.specs.declared.Verdict.the-variants.{Accepted}
 use Rattle.rulebook.specs.Units.{lastDay, nearest}
 use Rattle.rulebook.specs.Shares.{shareOf}
-use Rattle.rulebook.specs.DayAmount.{SettlementData, exactAmount, postedAmount, msslAmount}
+use Rattle.rulebook.specs.DayAmount.{AccountData, SettlementData, exactAmount, postedAmount, msslAmount}
 use Rattle.rulebook.specs.Terms.{InTerms}
 use Rattle.rulebook.specs.Sections.{accountsOf}
 use Rattle.rulebook.specs.Layout.{ring, slot, size, width, rowWord}
@@ -47,7 +47,7 @@ use Rattle.rulebook.specs.CallExamples.{Openings, openings, LentBooks, l
 use Rattle.rulebook.specs.HistoryExamples.{Closes, closes-told, NewBooks, new-books}
 use Rattle.rulebook.specs.SharesLaws.{ShareTotal, share-total, RuleShare, share-rule}
 use Rattle.rulebook.specs.TranchesLaws.{TrancheSplit, tranche-split}
-use Rattle.rulebook.specs.DayAmountLaws.{posted-within, msslExact, mssl-within}
+use Rattle.rulebook.specs.DayAmountLaws.{IntervalShares, interval-shares, posted-within, msslExact, mssl-within}
 use Rattle.rulebook.specs.LayoutLaws.{InWindow}
 use Rattle.rulebook.specs.WindowWalk.{windowSlotFits}
 use Rattle.rulebook.specs.WalkLaws.{days-are-places}
@@ -115,6 +115,7 @@ pub record Theorems : Type 0 where
   pub nearestIs : (z : ℤ) (d : ℕ) → 0 < d → IsNearest z d (nearest z d)
   pub shareRule : (r : ℤ) (s u : ℕ) → 0 < s → RuleShare r s u (shareOf r s u)
   pub shareTotal : (r : ℤ) (n : ℕ) (uegq : ℕ → ℕ) → ShareTotal r n uegq
+  pub intervalShares : (load n : ℕ) (x : ℕ → AccountData) → IntervalShares load n x
   pub tranches : (rvq bvq mq : ℕ) → TrancheSplit rvq bvq mq
   -- posted cents are within 500 thousandths of the exact amount, the MSSL's within N × 500
   pub postedWithin : (o : Terms) (x : SettlementData) (D a : ℕ) → natAbs (pos 1000 *ℤ postedAmount o x a D -ℤ exactAmount o x a D) ≤ 500
@@ -173,6 +174,7 @@ theorems = record {
   nearestIs = nearest-is;
   shareRule = share-rule;
   shareTotal = share-total;
+  intervalShares = interval-shares;
   tranches = tranche-split;
   postedWithin = posted-within;
   msslWithin = mssl-within;
