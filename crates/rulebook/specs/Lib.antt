@@ -28,6 +28,7 @@ pub mod Promises
 pub mod Demand3
 pub mod Companion
 pub mod SearchOrder
+pub mod CloseTable
 -- what is proved
 pub mod Theorems
 pub mod FileTheorems
@@ -111,3 +112,4 @@ pub mod RunLaws
 pub mod Demand3Proof
 pub mod CompanionProof
 pub mod SubmitTableLaws
+pub mod CloseTableLaws

@@ -33,6 +33,7 @@ use Rattle.rulebook.specs.Promises.{Run, historyOf, bookOf}
 use Rattle.rulebook.specs.Demand3.{Demand3OnCalls, Demand3Holds}
 use Rattle.rulebook.specs.Companion.{OpeningHolds, CompanionHolds, KeptFrom}
 use Rattle.rulebook.specs.SearchOrder.{SearchHolds}
+use Rattle.rulebook.specs.CloseTable.{CloseTable}
 use Rattle.rulebook.specs.FileTheorems.{FileTheorems, file-theorems}
 use Rattle.rulebook.specs.Figures.{Right, starred, starred-right}
 use Rattle.rulebook.specs.WorkedDay.{WorkedDay, worked-day}
@@ -55,6 +56,7 @@ use Rattle.rulebook.specs.WindowLaws.{SlotDay, window-days-apart, slot-d
 use Rattle.rulebook.specs.FormedBookLaws.{formed-book, book-formed}
 use Rattle.rulebook.specs.BookSizeLaws.{CloseSized, close-sized}
 use Rattle.rulebook.specs.SearchOrderLaws.{search-holds}
+use Rattle.rulebook.specs.CloseTableLaws.{close-table}
 use Rattle.rulebook.specs.StepLaws.{over}
 use Rattle.rulebook.specs.AnySubmitLaws.{submitted-formed}
 use Rattle.rulebook.specs.AnyCloseLaws.{closed-formed}
@@ -101,6 +103,8 @@ pub record Theorems : Type 0 where
   pub closeBeyond : (w statement : List ℤ) → T (wellFormed w) → CloseKeeps w statement
   -- data and amounts in range, balances too
   pub closeSized : (w : List ℤ) → T (wellFormed w) → nextDay w ≤ lastDay → CloseSized w
+  -- of any book, a close returns 3 exactly if it is not well formed; else 9 and 10 exactly by the table
+  pub closeTable : (w statement : List ℤ) → CloseTable w statement
   -- 11 is at the first flag in search order that is zero, and 0 is returned if none is
   pub search : SearchHolds
   -- ---- The ring
@@ -167,6 +171,7 @@ theorems = record {
   submitBeyond = submitted-beyond;
   closeBeyond = closed-words-beyond;
   closeSized = close-sized;
+  closeTable = close-table;
   search = search-holds;
   daysApart = window-days-apart;
   slotDay = slot-day;
