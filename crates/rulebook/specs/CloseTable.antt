@@ -3,7 +3,7 @@ use mathlib.Core.Path.{_≡_}
 use mathlib.Core.Logic.{_↔_}
 use mathlib.Core.Bool.{false}
 use mathlib.Core.List.{List}
-use Prim.Native.Nat.{ℕ, _≤_}
+use Prim.Native.Nat.{_≤_}
 use lib.Dec.{T}
 use lib.IntN.{ℤ}
 use lib.ListN.{length}

@@ -2,10 +2,10 @@
 use mathlib.Core.Path.{_≡_, refl, ap}
 use mathlib.Core.Bool.{Bool, true, false, cond}
 use mathlib.Core.List.{List}
-use Prim.Native.Nat.{ℕ, _+_, _≤_, _<_}
+use Prim.Native.Nat.{ℕ, _+_, _<_}
 use native.Mathlib.Omega.{arith}
 use borrow.Author.Tests.{lt-ltb, le-ltb, ltb-true}
-use lib.Dec.{T, ltb}
+use lib.Dec.{ltb}
 use lib.IntN.{ℤ}
 use lib.ListN.{length}
 use Rattle.integer.specs.declared.Found.{Found}
@@ -14,7 +14,7 @@ use Rattle.rulebook.specs.declared.CloseAnswer.the-variants.{BookIllForm
 use Rattle.rulebook.specs.Units.{lastDay}
 use Rattle.rulebook.specs.BookData.{termsOf, nextDay}
 use Rattle.rulebook.specs.WellFormed.{wellFormed}
-use Rattle.rulebook.specs.Close.{Closing, closed, settled, closeRefused, firstMissing}
+use Rattle.rulebook.specs.Close.{closed, settled, closeRefused, firstMissing}
 use Rattle.rulebook.specs.Numbers.{Answer, numbered, ofClose}
 use Rattle.rulebook.specs.TestLaws.{T-path}
 use Rattle.rulebook.specs.FormedLaws.{next-of}

@@ -94,6 +94,7 @@ pub mod FormLaws
 pub mod SlotLaws
 pub mod RowFlagLaws
 pub mod FormedLaws
+pub mod RowFormedLaws
 pub mod DayFormedLaws
 pub mod FormedBookLaws
 pub mod BookSizeLaws
