@@ -1,17 +1,32 @@
--- Posting: posted cents times 1,000 are within 500 thousandths of the exact amount, and the MSSL's within N × 500. Assumes nothing.
+-- An interval's shares, and posting: posted cents times 1,000 are within 500 thousandths of the exact amount, and the MSSL's within N × 500. Assumes nothing.
 use mathlib.Core.Path.{_≡_}
-use Prim.Native.Nat.{ℕ, _+_, _*_, _≤_, _<_}
+use Prim.Native.Nat.{ℕ, _+_, _*_, _≤_, _<_, min}
 use native.Mathlib.Omega.{arith}
 use lib.Dec.{lit<}
 use lib.IntN.{ℤ, pos, negℤ, natAbs, _+ℤ_, _-ℤ_, _*ℤ_}
+use Rattle.integer.specs.Integer.{positive}
 use Rattle.integer.specs.IntegerLaws.{abs-neg}
-use Rattle.integer.specs.Below.{sumℤ}
+use Rattle.integer.specs.Below.{sumℕ, sumℤ}
 use Rattle.integer.specs.BelowLaws.{abs-sumℤ, sumℤ-linear}
 use Rattle.integer.specs.Ring.{as-diff, diffs, ring}
 use Rattle.integer.specs.NearestLaws.{nearest-is}
 use Rattle.rulebook.specs.declared.Terms.{Terms}
 use Rattle.rulebook.specs.Units.{thousandthsPerCent}
-use Rattle.rulebook.specs.DayAmount.{SettlementData, exactAmount, postedAmount, msslAmount}
+use Rattle.rulebook.specs.DayAmount.{AccountData, SettlementData, residualLoad, rvq, exactAmount, postedAmount, msslAmount}
+use Rattle.rulebook.specs.SharesLaws.{share-total}
+
+-- the shares of n accounts with these data, of an interval with this NCC load: at most the spare generation and the residual load, zero if
+-- negative; short of the smaller by fewer kWh than there are accounts
+pub record IntervalShares (load n : ℕ) (x : ℕ → AccountData) : Type 0 where
+  pub spare : sumℕ n (rvq load n x) ≤ sumℕ n (λ a. x a .uegq)
+  pub residual : sumℕ n (rvq load n x) ≤ positive (residualLoad load n x)
+  pub short : 0 < n → min (sumℕ n (λ a. x a .uegq)) (positive (residualLoad load n x)) < sumℕ n (rvq load n x) + n
+
+pub interval-shares : (load n : ℕ) (x : ℕ → AccountData) → IntervalShares load n x
+unfolding rvq
+interval-shares load n x =
+    let t = share-total (residualLoad load n x) n (λ a. x a .uegq) in
+    record { spare = t .spare; residual = t .residual; short = t .short }
 
 module _ (o : Terms) (x : SettlementData) (D : ℕ) where
   pub posted-within : (a : ℕ) → natAbs (pos thousandthsPerCent *ℤ postedAmount o x a D -ℤ exactAmount o x a D) ≤ 500

@@ -55,8 +55,8 @@ pub record FileTheorems : Type 0 where
       → (verdictTold (judged (limitsOf o C) file) ≡ numbered n p) ↔ FirstStrikes (checks o C file) n p
   -- and accepted exactly if none strikes
   pub acceptedClear : (o : Terms) → InTerms o → (C : ℕ) (file : List ℕ) → (judged (limitsOf o C) file ≡ Accepted) ↔ NoneStrikes (checks o C file)
-  -- so a submission to a lent book returns 3 where the book is not well formed, and else by the table
-  pub submitIllFormed : (w : List ℤ) (file : List ℕ) → wellFormed w ≡ false → ofSubmit (submitted w file .answer) ≡ numbered notWellFormed 0
+  -- so a submission to a lent book returns 3 exactly where the book is not well formed, and else by the table
+  pub submitIllFormed : (w : List ℤ) (file : List ℕ) → (ofSubmit (submitted w file .answer) ≡ numbered notWellFormed 0) ↔ (wellFormed w ≡ false)
   pub submitRefused : (w : List ℤ) (file : List ℕ) → T (wellFormed w) → (n p : ℕ) → 0 < n
       → (ofSubmit (submitted w file .answer) ≡ numbered n p) ↔ FirstStrikes (checks (termsOf w) (nextDay w) file) n p
   pub submitAccepted : (w : List ℤ) (file : List ℕ) → T (wellFormed w)

@@ -18,6 +18,7 @@ use Rattle.rulebook.specs.FormedBook.{FormedBook}
 use Rattle.rulebook.specs.TestLaws.{and-left, and-right, and-both, between-yes, all-yes}
 use Rattle.rulebook.specs.WindowLaws.{days-fit-say, say-days-fit}
 use Rattle.rulebook.specs.FormLaws.{zero-yes}
+use Rattle.rulebook.specs.DayFormedLaws.{days-say, say-days}
 use Rattle.rulebook.specs.FormedLaws.{formed-holds, opened-of, next-of, balance-at, mssl-at, all-fits}
 
 -- ---- What the test says
@@ -46,7 +47,7 @@ module _ (w : List ℤ) (t : T (wellFormed w)) where
         terms = opened-of w t;
         begun = next-of w t .1;
         ended = next-of w t .2;
-        days = days-fit-say (termsOf w) w (nextDay w) days-of;
+        days = days-say (termsOf w) w (nextDay w) (days-fit-say (termsOf w) w (nextDay w) days-of);
       }
 
 -- ---- What passes it
@@ -81,7 +82,7 @@ module _ (o : Terms) (C : ℕ) (w : List ℤ) (h : FormedBook o C w) where
       let l = le→leb (size o) (length w) (h .long) in
       let c = le→leb (natAbs (word w msslWord)) (o .accounts * ((C - o .first) * 4800000000000)) (h .mssl) in
       let d = all-yes (o .accounts) (accountFits w (C - o .first)) account-passes in
-      let e = say-days-fit o w C (h .days) in
+      let e = say-days-fit o w C (say-days o w C (h .days)) in
       search and-both depth 6
 
   pub book-formed : T (wellFormed w)

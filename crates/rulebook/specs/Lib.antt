@@ -28,6 +28,7 @@ pub mod Promises
 pub mod Demand3
 pub mod Companion
 pub mod SearchOrder
+pub mod CloseTable
 -- what is proved
 pub mod Theorems
 pub mod FileTheorems
@@ -93,6 +94,8 @@ pub mod FormLaws
 pub mod SlotLaws
 pub mod RowFlagLaws
 pub mod FormedLaws
+pub mod RowFormedLaws
+pub mod DayFormedLaws
 pub mod FormedBookLaws
 pub mod BookSizeLaws
 pub mod OpeningLaws
@@ -111,3 +114,4 @@ pub mod RunLaws
 pub mod Demand3Proof
 pub mod CompanionProof
 pub mod SubmitTableLaws
+pub mod CloseTableLaws

@@ -104,7 +104,7 @@ word-blank s (figure g) z x e = rw (none-flagged s (figurePlace g)) at x
 word-blank s spare z x e = x
 
 -- a number in a range that starts at 0
-natural : (most : ℕ) (z : ℤ) → T (between (pos 0) (pos most) z) → (z ≡ pos (positive z)) × (positive z ≤ most)
+pub natural : (most : ℕ) (z : ℤ) → T (between (pos 0) (pos most) z) → (z ≡ pos (positive z)) × (positive z ≤ most)
 natural most (pos n) t = (refl, leb→le n most (and-right (leb 0 n) (leb n most) t))
 natural most (negsuc n) t = absurd t
 

@@ -40,7 +40,7 @@ is-number n (pos m) t = ap pos (omega (arith, leb→le n m (and-left (leb n m) (
 is-number n (negsuc m) t = absurd t
 
 -- the words of a row that fits: all zero, or by name those of some count
-fit-words : (s : Section) (f : ℕ → ℤ) → T (rowFits s f)
+pub fit-words : (s : Section) (f : ℕ → ℤ) → T (rowFits s f)
     → ((j : ℕ) → j < width s → T (isZero (f j))) ⊎ ((c : ℕ) × (c < suc (mostCount s)) × ((j : ℕ) → j < width s → T (wordFits s c (wordName s j) (f j))))
 unfolding rowFits rowBlank rowCounts
 fit-words s f t = or-cases (rowBlank s f) (any (suc (mostCount s)) (rowCounts s f)) t
@@ -77,7 +77,7 @@ fit-few f t = go (fit-words Meter f t)
     go (inr x) = rw (is-number (x .0) (f (flagIndex Meter)) (x .2 (flagIndex Meter) (flag-inside Meter))) (omega (arith, x .1))
 
 -- a table's spare words are zero
-spare-zero : (table : List Word) (f : ℕ → ℤ) → T (sparesZero table f) → (q : ℕ) → q < length table → T (isSpare (getD table q spare)) → T (isZero (f q))
+pub spare-zero : (table : List Word) (f : ℕ → ℤ) → T (sparesZero table f) → (q : ℕ) → q < length table → T (isSpare (getD table q spare)) → T (isZero (f q))
 unfolding sparesZero
 spare-zero table f t q hq x = go (isSpare (getD table q spare)) x (all-at (length table) (λ q. not (isSpare (getD table q spare)) || isZero (f q)) t q hq)
   where
@@ -86,19 +86,19 @@ spare-zero table f t q hq x = go (isSpare (getD table q spare)) x (all-at (lengt
     go false x y = absurd x
 
 module _ (o : Terms) (w : List ℤ) (t i : ℕ) where
-  interval-accounts : T (intervalFits o w t i) → T (all (o .accounts) (accountWordsFit o w t i))
+  pub interval-accounts : T (intervalFits o w t i) → T (all (o .accounts) (accountWordsFit o w t i))
   unfolding intervalFits
   interval-accounts z = search (and-left, and-right)
 
-  interval-ncc : T (intervalFits o w t i) → T (rowFits Ncc (slotRow o w t i Ncc 0))
+  pub interval-ncc : T (intervalFits o w t i) → T (rowFits Ncc (slotRow o w t i Ncc 0))
   unfolding intervalFits
   interval-ncc z = search (and-left, and-right)
 
-  account-padding : (a : ℕ) → T (accountWordsFit o w t i a) → T (sparesZero accountTable (λ q. word w (intervalWord o t i (accountPlace a q))))
+  pub account-padding : (a : ℕ) → T (accountWordsFit o w t i a) → T (sparesZero accountTable (λ q. word w (intervalWord o t i (accountPlace a q))))
   unfolding accountWordsFit
   account-padding a z = search (and-left, and-right)
 
-  own-padding : T (intervalFits o w t i) → T (sparesZero intervalTable (λ q. word w (intervalWord o t i q)))
+  pub own-padding : T (intervalFits o w t i) → T (sparesZero intervalTable (λ q. word w (intervalWord o t i q)))
   unfolding intervalFits
   own-padding z = search (and-left, and-right)
 
@@ -107,7 +107,7 @@ module _ (o : Terms) (w : List ℤ) (t i : ℕ) where
   interval-padding z m (ofAccount a q ha hq x) = spare-zero accountTable (λ q. word w (intervalWord o t i (accountPlace a q)))
       (account-padding a (all-at (o .accounts) (accountWordsFit o w t i) (interval-accounts z) a ha)) q hq x
 
-  account-rows : (a : ℕ) → T (accountWordsFit o w t i a)
+  pub account-rows : (a : ℕ) → T (accountWordsFit o w t i a)
       → T (rowFits Vesting (slotRow o w t i Vesting a)) × T (rowFits Meter (slotRow o w t i Meter a)) × T (rowFits Residual (slotRow o w t i Residual a))
   unfolding accountWordsFit
   account-rows a z = (search (and-left, and-right), search (and-left, and-right), search (and-left, and-right))

@@ -1,18 +1,22 @@
--- What a submission to a lent book returns: 3 where the book is not well formed, else the judge's number by the table. Assumes nothing.
+-- What a submission to a lent book returns: 3 exactly where the book is not well formed, else the judge's number by the table. Assumes nothing.
 use mathlib.Core.Path.{_≡_, refl, sym, ap, _∙_}
-use mathlib.Core.Bool.{Bool, true, false}
+use mathlib.Core.Bool.{Bool, true, false, cond}
 use mathlib.Core.List.{List}
-use mathlib.Core.Logic.{_↔_}
+use mathlib.Core.Logic.{_≢_, _↔_}
 use Prim.Native.Nat.{ℕ, _<_}
+use native.Mathlib.Omega.{arith}
 use lib.Dec.{T}
 use lib.IntN.{ℤ}
 use Rattle.rulebook.specs.declared.Verdict.{Verdict}
 use Rattle.rulebook.specs.declared.Verdict.the-variants.{Accepted, Refused}
+use Rattle.rulebook.specs.declared.Why.{Why}
+use Rattle.rulebook.specs.declared.Why.the-variants.{NotWhole, OutOfRange, DayNotOpen, Repeated, Excess}
+use Rattle.rulebook.specs.declared.SubmitAnswer.the-variants.{IllFormed}
 use Rattle.rulebook.specs.BookData.{termsOf, nextDay}
 use Rattle.rulebook.specs.WellFormed.{wellFormed}
 use Rattle.rulebook.specs.Judging.{limitsOf, judged}
 use Rattle.rulebook.specs.Submit.{taken, submitted}
-use Rattle.rulebook.specs.Numbers.{accepted, notWellFormed, numbered, ofSubmit}
+use Rattle.rulebook.specs.Numbers.{Answer, accepted, notWellFormed, numbered, whyNumber, ofSubmit}
 use Rattle.rulebook.specs.Companion.{verdictTold}
 use Rattle.rulebook.specs.FileTable.{checks, NoneStrikes, FirstStrikes}
 use Rattle.rulebook.specs.TestLaws.{T-path}
@@ -20,9 +24,21 @@ use Rattle.rulebook.specs.FormedLaws.{opened-of}
 use Rattle.rulebook.specs.StrikeLaws.{told-accepted, refused-exactly, accepted-clear}
 
 module _ (w : List ℤ) (file : List ℕ) where
-  pub submit-ill-formed : wellFormed w ≡ false → ofSubmit (submitted w file .answer) ≡ numbered notWellFormed 0
+  pub submit-ill-formed : (ofSubmit (submitted w file .answer) ≡ numbered notWellFormed 0) ↔ (wellFormed w ≡ false)
   unfolding submitted
-  submit-ill-formed e = rw e
+  submit-ill-formed = (go (wellFormed w) (judged (limitsOf (termsOf w) (nextDay w)) file), λ e. rw e)
+    where
+      other : (why : Why) → whyNumber why ≢ notWellFormed
+      other NotWhole e = omega arith
+      other OutOfRange e = omega arith
+      other DayNotOpen e = omega arith
+      other Repeated e = omega arith
+      other Excess e = omega arith
+
+      go : (b : Bool) (v : Verdict) → ofSubmit (cond b (taken w file v) (record { answer = IllFormed; words = w }) .answer) ≡ numbered notWellFormed 0 → b ≡ false
+      go false v e = refl
+      go true Accepted e = absurd (let z : _≡_ {A = ℕ} 0 3 = ap (λ (y : Answer). y .number) e in omega arith)
+      go true (Refused why at) e = absurd (other why (ap (λ (y : Answer). y .number) e))
 
   module _ (t : T (wellFormed w)) where
     told : (v : Verdict) → ofSubmit (taken w file v .answer) ≡ verdictTold v

@@ -15,7 +15,7 @@ use Rattle.rulebook.specs.declared.Section.{Section}
 use Rattle.rulebook.specs.declared.Verdict.the-variants.{Accepted}
 use Rattle.rulebook.specs.Units.{lastDay, nearest}
 use Rattle.rulebook.specs.Shares.{shareOf}
-use Rattle.rulebook.specs.DayAmount.{SettlementData, exactAmount, postedAmount, msslAmount}
+use Rattle.rulebook.specs.DayAmount.{AccountData, SettlementData, exactAmount, postedAmount, msslAmount}
 use Rattle.rulebook.specs.Terms.{InTerms}
 use Rattle.rulebook.specs.Sections.{accountsOf}
 use Rattle.rulebook.specs.Layout.{ring, slot, size, width, rowWord}
@@ -33,6 +33,7 @@ use Rattle.rulebook.specs.Promises.{Run, historyOf, bookOf}
 use Rattle.rulebook.specs.Demand3.{Demand3OnCalls, Demand3Holds}
 use Rattle.rulebook.specs.Companion.{OpeningHolds, CompanionHolds, KeptFrom}
 use Rattle.rulebook.specs.SearchOrder.{SearchHolds}
+use Rattle.rulebook.specs.CloseTable.{CloseTable}
 use Rattle.rulebook.specs.FileTheorems.{FileTheorems, file-theorems}
 use Rattle.rulebook.specs.Figures.{Right, starred, starred-right}
 use Rattle.rulebook.specs.WorkedDay.{WorkedDay, worked-day}
@@ -47,7 +48,7 @@ use Rattle.rulebook.specs.CallExamples.{Openings, openings, LentBooks, l
 use Rattle.rulebook.specs.HistoryExamples.{Closes, closes-told, NewBooks, new-books}
 use Rattle.rulebook.specs.SharesLaws.{ShareTotal, share-total, RuleShare, share-rule}
 use Rattle.rulebook.specs.TranchesLaws.{TrancheSplit, tranche-split}
-use Rattle.rulebook.specs.DayAmountLaws.{posted-within, msslExact, mssl-within}
+use Rattle.rulebook.specs.DayAmountLaws.{IntervalShares, interval-shares, posted-within, msslExact, mssl-within}
 use Rattle.rulebook.specs.LayoutLaws.{InWindow}
 use Rattle.rulebook.specs.WindowWalk.{windowSlotFits}
 use Rattle.rulebook.specs.WalkLaws.{days-are-places}
@@ -55,6 +56,7 @@ use Rattle.rulebook.specs.WindowLaws.{SlotDay, window-days-apart, slot-d
 use Rattle.rulebook.specs.FormedBookLaws.{formed-book, book-formed}
 use Rattle.rulebook.specs.BookSizeLaws.{CloseSized, close-sized}
 use Rattle.rulebook.specs.SearchOrderLaws.{search-holds}
+use Rattle.rulebook.specs.CloseTableLaws.{close-table}
 use Rattle.rulebook.specs.StepLaws.{over}
 use Rattle.rulebook.specs.AnySubmitLaws.{submitted-formed}
 use Rattle.rulebook.specs.AnyCloseLaws.{closed-formed}
@@ -101,6 +103,8 @@ pub record Theorems : Type 0 where
   pub closeBeyond : (w statement : List ℤ) → T (wellFormed w) → CloseKeeps w statement
   -- data and amounts in range, balances too
   pub closeSized : (w : List ℤ) → T (wellFormed w) → nextDay w ≤ lastDay → CloseSized w
+  -- of any book, a close returns 3 exactly if it is not well formed; else 9 and 10 exactly by the table
+  pub closeTable : (w statement : List ℤ) → CloseTable w statement
   -- 11 is at the first flag in search order that is zero, and 0 is returned if none is
   pub search : SearchHolds
   -- ---- The ring
@@ -115,6 +119,7 @@ pub record Theorems : Type 0 where
   pub nearestIs : (z : ℤ) (d : ℕ) → 0 < d → IsNearest z d (nearest z d)
   pub shareRule : (r : ℤ) (s u : ℕ) → 0 < s → RuleShare r s u (shareOf r s u)
   pub shareTotal : (r : ℤ) (n : ℕ) (uegq : ℕ → ℕ) → ShareTotal r n uegq
+  pub intervalShares : (load n : ℕ) (x : ℕ → AccountData) → IntervalShares load n x
   pub tranches : (rvq bvq mq : ℕ) → TrancheSplit rvq bvq mq
   -- posted cents are within 500 thousandths of the exact amount, the MSSL's within N × 500
   pub postedWithin : (o : Terms) (x : SettlementData) (D a : ℕ) → natAbs (pos 1000 *ℤ postedAmount o x a D -ℤ exactAmount o x a D) ≤ 500
@@ -166,6 +171,7 @@ theorems = record {
   submitBeyond = submitted-beyond;
   closeBeyond = closed-words-beyond;
   closeSized = close-sized;
+  closeTable = close-table;
   search = search-holds;
   daysApart = window-days-apart;
   slotDay = slot-day;
@@ -173,6 +179,7 @@ theorems = record {
   nearestIs = nearest-is;
   shareRule = share-rule;
   shareTotal = share-total;
+  intervalShares = interval-shares;
   tranches = tranche-split;
   postedWithin = posted-within;
   msslWithin = mssl-within;

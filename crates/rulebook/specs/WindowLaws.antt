@@ -14,7 +14,7 @@ use Rattle.rulebook.specs.declared.Terms.{Terms}
 use Rattle.rulebook.specs.Units.{lastDay}
 use Rattle.rulebook.specs.Layout.{ring, slot, windowFrom, windowDays}
 use Rattle.rulebook.specs.WellFormed.{slotBlank, dayFits, isDated, daysFit}
-use Rattle.rulebook.specs.FormedBook.{WindowDay, DaysFit}
+use Rattle.rulebook.specs.FormedBook.{WindowDay}
 use Rattle.rulebook.specs.TestLaws.{and-left, and-right, and-both, or-left, or-right, or-cases, all-yes, any-yes, all-at, any-at}
 use Rattle.rulebook.specs.LayoutLaws.{InWindow, days-apart}
 use Rattle.rulebook.specs.RingLaws.{turn-of, turn-inside, turned, places-apart, place-slot, place-day, placeOf, day-place}
@@ -70,6 +70,11 @@ module _ (o : Terms) (C : ℕ) (horizon : 1 ≤ o .horizon) (begun : o .first �
           b (rw (← (same-place d′ h′ e)) (rw z l)))
 
 -- ---- Well formed by days
+
+-- each day of the window has a fitting slot, and every slot of none of them is blank
+pub record DaysFit (o : Terms) (w : List ℤ) (C : ℕ) : Type 0 where
+  pub each : (d : ℕ) → WindowDay o C d → T (dayFits o w C d)
+  pub others : (v : ℕ) → v < ring o → ((d : ℕ) → WindowDay o C d → slot o d ≡ v → ⊥) → T (slotBlank o w v)
 
 module _ (o : Terms) (w : List ℤ) (C : ℕ) where
   pub days-fit-say : T (daysFit o w C) → DaysFit o w C
