@@ -9,3 +9,4 @@ pub mod ValuesLaws
 pub mod MarksLaws
 pub mod RowsLaws
 pub mod StoredLaws
+pub mod SubmitLaws
