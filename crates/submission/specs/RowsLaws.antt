@@ -104,7 +104,7 @@ row-end sec s at e =
 
 -- ---- The rows of a section
 
-module _ (l : Limits) (sec : Section) (s : List ℕ) (first : ℕ) where
+module _ (sec : Section) (s : List ℕ) (first : ℕ) where
   pub pos-none : rowPos sec s first 0 ≡ first
   unfolding rowPos turns
   pos-none = refl
@@ -113,12 +113,13 @@ module _ (l : Limits) (sec : Section) (s : List ℕ) (first : ℕ) where
   unfolding rowPos
   pos-more i = turns-suc i (λ _ at. rowEnd sec s at) first
 
+module _ (l : Limits) (sec : Section) (s : List ℕ) (first : ℕ) where
   judged-parts : (i : ℕ) → judgedRow l sec s first i ≡ Accepted → (key l sec s (rowPos sec s first i) ≡ Accepted) × (rest sec s (rowPos sec s first i) ≡ Accepted)
   unfolding judgedRow
   judged-parts i = row-parts l sec s (rowPos sec s first i) _
 
   pub before-none : first ≤ length s → Before l sec s first 0 first unmarked
-  before-none h = record { place = sym pos-none; inside = h; room = length-unmarked; accepted = up-none _; noted = marked-none l sec s first }
+  before-none h = record { place = sym (pos-none sec s first); inside = h; room = length-unmarked; accepted = up-none _; noted = marked-none l sec s first }
 
   module _ (b : BookLimits l) {i at : ℕ} {marks : List ℕ} (h : Before l sec s first i at marks) where
     -- row i is judged by the marks
@@ -136,7 +137,7 @@ module _ (l : Limits) (sec : Section) (s : List ℕ) (first : ℕ) where
         let p = judged-parts i e in
         rw (em, ← en, h .place, p .0)
         (record {
-          place = sym (pos-more i);
+          place = sym (pos-more sec s first i);
           inside = row-end sec s (rowPos sec s first i) (p .1);
           room = simp length-set (h .room);
           accepted = up-more i _ (h .accepted) e;
@@ -166,10 +167,10 @@ module _ (l : Limits) (sec : Section) (s : List ℕ) (at : ℕ) where
     starts = section-start l sec s at e
 
     rows-inside : (i : ℕ) → i ≤ rowsIn s at → rowPos sec s (at + 2) i ≤ length s
-    rows-inside zero h = rw (pos-none l sec s (at + 2)) starts
+    rows-inside zero h = rw (pos-none sec s (at + 2)) starts
     rows-inside (suc i) h =
         let r = up-each (rowsIn s at) (judgedRow l sec s (at + 2)) (rw (← section-rows starts) e) i (omega arith) in
-        rw (← add-one i, pos-more l sec s (at + 2) i) (row-end sec s (rowPos sec s (at + 2) i) (judged-parts l sec s (at + 2) i r .1))
+        rw (← add-one i, pos-more sec s (at + 2) i) (row-end sec s (rowPos sec s (at + 2) i) (judged-parts l sec s (at + 2) i r .1))
 
     pub section-end : sectionEnd sec s at ≤ length s
     unfolding sectionEnd

@@ -34,7 +34,7 @@ fn wide(x: u8) -> u64
 }
 
 // The number that n bytes spell; a field of no bytes is 0.
-fn number(s: &[u8], at: usize, n: usize) -> usize
+pub fn number(s: &[u8], at: usize, n: usize) -> usize
     requires { ⌜ (n ≤ 2) × (at + n ≤ length (now s)) ⌝ }
     ensures { λ r. ⌜ (r ≡ num n (now (s .entry)) at) × (r < 65536) ⌝ }
 {

@@ -81,7 +81,7 @@ fn judge_values(part: &[u8], from: usize, sec: Section, n: usize) -> Verdict
 }
 
 // The lesser of two numbers.
-fn least(a: usize, b: usize) -> usize
+pub fn least(a: usize, b: usize) -> usize
     ensures { λ r. ⌜ r ≡ min a b ⌝ }
 {
     if a < b { a } else { b }

@@ -1,0 +1,55 @@
+-- `entry_word` meets its contract: before the flag, at it, and past it.
+use mathlib.Core.Path.{_≡_, _∙_}
+use native.Mathlib.Omega.{arith}
+use borrow.Author.Needs.{needs}
+use borrow.Author.Tests.{lt-ltb, le-ltb, eq-eqb, ne-eqb}
+use mir.Syntax.{w64}
+use mir.Val.{toZ, ofZ}
+use Rattle.submission.specs.Stored.{wordFrom}
+use Rattle.submission.proofs.store.entry_word.Statement.{statement}
+use Rattle.submission.proofs.store.entry_word.Tie as tie
+
+value-or-zero-requires : tie.Need-value-or-zero-requires
+value-or-zero-requires c κs = search needs
+
+returns : tie.Need-returns
+unfolding wordFrom
+returns c =
+    let g = c .before .before .before .before .args in
+    let z : toZ w64 (ofZ w64 (c .value-or-zero .result)) ≡ c .value-or-zero .result = search needs in
+    z ∙ rw (ne-eqb (g .j) (g .form .place) (λ e. omega arith), lt-ltb (g .j) (g .form .place) (c .before .if1 .taken)) (c .value-or-zero .ensures)
+
+flag-word-requires : tie.Need-flag-word-requires
+flag-word-requires c κs = search needs
+
+returns-2 : tie.Need-returns-2
+unfolding wordFrom
+returns-2 c =
+    let g = c .before .before .before .before .before .before .args in
+    let z : toZ w64 (ofZ w64 (c .flag-word .result)) ≡ c .flag-word .result = search needs in
+    z ∙ rw (eq-eqb (g .j) (g .form .place) (c .before .if2 .taken)) (c .flag-word .ensures)
+
+sub-value-or-zero : tie.Need-sub-value-or-zero
+sub-value-or-zero c = search needs
+
+value-or-zero-requires-2 : tie.Need-value-or-zero-requires-2
+value-or-zero-requires-2 c κs = search needs
+
+returns-3 : tie.Need-returns-3
+unfolding wordFrom
+returns-3 c =
+    let g = c .before .before .before .before .before .before .args in
+    let z : toZ w64 (ofZ w64 (c .value-or-zero2 .result)) ≡ c .value-or-zero2 .result = search needs in
+    z ∙ rw (ne-eqb (g .j) (g .form .place) (c .before .if2 .left), le-ltb (g .j) (g .form .place) (c .before .before .before .if1 .left)) (c .value-or-zero2 .ensures)
+
+pub entry-word-spec : {M : Type 1} → statement M
+entry-word-spec =
+    tie.close
+    (tie.spec
+    value-or-zero-requires
+    returns
+    flag-word-requires
+    returns-2
+    sub-value-or-zero
+    value-or-zero-requires-2
+    returns-3)

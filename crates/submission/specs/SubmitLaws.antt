@@ -1,0 +1,141 @@
+-- An accepted file's rows may be stored, and what is answered and left then is the promise. Assumes nothing.
+use mathlib.Core.Path.{_≡_, refl, sym, ap, _∙_, subst}
+use mathlib.Core.Bool.{Bool, true, false, cond}
+use mathlib.Core.List.{List}
+use Prim.Native.Nat.{ℕ, zero, suc, _+_, _*_, _≤_, _<_}
+use native.Mathlib.Omega.{arith}
+use lib.Dec.{T, leb→le}
+use lib.IntN.{ℤ}
+use lib.ListN.{length}
+use Rattle.rulebook.specs.declared.Section.{Section}
+use Rattle.rulebook.specs.declared.Section.the-variants.{Vesting, Meter, Residual, Ncc}
+use Rattle.rulebook.specs.declared.Terms.{Terms}
+use Rattle.rulebook.specs.declared.Why.{Why}
+use Rattle.rulebook.specs.declared.Verdict.the-variants.{Accepted, Refused}
+use Rattle.rulebook.specs.declared.SubmitAnswer.the-variants.{Taken, IllFormed, FileRefused}
+use Rattle.rulebook.specs.Terms.{InTerms}
+use Rattle.rulebook.specs.Sections.{accountsOf}
+use Rattle.rulebook.specs.Layout.{size}
+use Rattle.rulebook.specs.BookData.{termsOf, nextDay}
+use Rattle.rulebook.specs.WellFormed.{fits, wellFormed}
+use Rattle.rulebook.specs.File.{num, accountAt, valuesPos, valuesIn, rowPos, fileRows}
+use Rattle.rulebook.specs.Judging.{openFrom, limitsOf, judgedSection, judged}
+use Rattle.rulebook.specs.JudgingLaws.{Fine, section-start, section-row, sections}
+use Rattle.rulebook.specs.Submit.{rowsStored, submitted}
+use Rattle.rulebook.specs.Promises.{SubmitPromise}
+use Rattle.rulebook.specs.TestLaws.{and-left, and-right}
+use Rattle.rulebook.specs.FormedLaws.{all-fits, opened-of, next-of}
+use Rattle.book.specs.declared.judge.Judged.the-variants.{WellFormed, IllFormed}
+use Rattle.book.specs.Judged.{judgedBook}
+use Rattle.submission.specs.Stored.{RowFits, SectionFits, FileFits}
+
+-- ---- An accepted file
+
+account-below : (n : ℕ) (sec : Section) (s : List ℕ) (at : ℕ) → 1 ≤ n → accountAt sec s at < n → accountAt sec s at < accountsOf sec n
+unfolding num
+account-below n Vesting s at h l = l
+account-below n Meter s at h l = l
+account-below n Residual s at h l = l
+account-below n Ncc s at h l = omega arith
+
+module _ (o : Terms) (C : ℕ) (some : 1 ≤ o .accounts) (begun : o .first ≤ C) where
+  -- no section's open days begin before the book's first
+  open-late : (sec : Section) → o .first ≤ openFrom (limitsOf o C) sec
+  open-late Vesting = begun
+  open-late Meter = begun
+  open-late Residual = omega arith
+  open-late Ncc = omega arith
+
+  row-fits : (sec : Section) (s : List ℕ) (at : ℕ) → Fine (limitsOf o C) sec s at → RowFits o sec s at
+  row-fits sec s at h = record {
+    account = account-below (o .accounts) sec s at some (omega (arith, h .named .account .to));
+    day = omega (arith, open-late sec, h .named .day .from);
+    count = h .count .to;
+    whole = values-whole (valuesIn sec s at) refl;
+  }
+    where
+      values-whole : (n : ℕ) → valuesIn sec s at ≡ n → valuesPos sec at + 4 * valuesIn sec s at ≤ length s
+      values-whole zero e = omega (arith, h .count .whole)
+      values-whole (suc n) e = omega (arith, h .each n (omega arith) .whole)
+
+  section-fits : (sec : Section) (s : List ℕ) (at : ℕ) → judgedSection (limitsOf o C) sec s at ≡ Accepted → SectionFits o sec s at
+  section-fits sec s at e = record {
+    start = section-start (limitsOf o C) sec s at e;
+    rows = λ i h. row-fits sec s (rowPos sec s (at + 2) i) (section-row (limitsOf o C) sec s at e i h .1);
+  }
+
+  pub file-fits : (s : List ℕ) → judged (limitsOf o C) s ≡ Accepted → FileFits o s
+  file-fits s e =
+      let p = sections (limitsOf o C) s e in
+      record {
+        vesting = section-fits Vesting s _ (p .vesting);
+        meter = section-fits Meter s _ (p .meter);
+        residual = section-fits Residual s _ (p .residual);
+        ncc = section-fits Ncc s _ (p .ncc);
+      }
+
+-- ---- A book that was judged well formed
+
+module _ (w : List ℤ) where
+  pub record Formed (o : Terms) (C : ℕ) : Type 0 where
+    pub formed : wellFormed w ≡ true
+    pub terms : termsOf w ≡ o
+    pub next : nextDay w ≡ C
+    pub inTerms : InTerms o
+    pub begun : o .first ≤ C
+    pub ended : C ≤ 36525
+    pub room : size o ≤ length w
+
+  long : T (wellFormed w) → size (termsOf w) ≤ length w
+  unfolding fits
+  long t = let x = all-fits w t in leb→le (size (termsOf w)) (length w) (search (and-left, and-right) depth 6)
+
+  pub book-formed : (o : Terms) (C : ℕ) → judgedBook w ≡ WellFormed o C → Formed o C
+  unfolding judgedBook
+  book-formed o C e = go (wellFormed w) refl e
+    where
+      go : (b : Bool) → wellFormed w ≡ b → cond b (WellFormed (termsOf w) (nextDay w)) IllFormed ≡ WellFormed o C → Formed o C
+      go true f e =
+          let t : T (wellFormed w) = subst T (sym f) tt in
+          let x : termsOf w ≡ o = cc in
+          let y : nextDay w ≡ C = cc in
+          record {
+            formed = f;
+            terms = x;
+            next = y;
+            inTerms = subst InTerms x (opened-of w t);
+            begun = rw (← x, ← y) (next-of w t .1);
+            ended = rw (← y) (next-of w t .2);
+            room = rw (← x) (long t);
+          }
+      go false f e = absurd (let z : _≡_ {A = ℕ} 0 1 = cc in omega arith)
+
+  pub book-ill : judgedBook w ≡ IllFormed → wellFormed w ≡ false
+  unfolding judgedBook
+  book-ill e = go (wellFormed w) refl e
+    where
+      go : (b : Bool) → wellFormed w ≡ b → cond b (WellFormed (termsOf w) (nextDay w)) IllFormed ≡ IllFormed → wellFormed w ≡ false
+      go true f e = absurd (let z : _≡_ {A = ℕ} 0 1 = cc in omega arith)
+      go false f e = f
+
+  -- ---- The promise, answer by answer
+
+  module _ (s : List ℕ) where
+    pub ill-formed : wellFormed w ≡ false → SubmitPromise w s IllFormed w
+    unfolding submitted
+    ill-formed e = record { answered = rw e; bookAfter = rw e }
+
+    module _ (o : Terms) (C : ℕ) (f : Formed o C) where
+      verdict : judged (limitsOf (termsOf w) (nextDay w)) s ≡ judged (limitsOf o C) s
+      verdict = ap (λ (x : Terms). judged (limitsOf x (nextDay w)) s) (f .terms) ∙ ap (λ (D : ℕ). judged (limitsOf o D) s) (f .next)
+
+      pub file-taken : judged (limitsOf o C) s ≡ Accepted → SubmitPromise w s Taken (rowsStored o (fileRows s) w)
+      unfolding submitted
+      file-taken e = record {
+        answered = rw (f .formed, verdict ∙ e);
+        bookAfter = ap (λ (x : Terms). rowsStored x (fileRows s) w) (sym (f .terms)) ∙ rw (f .formed, verdict ∙ e);
+      }
+
+      pub file-refused : (why : Why) (at : ℕ) → judged (limitsOf o C) s ≡ Refused why at → SubmitPromise w s (FileRefused why at) w
+      unfolding submitted
+      file-refused why at e = record { answered = rw (f .formed, verdict ∙ e); bookAfter = rw (f .formed, verdict ∙ e) }
