@@ -8,12 +8,12 @@ use native.Mathlib.Omega.{arith}
 use lib.IntN.{ℤ}
 use lib.ListN.{length}
 use Rattle.integer.specs.Below.{fold, all}
-use Rattle.integer.specs.Words.{word}
-use Rattle.integer.specs.WordsLaws.{row-fits}
+use Rattle.integer.specs.Words.{word, part}
+use Rattle.integer.specs.WordsLaws.{row-fits, length-part}
 use Rattle.rulebook.specs.TestLaws.{all-same}
 use Rattle.rulebook.specs.WellFormed.{isZero}
-use Rattle.book.specs.Parts.{part, blank}
-use Rattle.book.specs.LoopLaws.{length-part, word-part}
+use Rattle.book.specs.Parts.{blank}
+use Rattle.book.specs.LoopLaws.{word-part}
 
 -- m tests, and n more
 pub all-add : (m n : ℕ) (p : ℕ → Bool) → all (m + n) p ≡ (all m p && all n (λ j. p (m + j)))

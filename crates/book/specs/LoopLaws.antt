@@ -10,8 +10,7 @@ use lib.ListN.{length, take, drop, length-take, length-drop}
 use lib.Seq.{getD-take, getD-drop}
 use Rattle.integer.specs.Below.{all}
 use Rattle.integer.specs.BelowLaws.{fold-step}
-use Rattle.integer.specs.Words.{word}
-use Rattle.book.specs.Parts.{part}
+use Rattle.integer.specs.Words.{word, part}
 
 -- one more turn of `ok = ok & test`
 pub all-step : (n : ℕ) (p : ℕ → Bool) {ok t : Bool} → ok ≡ all n p → t ≡ p n → (ok && t) ≡ all (n + 1) p
@@ -25,12 +24,6 @@ pub left : {r t : Bool} → r ≡ t → not r ≡ true → t ≡ false
 left {r} e h = sym e ∙ not-true r h
 
 -- ---- What is lent of xs from i to i + n
-
-pub lent : (xs : List ℤ) (i n : ℕ) → take (i + n - i) (drop i xs) ≡ part xs i n
-lent xs i n = let e : i + n - i ≡ n = omega arith in rw e
-
-pub length-part : (xs : List ℤ) (i n : ℕ) → i + n ≤ length xs → length (part xs i n) ≡ n
-length-part xs i n h = simp (length-take, length-drop) (omega arith)
 
 pub length-lent : (xs : List ℤ) (i n : ℕ) → i + n ≤ length xs → length (take (i + n - i) (drop i xs)) ≡ n
 length-lent xs i n h = simp (length-take, length-drop) (omega arith)

@@ -5,17 +5,13 @@ use Prim.Native.Nat.{ℕ, _+_, _*_}
 use lib.IntN.{ℤ}
 use lib.ListN.{length, take, drop}
 use Rattle.integer.specs.Below.{all}
-use Rattle.integer.specs.Words.{word}
+use Rattle.integer.specs.Words.{word, part}
 use Rattle.rulebook.specs.declared.Kind.{Kind}
 use Rattle.rulebook.specs.declared.Section.{Section}
 use Rattle.rulebook.specs.declared.Section.the-variants.{Vesting, Meter, Residual, Ncc}
 use Rattle.rulebook.specs.Units.{inRange, intervals}
 use Rattle.rulebook.specs.Layout.{intervalTable, accountTable, intervalWords, accountWords, tablePlace, flagIndex}
 use Rattle.rulebook.specs.WellFormed.{isZero, rowFits, sparesZero}
-
--- the n words of xs from i on
-abbrev pub part : List ℤ → ℕ → ℕ → List ℤ
-part xs i n = take n (drop i xs)
 
 -- every word is zero
 unfoldable pub blank : List ℤ → Bool

@@ -8,7 +8,7 @@ use native.Mathlib.Omega.{arith}
 use lib.IntN.{ℤ}
 use lib.ListN.{length, getD}
 use Rattle.integer.specs.Below.{fold, all}
-use Rattle.integer.specs.Words.{word}
+use Rattle.integer.specs.Words.{word, part}
 use Rattle.integer.specs.WordsLaws.{row-fits}
 use Rattle.rulebook.specs.declared.Section.{Section}
 use Rattle.rulebook.specs.declared.Section.the-variants.{Vesting, Meter, Residual, Ncc}
@@ -20,7 +20,7 @@ use Rattle.rulebook.specs.TestLaws.{all-same, tests-same}
 use Rattle.rulebook.specs.FormLaws.{fits-same}
 use Rattle.rulebook.specs.WellFormed as rule
 use Rattle.rulebook.specs.WellFormed.{isZero, rowFits, sparesZero, isThere, slotRow, accountWordsFit, bothThere, closedRowsThere, intervalBlank, slotBlank}
-use Rattle.book.specs.Parts.{part, blank, rowOf, rowsThere, accountFits, nccFits, accountsFit, intervalFits, intervalLength, intervalsFit, slotFits}
+use Rattle.book.specs.Parts.{blank, rowOf, rowsThere, accountFits, nccFits, accountsFit, intervalFits, intervalLength, intervalsFit, slotFits}
 use Rattle.book.specs.Slots.{slotLength}
 use Rattle.book.specs.LoopLaws.{word-part}
 use Rattle.book.specs.BlankLaws.{all-rows}

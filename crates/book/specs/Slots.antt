@@ -5,11 +5,12 @@ use Prim.Native.Nat.{ℕ, _+_, _-_, _*_}
 use lib.Dec.{ltb}
 use lib.IntN.{ℤ}
 use Rattle.integer.specs.Below.{all}
+use Rattle.integer.specs.Words.{part}
 use Rattle.rulebook.specs.declared.Terms.{Terms}
 use Rattle.rulebook.specs.Units.{lastDay, intervals}
 use Rattle.rulebook.specs.Layout.{ring}
 use Rattle.rulebook.specs.RingLaws.{turn-of}
-use Rattle.book.specs.Parts.{part, intervalLength, slotFits}
+use Rattle.book.specs.Parts.{intervalLength, slotFits}
 
 -- a slot's words, n accounts
 abbrev pub slotLength : ℕ → ℕ

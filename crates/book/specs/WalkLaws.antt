@@ -9,8 +9,8 @@ use lib.Dec.{T, ltb}
 use lib.IntN.{ℤ}
 use lib.ListN.{length}
 use Rattle.integer.specs.Below.{all}
-use Rattle.integer.specs.Words.{word}
-use Rattle.integer.specs.WordsLaws.{row-fits}
+use Rattle.integer.specs.Words.{word, part}
+use Rattle.integer.specs.WordsLaws.{row-fits, length-part}
 use Rattle.rulebook.specs.declared.Terms.{Terms}
 use Rattle.rulebook.specs.Units.{lastDay, intervals}
 use Rattle.rulebook.specs.Layout.{balanceWord, intervalWords, accountWords, intervalSize, ring, base, size}
@@ -20,9 +20,9 @@ use Rattle.rulebook.specs.RingLaws.{turn-of, turn-inside, turned, places-apart}
 use Rattle.rulebook.specs.WalkLaws.{days-are-places}
 use Rattle.rulebook.specs.WellFormed as rule
 use Rattle.rulebook.specs.WellFormed.{closedRowsThere, slotBlank, daysFit}
-use Rattle.book.specs.Parts.{part, intervalLength, slotFits}
+use Rattle.book.specs.Parts.{intervalLength, slotFits}
 use Rattle.book.specs.Slots.{slotLength, isDay, slotsFit}
-use Rattle.book.specs.LoopLaws.{length-part, word-part}
+use Rattle.book.specs.LoopLaws.{word-part}
 use Rattle.book.specs.SlotLaws.{slot-is}
 
 cond-not : {A : Type 0} (b : Bool) (x y : A) → cond (not b) x y ≡ cond b y x

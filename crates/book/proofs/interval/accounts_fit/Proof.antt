@@ -4,9 +4,11 @@ use Prim.Native.Nat.{_+_, _-_, _*_, _≤_}
 use native.Mathlib.Omega.{arith}
 use borrow.Author.Needs.{needs}
 use Rattle.integer.specs.Below.{fold, all}
+use Rattle.integer.specs.Words.{part}
+use Rattle.integer.specs.WordsLaws.{lent}
 use Rattle.rulebook.specs.Layout.{intervalWords, accountWords}
-use Rattle.book.specs.LoopLaws.{all-step, lent, length-lent}
-use Rattle.book.specs.Parts.{part, accountFits, accountsFit}
+use Rattle.book.specs.LoopLaws.{all-step, length-lent}
+use Rattle.book.specs.Parts.{accountFits, accountsFit}
 use Rattle.book.proofs.interval.accounts_fit.Statement.{statement}
 use Rattle.book.proofs.interval.accounts_fit.Tie as tie
 

@@ -3,11 +3,12 @@ use mathlib.Core.Path.{_≡_, _∙_}
 use Prim.Native.Nat.{_+_, _*_}
 use native.Mathlib.Omega.{arith}
 use borrow.Author.Needs.{needs}
+use Rattle.integer.specs.WordsLaws.{lent}
 use Rattle.rulebook.specs.Layout.{balanceWord, ring}
 use Rattle.rulebook.specs.WellFormed.{daysFit}
 use Rattle.book.specs.JudgeLaws.{header-inside}
 use Rattle.book.specs.Judged.{contentsFit}
-use Rattle.book.specs.LoopLaws.{lent, length-lent}
+use Rattle.book.specs.LoopLaws.{length-lent}
 use Rattle.book.specs.Slots.{slotLength}
 use Rattle.book.specs.WalkLaws.{size-by-slots, slots-are-days}
 use Rattle.book.proofs.judge.contents_fit.Statement.{statement}

@@ -5,9 +5,10 @@ use native.Mathlib.Nat.{le-of-eq}
 use native.Mathlib.Omega.{arith}
 use borrow.Author.Needs.{needs}
 use Rattle.integer.specs.Below.{fold, all}
-use Rattle.integer.specs.WordsLaws.{row-fits}
-use Rattle.book.specs.LoopLaws.{all-step, lent, length-lent}
-use Rattle.book.specs.Parts.{part, intervalFits, intervalLength, intervalsFit}
+use Rattle.integer.specs.WordsLaws.{row-fits, lent}
+use Rattle.integer.specs.Words.{part}
+use Rattle.book.specs.LoopLaws.{all-step, length-lent}
+use Rattle.book.specs.Parts.{intervalFits, intervalLength, intervalsFit}
 use Rattle.book.proofs.slots.intervals_fit.Statement.{statement}
 use Rattle.book.proofs.slots.intervals_fit.Tie as tie
 

@@ -8,12 +8,13 @@ use borrow.Author.Needs.{needs}
 use lib.Dec.{ltb}
 use lib.IntN.{ℤ}
 use Rattle.integer.specs.Below.{fold, all}
-use Rattle.integer.specs.WordsLaws.{row-fits}
+use Rattle.integer.specs.WordsLaws.{row-fits, lent}
+use Rattle.integer.specs.Words.{part}
 use Rattle.rulebook.specs.Layout.{ring}
 use Rattle.rulebook.specs.RingLaws.{turn-of}
 use Rattle.rulebook.specs.declared.Terms.{Terms}
-use Rattle.book.specs.LoopLaws.{all-step, lent, length-lent}
-use Rattle.book.specs.Parts.{part, slotFits}
+use Rattle.book.specs.LoopLaws.{all-step, length-lent}
+use Rattle.book.specs.Parts.{slotFits}
 use Rattle.book.specs.Slots.{slotLength, isDay, slotsFit}
 use Rattle.book.proofs.slots.slots_fit.Statement.{statement}
 use Rattle.book.proofs.slots.slots_fit.Tie as tie

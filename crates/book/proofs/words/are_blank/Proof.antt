@@ -4,9 +4,11 @@ use Prim.Native.Nat.{_-_, _*_, _≤_}
 use native.Mathlib.Omega.{arith}
 use borrow.Author.Needs.{needs}
 use Rattle.integer.specs.Below.{fold, all}
+use Rattle.integer.specs.Words.{part}
+use Rattle.integer.specs.WordsLaws.{lent}
 use Rattle.book.specs.BlankLaws.{blank-rows}
-use Rattle.book.specs.LoopLaws.{all-step, lent}
-use Rattle.book.specs.Parts.{part, blank}
+use Rattle.book.specs.LoopLaws.{all-step}
+use Rattle.book.specs.Parts.{blank}
 use Rattle.book.proofs.words.are_blank.Statement.{statement}
 use Rattle.book.proofs.words.are_blank.Tie as tie
 
