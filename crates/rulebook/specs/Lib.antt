@@ -43,6 +43,7 @@ pub mod DataExamples
 pub mod NumberExamples
 pub mod CallExamples
 pub mod HistoryExamples
+pub mod SearchExamples
 pub mod EncodingExamples
 pub mod JudgingExamples
 -- laws, in the order in which they lean on each other

@@ -37,7 +37,7 @@ use Rattle.rulebook.specs.FileTheorems.{FileTheorems, file-theorems}
 use Rattle.rulebook.specs.Figures.{Right, starred, starred-right}
 use Rattle.rulebook.specs.WorkedDay.{WorkedDay, worked-day}
 use Rattle.rulebook.specs.Examples.{RowExamples, row-examples, Headers, headers, Balances, balances, Ranges, ranges}
-use Rattle.rulebook.specs.AmountExamples.{BoundReached, bound-reached}
+use Rattle.rulebook.specs.AmountExamples.{BoundReached, bound-reached, LagOfTwo, lag-of-two}
 use Rattle.rulebook.specs.LayoutExamples.{Places, places, Windows, windows}
 use Rattle.rulebook.specs.BookExamples.{Days, days}
 use Rattle.rulebook.specs.FileExamples.{FiguresRead, figures-read}
@@ -45,6 +45,7 @@ use Rattle.rulebook.specs.DataExamples.{BookRead, book-read, RowsRead, r
 use Rattle.rulebook.specs.NumberExamples.{Returned, returned, Table, table, Refusals, refusals, ThreeAccounts, three-accounts}
 use Rattle.rulebook.specs.CallExamples.{Openings, openings, LentBooks, lent-books}
 use Rattle.rulebook.specs.HistoryExamples.{Closes, closes-told, NewBooks, new-books}
+use Rattle.rulebook.specs.SearchExamples.{SearchedFlags, searched-flags}
 use Rattle.rulebook.specs.SharesLaws.{ShareTotal, share-total, RuleShare, share-rule}
 use Rattle.rulebook.specs.TranchesLaws.{TrancheSplit, tranche-split}
 use Rattle.rulebook.specs.DayAmountLaws.{posted-within, msslExact, mssl-within}
@@ -125,6 +126,8 @@ pub record Theorems : Type 0 where
   pub starredRight : Each Right starred
   pub workedDay : WorkedDay
   pub boundReached : BoundReached
+  -- the residual day two days back
+  pub lagOfTwo : LagOfTwo
   -- ranges, rows, headers, every word's index, the window, figures by name
   pub ranges : Ranges
   pub rows : RowExamples
@@ -145,6 +148,8 @@ pub record Theorems : Type 0 where
   pub lentBooks : LentBooks
   pub closes : Closes
   pub newBooks : NewBooks
+  -- the search by index, through accounts and intervals
+  pub searchedFlags : SearchedFlags
 
 pub theorems : Theorems
 theorems = record {
@@ -179,6 +184,7 @@ theorems = record {
   starredRight = starred-right;
   workedDay = worked-day;
   boundReached = bound-reached;
+  lagOfTwo = lag-of-two;
   ranges = ranges;
   rows = row-examples;
   headers = headers;
@@ -197,4 +203,5 @@ theorems = record {
   lentBooks = lent-books;
   closes = closes-told;
   newBooks = new-books;
+  searchedFlags = searched-flags;
 }
