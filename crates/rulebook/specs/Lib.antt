@@ -41,6 +41,7 @@ pub mod BookExamples
 pub mod FileExamples
 pub mod DataExamples
 pub mod NumberExamples
+pub mod InputExamples
 pub mod CallExamples
 pub mod HistoryExamples
 pub mod SearchExamples

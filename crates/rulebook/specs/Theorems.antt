@@ -43,6 +43,7 @@ use Rattle.rulebook.specs.BookExamples.{Days, days}
 use Rattle.rulebook.specs.FileExamples.{FiguresRead, figures-read}
 use Rattle.rulebook.specs.DataExamples.{BookRead, book-read, RowsRead, rows-read}
 use Rattle.rulebook.specs.NumberExamples.{Returned, returned, Table, table, Refusals, refusals, ThreeAccounts, three-accounts}
+use Rattle.rulebook.specs.InputExamples.{CallsTold, calls-told}
 use Rattle.rulebook.specs.CallExamples.{Openings, openings, LentBooks, lent-books}
 use Rattle.rulebook.specs.HistoryExamples.{Closes, closes-told, NewBooks, new-books}
 use Rattle.rulebook.specs.SearchExamples.{SearchedFlags, searched-flags}
@@ -144,6 +145,8 @@ pub record Theorems : Type 0 where
   pub table : Table
   pub refusals : Refusals
   pub threeAccounts : ThreeAccounts
+  -- the calls on no book, and openings
+  pub callsTold : CallsTold
   pub openings : Openings
   pub lentBooks : LentBooks
   pub closes : Closes
@@ -199,6 +202,7 @@ theorems = record {
   table = table;
   refusals = refusals;
   threeAccounts = three-accounts;
+  callsTold = calls-told;
   openings = openings;
   lentBooks = lent-books;
   closes = closes-told;
