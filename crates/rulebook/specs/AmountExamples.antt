@@ -34,9 +34,12 @@ unfolding fold share shareOf tranche1 tranche2 referencePrice average nearest wi
 bound-reached = record { most = refl; least = refl; mssl = refl }
 
 -- 1000 less three times 10 + 1 + 2 + 4
-pub three-accounts-left : residualLoad 1000 3 (λ b. accountData 10 (pos 0) (1 ∷ 2 ∷ 4 ∷ []) [] (pos 0 ∷ []) (pos 0 ∷ []) 0 0 (pos 0) (pos 0)) ≡ pos 949
+pub record ResidualOfThree : Type 0 where
+  pub left : residualLoad 1000 3 (λ b. accountData 10 (pos 0) (1 ∷ 2 ∷ 4 ∷ []) [] (pos 0 ∷ []) (pos 0 ∷ []) 0 0 (pos 0) (pos 0)) ≡ pos 949
+
+pub residual-of-three : ResidualOfThree
 unfolding fold residualLoad vestedQuantity
-three-accounts-left = refl
+residual-of-three = record { left = refl }
 
 -- ---- L = 2
 

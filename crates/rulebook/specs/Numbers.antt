@@ -3,6 +3,8 @@ use Prim.Native.Nat.{ℕ}
 use lib.IntN.{ℤ, pos}
 use Rattle.rulebook.specs.declared.Why.{Why}
 use Rattle.rulebook.specs.declared.Why.the-variants.{NotWhole, OutOfRange, DayNotOpen, Repeated, Excess}
+use Rattle.rulebook.specs.declared.Verdict.{Verdict}
+use Rattle.rulebook.specs.declared.Verdict.the-variants.{Accepted, Refused}
 use Rattle.rulebook.specs.declared.OpenAnswer.{OpenAnswer}
 use Rattle.rulebook.specs.declared.OpenAnswer.the-variants.{Opened, BadTerms, TooShort}
 use Rattle.rulebook.specs.declared.SubmitAnswer.{SubmitAnswer}
@@ -99,10 +101,15 @@ ofOpen Opened = numbered accepted 0
 ofOpen BadTerms = numbered outsideRange 0
 ofOpen TooShort = numbered wordsTooFew 0
 
+-- a file's
+abbrev pub ofVerdict : Verdict → Answer
+ofVerdict Accepted = numbered accepted 0
+ofVerdict (Refused why at) = numbered (whyNumber why) at
+
 abbrev pub ofSubmit : SubmitAnswer → Answer
-ofSubmit Taken = numbered accepted 0
+ofSubmit Taken = ofVerdict Accepted
 ofSubmit IllFormed = numbered notWellFormed 0
-ofSubmit (FileRefused why at) = numbered (whyNumber why) at
+ofSubmit (FileRefused why at) = ofVerdict (Refused why at)
 
 abbrev pub ofClose : CloseAnswer → Answer
 ofClose (Closed day count) = record { number = accepted; position = 0; day = day; count = count }
