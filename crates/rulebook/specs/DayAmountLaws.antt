@@ -1,9 +1,9 @@
 -- Posting: posted cents times 1,000 are within 500 thousandths of the exact amount, and the MSSL's within N × 500. Assumes nothing.
 use mathlib.Core.Path.{_≡_}
-use Prim.Native.Nat.{ℕ, _+_, _*_, _≤_, _<_}
+use Prim.Native.Nat.{ℕ, _*_, _≤_, _<_}
 use native.Mathlib.Omega.{arith}
 use lib.Dec.{lit<}
-use lib.IntN.{ℤ, pos, negℤ, natAbs, _+ℤ_, _-ℤ_, _*ℤ_}
+use lib.IntN.{ℤ, pos, negℤ, natAbs, _-ℤ_, _*ℤ_}
 use Rattle.integer.specs.IntegerLaws.{abs-neg}
 use Rattle.integer.specs.Below.{sumℤ}
 use Rattle.integer.specs.BelowLaws.{abs-sumℤ, sumℤ-linear}

@@ -1,4 +1,4 @@
--- chapters, in document 01's order
+-- chapters, in the order of reading
 pub mod Units
 pub mod ReferencePrice
 pub mod Shares

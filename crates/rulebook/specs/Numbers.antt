@@ -1,4 +1,5 @@
 -- Document 01, "Numbers returned": the table, and what each answer returns. Assumes nothing.
+use mathlib.Core.List.{List}
 use Prim.Native.Nat.{ℕ}
 use lib.IntN.{ℤ, pos}
 use Rattle.rulebook.specs.declared.Why.{Why}
@@ -138,6 +139,11 @@ abbrev pub shareNumber : ShareAnswer → ℕ
 shareNumber Shared = accepted
 shareNumber ShareRefused = outsideRange
 shareNumber OutputTooShort = outputTooShort
+
+-- the number, and the output's words after
+pub record ShareReturned : Type 0 where
+  pub number : ℕ
+  pub output : List ℤ
 
 pub record TrancheReturned : Type 0 where
   pub number : ℕ
