@@ -1,4 +1,5 @@
 pub mod Calendar
+pub mod CalendarTheorems
 pub mod Steps
 pub mod YearLaws
 pub mod DateLaws

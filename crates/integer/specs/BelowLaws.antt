@@ -1,10 +1,10 @@
 -- Laws of sums, tests, searches and tables over the numbers below n; each has one for one more turn of its loop. Assumes nothing.
 use mathlib.Core.Path.{_≡_, refl, sym, ap, _∙_}
-use mathlib.Core.Bool.{Bool, true, false, cond, _&&_, _||_, and-false}
+use mathlib.Core.Bool.{Bool, true, false, _&&_, and-false}
 use mathlib.Core.Logic.{_⊎_, inl, inr, ⊎-elim}
 use mathlib.Core.List.{List, [], _∷_, _++_}
 use Prim.Native.Nat.{ℕ, zero, suc, _+_, _*_, _≤_, _<_}
-use native.Mathlib.Nat.{not-suc-le-zero, le-of-suc-le-suc, suc-mul, mul-add, mul-zero, add-zero, add-suc, zero-mul}
+use native.Mathlib.Nat.{not-suc-le-zero, le-of-suc-le-suc, suc-mul}
 use native.Mathlib.Numerals.{add-one}
 use native.Mathlib.Omega.{arith}
 use borrow.Author.Tests.{ltb-true, ltb-false}
@@ -15,7 +15,7 @@ use lib.ListN.{length, getD}
 use lib.Seq.{ext-getD}
 use Rattle.integer.specs.declared.Found.{Found}
 use Rattle.integer.specs.declared.Found.the-variants.{At, Nothing}
-use Rattle.integer.specs.Below.{fold, sumℕ, sumℤ, all, any, count, orElse, isFound, first, turns, tabulate, Each}
+use Rattle.integer.specs.Below.{fold, sumℕ, sumℤ, all, orElse, isFound, first, turns, tabulate, Each}
 use Rattle.integer.specs.IntegerLaws.{abs-add, parts-le, le-parts, add-parts}
 use Rattle.integer.specs.Ring.{as-diff, diffs, ring}
 

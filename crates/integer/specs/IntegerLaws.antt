@@ -1,12 +1,12 @@
 -- Laws of the integers, by their parts: everything linear in z is linear in `positive z` and `negative z`, so `omega int` decides it.
 -- Assumes nothing.
-use mathlib.Core.Path.{_≡_, refl, sym, ap, _∙_, subst}
+use mathlib.Core.Path.{_≡_, refl, sym, ap, subst}
 use mathlib.Core.Bool.{Bool, true, false, cond}
 use Prim.Native.Nat.{ℕ, zero, suc, _+_, _*_, _-_, _≤_, _<_, _^_, min}
 use native.Mathlib.Omega.{arith}
 use native.Mathlib.Nat.{le-refl, le-trans, le-of-eq, mul-le-mul, mul-add, mul-comm, lt-of-le-of-lt}
 use borrow.Author.Tests.{ltb-true, ltb-false, leb-true, leb-false}
-use lib.Dec.{T, ltb, leb, ltb→lt, le→leb, lt→ltb}
+use lib.Dec.{T, ltb, ltb→lt, le→leb, lt→ltb}
 use lib.IntN.{ℤ, pos, negsuc, negℤ, natAbs, subℕ, _+ℤ_, _-ℤ_, _*ℤ_}
 use lib.Signed.{mag, _≤ℤ_, _<ℤ_, leZ, ltZ, nonNeg}
 use mir.Syntax.{w64}

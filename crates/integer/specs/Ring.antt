@@ -1,9 +1,9 @@
 -- A solver for equations and orders of ℤ: every integer is a difference of two naturals, and sums, negations and products of differences
 -- are differences. `rw (as-diff a, as-diff b, ..) (simp diffs (omega ring))`. Assumes nothing.
-use mathlib.Core.Path.{_≡_, refl, sym, ap, _∙_}
+use mathlib.Core.Path.{_≡_, ap}
 use Prim.Native.Nat.{ℕ, suc, _+_, _*_, _≤_, _<_}
 use native.Mathlib.Omega.{arith}
-use lib.IntN.{ℤ, pos, negsuc, negℤ, subℕ, _+ℤ_, _-ℤ_, _*ℤ_}
+use lib.IntN.{ℤ, pos, negsuc, negℤ, subℕ, _+ℤ_, _*ℤ_}
 use lib.Signed.{_≤ℤ_, _<ℤ_}
 use Rattle.integer.specs.Integer.{positive, negative}
 use Rattle.integer.specs.IntegerLaws.{parts-eq, parts-le, parts-lt, add-parts, neg-parts, mul-parts, subℕ-parts, eq-parts, le-parts, lt-parts, lt-test, nlt-test, le-test, nle-test, read-abs}

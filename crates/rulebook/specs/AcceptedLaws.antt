@@ -21,7 +21,7 @@ use Rattle.rulebook.specs.File.{num, accountAt, dayAt, countAt, rowAt, r
 use Rattle.rulebook.specs.Judging.{openFrom, limitsOf, given, judgedSection, judged}
 use Rattle.rulebook.specs.JudgingLaws.{Fine, section-row, sections}
 use Rattle.rulebook.specs.NamedRows.{NamedRow, named, namedRows}
-use Rattle.rulebook.specs.Encoding.{ofSection, encoded}
+use Rattle.rulebook.specs.Encoding.{rowsOf, encoded}
 use Rattle.rulebook.specs.Proper.{Bytes, AccountOf, OpenDay, CountInRange, FigureInRange, Proper, sameKey, Once, ProperRows}
 use Rattle.rulebook.specs.SoundLaws.{kind-turn}
 use Rattle.rulebook.specs.ListLaws.{each-both}
@@ -133,7 +133,7 @@ module _ (o : Terms) (terms : InTerms o) (C : ℕ) (s : List ℕ) where
       (apart-both _ _ _ (apart Meter Residual _ _ refl) (apart Meter Ncc _ _ refl)))
       (apart-both _ _ _ (apart Vesting Meter _ _ refl) (apart-both _ _ _ (apart Vesting Residual _ _ refl) (apart Vesting Ncc _ _ refl))))
 
-  rows-few : Bytes s → (sec : Section) → length (ofSection sec (namedRows s)) ≤ 65535
+  rows-few : Bytes s → (sec : Section) → length (rowsOf sec (namedRows s)) ≤ 65535
   unfolding sectionOf
   rows-few b Vesting = rw (of-rows s .0, length-tabulate) (two-bytes s b 0)
   rows-few b Meter = rw (of-rows s .1, length-tabulate) (two-bytes s b (meterPos s))

@@ -10,7 +10,7 @@ use Rattle.rulebook.specs.declared.Section.the-variants.{Vesting, Meter,
 use Rattle.rulebook.specs.Sections.{perInterval}
 use Rattle.rulebook.specs.File.{valuesPos, countAt, rowEnd, rowPos, rowsIn, sectionEnd, meterPos, residualPos, nccPos, endPos}
 use Rattle.rulebook.specs.NamedRows.{NamedRow}
-use Rattle.rulebook.specs.FileTable.{Field, EndOfFile, start, size, rowOf, headingFields, intervalFields, rowFields, sectionFields, fieldsOf, EndToEnd}
+use Rattle.rulebook.specs.FileTable.{Field, EndOfFile, start, fieldBytes, rowOf, headingFields, intervalFields, rowFields, sectionFields, fieldsOf, EndToEnd}
 use Rattle.rulebook.specs.ListLaws.{map-tabulate}
 use Rattle.rulebook.specs.IntervalLaws.{figure-table, is-figure}
 use Rattle.rulebook.specs.PositionLaws.{pos-zero, pos-suc}
@@ -20,10 +20,10 @@ use Rattle.rulebook.specs.PositionLaws.{pos-zero, pos-suc}
 ends-append : (xs ys : List Field) (a b c : ℕ) → EndToEnd a xs b → EndToEnd b ys c → EndToEnd a (xs ++ ys) c
 unfolding EndToEnd
 ends-append [] ys a b c p q = rw p q
-ends-append (f ∷ xs) ys a b c p q = (p .0, ends-append xs ys (a + size f) b c (p .1) q)
+ends-append (f ∷ xs) ys a b c p q = (p .0, ends-append xs ys (a + fieldBytes f) b c (p .1) q)
 
 -- e 0, e 1, .. e n are the ends
-ends-table : (n : ℕ) (f : ℕ → Field) (e : ℕ → ℕ) → ((i : ℕ) → i < n → (start (f i) ≡ e i) × (e i + size (f i) ≡ e (suc i))) → EndToEnd (e 0) (tabulate n f) (e n)
+ends-table : (n : ℕ) (f : ℕ → Field) (e : ℕ → ℕ) → ((i : ℕ) → i < n → (start (f i) ≡ e i) × (e i + fieldBytes (f i) ≡ e (suc i))) → EndToEnd (e 0) (tabulate n f) (e n)
 unfolding EndToEnd tabulate
 ends-table zero f e h = refl
 ends-table (suc n) f e h =

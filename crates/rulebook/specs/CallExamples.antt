@@ -21,7 +21,6 @@ use Rattle.rulebook.specs.Judging.{upTo, judgedSection, judged}
 use Rattle.rulebook.specs.Submit.{rowsStored, submitted}
 use Rattle.rulebook.specs.Close.{closed}
 use Rattle.rulebook.specs.Numbers.{numbered, ofOpen, ofSubmit, ofClose}
-use Rattle.rulebook.specs.History.{closes}
 use Rattle.rulebook.specs.Examples.{two, in-two, zeros}
 use Rattle.rulebook.specs.LayoutExamples.{places}
 use Rattle.rulebook.specs.TestLaws.{T-path}

@@ -14,7 +14,7 @@ use Rattle.rulebook.specs.Units.{inRange, between, asQuantity}
 use Rattle.rulebook.specs.ReferencePrice.{mostFacilities, referencePrice}
 use Rattle.rulebook.specs.Shares.{mostAccounts, leastResidual, mostResidual, share}
 use Rattle.rulebook.specs.Tranches.{tranche1, tranche2}
-use Rattle.rulebook.specs.Numbers.{accepted, outsideRange, outputTooShort, PriceReturned, priceAccepted, priceRefused, TrancheReturned, trancheAccepted, trancheRefused}
+use Rattle.rulebook.specs.Numbers.{accepted, outsideRange, outputTooShort, PriceReturned, priceAccepted, priceRefused, ShareReturned, TrancheReturned, trancheAccepted, trancheRefused}
 
 -- every word of a list is in the range of its kind
 unfoldable pub allInRange : Kind → List ℤ → Bool
@@ -43,11 +43,6 @@ spareGeneration uegq = sumℕ (length uegq) (λ b. asQuantity (word uegq b))
 -- one word an account
 unfoldable pub shareWord : ℤ → List ℤ → ℕ → ℤ
 shareWord r uegq a = pos (share r (length uegq) (λ b. asQuantity (word uegq b)) a)
-
--- the number, and the output's words after
-pub record ShareReturned : Type 0 where
-  pub number : ℕ
-  pub output : List ℤ
 
 unfoldable pub shareCall : ℤ → List ℤ → List ℤ → ShareReturned
 shareCall r uegq output =

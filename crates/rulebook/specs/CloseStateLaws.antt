@@ -26,7 +26,7 @@ use Rattle.rulebook.specs.BookData.{entriesOf, bookData, dataOf}
 use Rattle.rulebook.specs.WellFormed.{dayBound}
 use Rattle.rulebook.specs.File.{Row}
 use Rattle.rulebook.specs.Close.{firstMissing, settled, closed, posted, postedToMssl, residualCount, dayClosed, closeRefused, Closing}
-use Rattle.rulebook.specs.Numbers.{accepted, ofClose}
+use Rattle.rulebook.specs.Numbers.{ofClose}
 use Rattle.rulebook.specs.History.{latest, close, Event, closes, inForce, acceptedRows, lastFor, formulaBalance, formulaAmount, residualCounts, closingDay, dataInForce}
 use Rattle.rulebook.specs.Demand3.{vestingOf, meterOf}
 use Rattle.rulebook.specs.AmountLaws.{Agree, posted-same}

@@ -15,8 +15,6 @@ use Rattle.integer.specs.Words.{word}
 use Rattle.rulebook.specs.declared.Section.{Section}
 use Rattle.rulebook.specs.declared.Section.the-variants.{Vesting, Meter, Residual, Ncc}
 use Rattle.rulebook.specs.declared.Terms.{Terms}
-use Rattle.rulebook.specs.declared.Verdict.{Verdict}
-use Rattle.rulebook.specs.declared.Verdict.the-variants.{Accepted, Refused}
 use Rattle.rulebook.specs.declared.OpenAnswer.{OpenAnswer}
 use Rattle.rulebook.specs.Units.{lastDay, intervals}
 use Rattle.rulebook.specs.DayAmount.{residualDue, residualDay}
@@ -25,18 +23,14 @@ use Rattle.rulebook.specs.Layout.{size, flagWord}
 use Rattle.rulebook.specs.Opening.{header}
 use Rattle.rulebook.specs.File.{Row}
 use Rattle.rulebook.specs.Judging.{limitsOf, judged}
-use Rattle.rulebook.specs.Numbers.{Answer, numbered, whyNumber, accepted, outsideRange, wordsTooFew, notWellFormed, bookFinished, outputTooShort, datumAbsent, ofOpen, ofSubmit, ofClose}
+use Rattle.rulebook.specs.Numbers.{Answer, numbered, accepted, outsideRange, wordsTooFew, notWellFormed, bookFinished, outputTooShort, datumAbsent, ofOpen, ofVerdict, ofSubmit, ofClose}
 use Rattle.rulebook.specs.History.{Event, closingDay, inForce, formulaAmount}
 use Rattle.rulebook.specs.Promises.{OpenPromise, Run, begun, thenSubmit, thenClose}
 
 -- ---- A submission: what the judge says at C = F + k
 
-abbrev pub verdictTold : Verdict → Answer
-verdictTold Accepted = numbered accepted 0
-verdictTold (Refused why at) = numbered (whyNumber why) at
-
 abbrev pub submitTold : Terms → List Event → List ℕ → Answer
-submitTold o past file = verdictTold (judged (limitsOf o (closingDay o past)) file)
+submitTold o past file = ofVerdict (judged (limitsOf o (closingDay o past)) file)
 
 -- ---- A close: 9 when no day is left, else 10 without room, else 11 when a needed row is missing, else 0 with day and count
 

@@ -27,10 +27,10 @@ use Rattle.rulebook.specs.File.{fileRows}
 use Rattle.rulebook.specs.Judging.{limitsOf, judged}
 use Rattle.rulebook.specs.Submit.{Submission, submitted, taken}
 use Rattle.rulebook.specs.Close.{Closing, closed, settled, posted, postedToMssl, residualCount, firstMissing}
-use Rattle.rulebook.specs.Numbers.{notWellFormed, whyNumber, ofSubmit, ofClose}
+use Rattle.rulebook.specs.Numbers.{notWellFormed, whyNumber, ofVerdict, ofSubmit, ofClose}
 use Rattle.rulebook.specs.History.{Event, closes, inForce, formulaBalance, closingDay, formulaAmount}
 use Rattle.rulebook.specs.Promises.{SubmitPromise, ClosePromise, Run, begun, thenSubmit, thenClose}
-use Rattle.rulebook.specs.Companion.{verdictTold, firstLacking, searchTold, closeTold, SubmitTells, CloseTells, EachTold, CompanionHolds}
+use Rattle.rulebook.specs.Companion.{firstLacking, searchTold, closeTold, SubmitTells, CloseTells, EachTold, CompanionHolds}
 use Rattle.rulebook.specs.SoundLaws.{file-sound}
 use Rattle.rulebook.specs.FormLaws.{ring-pos}
 use Rattle.rulebook.specs.SearchLaws.{search-is}
@@ -51,14 +51,14 @@ module _ (o : Terms) (t : InTerms o) (past : List Event) (w : List ℤ) (h : Sta
   -- ---- submit
   submit-by : (file : List ℕ) (v : Verdict) → judged (limitsOf o (closingDay o past)) file ≡ v → SubmitTells o past w file (ofSubmit (taken w file v .answer)) (taken w file v .words)
   submit-by file Accepted e = record {
-    answered = ap verdictTold (sym e);
+    answered = ap ofVerdict (sym e);
     wellFormed = λ x. omega arith;
     refused = λ x. absurd (x refl);
     beyond = rw (terms o t past w h) (rows-beyond o (ring-pos o t) (closes past) (fileRows file) w
         (storable o (closes past) (t .horizonFrom) (fileRows file) (file-sound (limitsOf o (closingDay o past)) (t .accountsFrom) file e)));
   }
   submit-by file (Refused why at) e = record {
-    answered = ap verdictTold (sym e);
+    answered = ap ofVerdict (sym e);
     wellFormed = not-3 why;
     refused = λ x. refl;
     beyond = kept-all (size o) w;

@@ -59,7 +59,7 @@ pub record Demand3 (o : Terms) (book : List ℤ) (past : List Event) : Type 0 wh
   pub balances : (a : ℕ) → a < o .accounts → word book (balanceWord a) ≡ formulaBalance o past a
   -- all balances and the MSSL's sum to zero
   pub total : sumℤ (o .accounts) (λ a. word book (balanceWord a)) +ℤ word book msslWord ≡ pos 0
-  -- the counts that the closes returned are 48 N for each closed day from the L-th on
+  -- the counts that the closes returned are 48 N for each closed day but the first L: `-` stops at 0
   pub residuals : residualCounts past ≡ intervals * o .accounts * (closes past - o .lag)
   pub reported : EachReported o past
 

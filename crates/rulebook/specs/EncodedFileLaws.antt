@@ -19,7 +19,7 @@ use Rattle.rulebook.specs.Terms.{InTerms}
 use Rattle.rulebook.specs.File.{accountAt, dayAt, rowPos, sectionEnd, meterPos, residualPos, nccPos, endPos}
 use Rattle.rulebook.specs.Judging.{limitsOf, given, rowAfter, judgedRow, judgedSection, judged}
 use Rattle.rulebook.specs.NamedRows.{NamedRow, namedRows}
-use Rattle.rulebook.specs.Encoding.{bytes, rowBytes, ofSection, sectionBytes, encoded}
+use Rattle.rulebook.specs.Encoding.{bytes, rowBytes, rowsOf, sectionBytes, encoded}
 use Rattle.rulebook.specs.Proper.{Proper, sameKey, Once, ProperRows, Alike, AllAlike}
 use Rattle.rulebook.specs.ListLaws.{each-at}
 use Rattle.rulebook.specs.VerdictLaws.{up-all}
@@ -113,11 +113,11 @@ module _ (o : Terms) (terms : InTerms o) (C : ℕ) (s : List ℕ) (sec : Section
 -- ---- The file
 
 module _ (o : Terms) (terms : InTerms o) (C : ℕ) (rows : List NamedRow) (p : ProperRows o C rows) where
-  part-read : (sec : Section) (at : ℕ) (xs : List ℕ) → From (encoded rows) at (sectionBytes (ofSection sec rows) ++ xs)
-      → (judgedSection (limitsOf o C) sec (encoded rows) at ≡ Accepted) × AllAlike (sectionOf (encoded rows) sec at) (ofSection sec rows)
+  part-read : (sec : Section) (at : ℕ) (xs : List ℕ) → From (encoded rows) at (sectionBytes (rowsOf sec rows) ++ xs)
+      → (judgedSection (limitsOf o C) sec (encoded rows) at ≡ Accepted) × AllAlike (sectionOf (encoded rows) sec at) (rowsOf sec rows)
       × From (encoded rows) (sectionEnd sec (encoded rows) at) xs
   part-read sec at xs f =
-      section-read o terms C (encoded rows) sec (ofSection sec rows) (of-each (Proper o C) sec rows (p .each)) (of-own sec rows) (of-once sec rows (p .once)) xs at (p .few sec) f
+      section-read o terms C (encoded rows) sec (rowsOf sec rows) (of-each (Proper o C) sec rows (p .each)) (of-own sec rows) (of-once sec rows (p .once)) xs at (p .few sec) f
 
   pub encoded-accepted : (judged (limitsOf o C) (encoded rows) ≡ Accepted) × AllAlike (namedRows (encoded rows)) rows
   unfolding judged
@@ -132,5 +132,5 @@ module _ (o : Terms) (terms : InTerms o) (C : ℕ) (rows : List NamedRow) (p : P
         rw (rows-are s) (subst (AllAlike _) (sym (p .order)) (alike-append _ _ _ _ (a .1) (alike-append _ _ _ _ (b .1) (alike-append _ _ _ _ (c .1) (d .1))))),
       )
     where
-      start : From (encoded rows) 0 (sectionBytes (ofSection Vesting rows) ++ (sectionBytes (ofSection Meter rows) ++ (sectionBytes (ofSection Residual rows) ++ sectionBytes (ofSection Ncc rows))))
+      start : From (encoded rows) 0 (sectionBytes (rowsOf Vesting rows) ++ (sectionBytes (rowsOf Meter rows) ++ (sectionBytes (rowsOf Residual rows) ++ sectionBytes (rowsOf Ncc rows))))
       start = record { left = unfold encoded in refl; inside = omega arith }

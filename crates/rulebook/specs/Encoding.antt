@@ -57,9 +57,9 @@ rowBytes r = heading (r .section) (r .account) (r .day) (r .count) ++ flatMap (i
 -- ---- Sections and file
 
 -- the rows of one section, in their order
-unfoldable pub ofSection : Section → List NamedRow → List NamedRow
-ofSection sec [] = []
-ofSection sec (r ∷ rs) = cond (sameSection sec (r .section)) (r ∷ ofSection sec rs) (ofSection sec rs)
+unfoldable pub rowsOf : Section → List NamedRow → List NamedRow
+rowsOf sec [] = []
+rowsOf sec (r ∷ rs) = cond (sameSection sec (r .section)) (r ∷ rowsOf sec rs) (rowsOf sec rs)
 
 -- a section: the count of its rows in 2 bytes, then the rows
 unfoldable pub sectionBytes : List NamedRow → List ℕ
@@ -68,5 +68,5 @@ sectionBytes rs = bytes 2 (length rs) ++ flatMap rowBytes rs
 -- the file of these rows
 unfoldable pub encoded : List NamedRow → List ℕ
 encoded rs =
-    sectionBytes (ofSection Vesting rs)
-    ++ (sectionBytes (ofSection Meter rs) ++ (sectionBytes (ofSection Residual rs) ++ sectionBytes (ofSection Ncc rs)))
+    sectionBytes (rowsOf Vesting rs)
+    ++ (sectionBytes (rowsOf Meter rs) ++ (sectionBytes (rowsOf Residual rs) ++ sectionBytes (rowsOf Ncc rs)))

@@ -9,7 +9,7 @@ use Rattle.integer.specs.Below.{tabulate}
 use Rattle.rulebook.specs.declared.Section.the-variants.{Vesting, Meter, Residual, Ncc}
 use Rattle.rulebook.specs.File.{Figure, BVQ, BVP, TVQ, TVP, MEP, IEQ, UEGQ, MQ, RVP1, RVP2, NccLoad}
 use Rattle.rulebook.specs.NamedRows.{NamedRow}
-use Rattle.rulebook.specs.Encoding.{pairs, figures, bytes, twos, valueBytes, heading, intervalBytes, rowBytes, ofSection, sectionBytes, encoded}
+use Rattle.rulebook.specs.Encoding.{pairs, figures, bytes, twos, valueBytes, heading, intervalBytes, rowBytes, rowsOf, sectionBytes, encoded}
 
 -- BVQ 400, BVP −1, tranche t of 7 + t at −2 − t; facilities with MEP 10,000 and IEQ −5 − f; UEGQ 100, MQ 500, RVP1 1, RVP2 −1,000,000;
 -- load 1,000,000,000 in interval 0 and i in interval i
@@ -55,7 +55,7 @@ pub record Written : Type 0 where
   pub manyRows : (bytes 2 255 ≡ 255 ∷ 0 ∷ []) × (bytes 2 256 ≡ 0 ∷ 1 ∷ []) × (bytes 2 36524 ≡ 0xAC ∷ 0x8E ∷ [])
 
 pub written : Written
-unfolding encoded sectionBytes ofSection rowBytes intervalBytes heading flatMap valueBytes bytes twos figures pairs tabulate sample
+unfolding encoded sectionBytes rowsOf rowBytes intervalBytes heading flatMap valueBytes bytes twos figures pairs tabulate sample
 written = record {
   vestingRow = refl;
   meterRow = refl;

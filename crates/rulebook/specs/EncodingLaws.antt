@@ -11,7 +11,7 @@ use Rattle.rulebook.specs.declared.Section.{Section}
 use Rattle.rulebook.specs.declared.Section.the-variants.{Vesting, Meter, Residual, Ncc}
 use Rattle.rulebook.specs.Sections.{sameSection}
 use Rattle.rulebook.specs.NamedRows.{NamedRow}
-use Rattle.rulebook.specs.Encoding.{bytes, twos, valueBytes, figures, heading, intervalBytes, rowBytes, ofSection, sectionBytes, encoded}
+use Rattle.rulebook.specs.Encoding.{bytes, twos, valueBytes, figures, heading, intervalBytes, rowBytes, rowsOf, sectionBytes, encoded}
 use Rattle.rulebook.specs.Proper.{Bytes, Alike, AllAlike}
 use Rattle.rulebook.specs.ListLaws.{each-map, flatMap-cong}
 
@@ -50,9 +50,9 @@ section-small rs = both-small (bytes 2 (length rs)) (flatMap rowBytes rs) (bytes
 pub encoded-bytes : (rows : List NamedRow) → Bytes (encoded rows)
 unfolding encoded
 encoded-bytes rows =
-    both-small (sectionBytes (ofSection Vesting rows)) _ (section-small (ofSection Vesting rows))
-    (both-small (sectionBytes (ofSection Meter rows)) _ (section-small (ofSection Meter rows))
-    (both-small (sectionBytes (ofSection Residual rows)) _ (section-small (ofSection Residual rows)) (section-small (ofSection Ncc rows))))
+    both-small (sectionBytes (rowsOf Vesting rows)) _ (section-small (rowsOf Vesting rows))
+    (both-small (sectionBytes (rowsOf Meter rows)) _ (section-small (rowsOf Meter rows))
+    (both-small (sectionBytes (rowsOf Residual rows)) _ (section-small (rowsOf Residual rows)) (section-small (rowsOf Ncc rows))))
 
 -- ---- Rows alike
 
@@ -70,14 +70,14 @@ row-alike q r a =
     let f = flatMap-cong (intervalBytes q) (intervalBytes r) (tabulate 48 (λ i. i)) (each-tabulate _ 48 (λ i. i) (interval-alike q r a)) in
     rw (e, f)
 
-of-alike : (sec : Section) (xs ys : List NamedRow) → AllAlike xs ys → AllAlike (ofSection sec xs) (ofSection sec ys)
-unfolding AllAlike ofSection
+of-alike : (sec : Section) (xs ys : List NamedRow) → AllAlike xs ys → AllAlike (rowsOf sec xs) (rowsOf sec ys)
+unfolding AllAlike rowsOf
 of-alike sec [] [] a = tt
 of-alike sec [] (r ∷ rs) a = absurd a
 of-alike sec (q ∷ qs) [] a = absurd a
 of-alike sec (q ∷ qs) (r ∷ rs) a = rw (ap (sameSection sec) (a .0 .section)) (by (sameSection sec (r .section)) (of-alike sec qs rs (a .1)))
   where
-    by : (b : Bool) → AllAlike (ofSection sec qs) (ofSection sec rs) → AllAlike (cond b (q ∷ ofSection sec qs) (ofSection sec qs)) (cond b (r ∷ ofSection sec rs) (ofSection sec rs))
+    by : (b : Bool) → AllAlike (rowsOf sec qs) (rowsOf sec rs) → AllAlike (cond b (q ∷ rowsOf sec qs) (rowsOf sec qs)) (cond b (r ∷ rowsOf sec rs) (rowsOf sec rs))
     by true f = (a .0, f)
     by false f = f
 

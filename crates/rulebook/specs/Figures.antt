@@ -14,7 +14,7 @@ use Rattle.rulebook.specs.Units.{nearest, thousandthsPerCent}
 use Rattle.rulebook.specs.ReferencePrice.{average, referencePrice}
 use Rattle.rulebook.specs.Shares.{share, shareOf}
 use Rattle.rulebook.specs.Tranches.{tranche1, tranche2}
-use Rattle.rulebook.specs.DayAmount.{AccountData, SettlementData, referencePriceOf, vestingAmount, residualDue, intervalAmount, exactAmount, postedAmount}
+use Rattle.rulebook.specs.DayAmount.{AccountData, referencePriceOf, vestingAmount, residualDue, intervalAmount, exactAmount, postedAmount}
 
 -- ---- Data for examples
 

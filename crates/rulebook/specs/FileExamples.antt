@@ -13,25 +13,20 @@ use Rattle.rulebook.specs.Examples.{zeros}
 
 -- ---- Bytes
 
-pub minus-one : valueAt (255 ∷ 255 ∷ 255 ∷ 255 ∷ []) 0 ≡ minus 1
-unfolding valueAt signed32 num
-minus-one = refl
+pub record BytesRead : Type 0 where
+  pub minusOne : valueAt (255 ∷ 255 ∷ 255 ∷ 255 ∷ []) 0 ≡ minus 1
+  -- the ends of two's complement
+  pub most : valueAt (255 ∷ 255 ∷ 255 ∷ 127 ∷ []) 0 ≡ pos 2147483647
+  pub least : valueAt (0 ∷ 0 ∷ 0 ∷ 128 ∷ []) 0 ≡ minus 2147483648
+  -- an NCC row of 48 loads: 258, then zeros, then 3
+  pub row : fileRows (zeros 6 ++ (1 ∷ 0 ∷ 0x19 ∷ 0x25 ∷ 2 ∷ 1 ∷ zeros 186 ++ (3 ∷ 0 ∷ 0 ∷ 0 ∷ [])))
+      ≡ record { section = Ncc; account = 0; day = 9497; count = 0; numbers = pos 258 ∷ replicate 46 (pos 0) ++ (pos 3 ∷ []) } ∷ []
+  -- eight zero bytes have no rows
+  pub noRows : fileRows (zeros 8) ≡ []
 
--- the ends of two's complement
-pub signs : (valueAt (255 ∷ 255 ∷ 255 ∷ 127 ∷ []) 0 ≡ pos 2147483647) × (valueAt (0 ∷ 0 ∷ 0 ∷ 128 ∷ []) 0 ≡ minus 2147483648)
-unfolding valueAt signed32 num
-signs = (refl, refl)
-
--- an NCC row of 48 loads: 258, then zeros, then 3
-pub rows-read : fileRows (zeros 6 ++ (1 ∷ 0 ∷ 0x19 ∷ 0x25 ∷ 2 ∷ 1 ∷ zeros 186 ++ (3 ∷ 0 ∷ 0 ∷ 0 ∷ [])))
-    ≡ record { section = Ncc; account = 0; day = 9497; count = 0; numbers = pos 258 ∷ replicate 46 (pos 0) ++ (pos 3 ∷ []) } ∷ []
+pub bytes-read : BytesRead
 unfolding fileRows sectionRows tabulate num rowEnd rowPos sectionEnd turns valueAt signed32
-rows-read = refl
-
--- eight zero bytes have no rows
-pub no-rows : fileRows (zeros 8) ≡ []
-unfolding fileRows sectionRows tabulate num rowEnd rowPos sectionEnd turns
-no-rows = refl
+bytes-read = record { minusOne = refl; most = refl; least = refl; row = refl; noRows = refl }
 
 -- ---- Figures, at the first interval, at the last, and of names that the row does not have
 

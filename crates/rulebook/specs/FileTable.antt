@@ -38,14 +38,14 @@ start (FacilityCount at) = at
 start (Value g at) = at
 start (EndOfFile at) = at
 
-abbrev pub size : Field → ℕ
-size (RowCount at) = 2
-size (Account at) = 1
-size (Day sec rows i at) = 2
-size (TrancheCount at) = 1
-size (FacilityCount at) = 1
-size (Value g at) = 4
-size (EndOfFile at) = 0
+abbrev pub fieldBytes : Field → ℕ
+fieldBytes (RowCount at) = 2
+fieldBytes (Account at) = 1
+fieldBytes (Day sec rows i at) = 2
+fieldBytes (TrancheCount at) = 1
+fieldBytes (FacilityCount at) = 1
+fieldBytes (Value g at) = 4
+fieldBytes (EndOfFile at) = 0
 
 -- ---- The fields of a file, in file order
 
@@ -82,7 +82,7 @@ fieldsOf s =
 -- each field starts where the one before it ends
 unfoldable pub EndToEnd : ℕ → List Field → ℕ → Type 0
 EndToEnd from [] to = from ≡ to
-EndToEnd from (f ∷ fs) to = (start f ≡ from) × EndToEnd (from + size f) fs to
+EndToEnd from (f ∷ fs) to = (start f ≡ from) × EndToEnd (from + fieldBytes f) fs to
 
 -- ---- The table's conditions
 
@@ -105,7 +105,7 @@ pub record Check : Type 0 where
 module _ (o : Terms) (C : ℕ) (s : List ℕ) where
   -- 4: field or count not whole
   abbrev pub notWhole : Field → Bool
-  notWhole f = ltb (length s) (start f + size f)
+  notWhole f = ltb (length s) (start f + fieldBytes f)
 
   -- 5: account, count or value out of range: accounts from N on, more than 3 tranches, other than 1 to 4 facilities, a figure outside its range
   abbrev pub outOfRange : Field → Bool

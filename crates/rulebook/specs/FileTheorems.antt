@@ -15,14 +15,13 @@ use Rattle.rulebook.specs.WellFormed.{wellFormed}
 use Rattle.rulebook.specs.File.{Row, endPos}
 use Rattle.rulebook.specs.Judging.{limitsOf, judged}
 use Rattle.rulebook.specs.Submit.{submitted}
-use Rattle.rulebook.specs.Numbers.{accepted, notWellFormed, numbered, ofSubmit}
-use Rattle.rulebook.specs.Companion.{verdictTold}
+use Rattle.rulebook.specs.Numbers.{accepted, notWellFormed, numbered, ofVerdict, ofSubmit}
 use Rattle.rulebook.specs.NamedRows.{NamedRow, named, namedRows}
 use Rattle.rulebook.specs.Encoding.{encoded}
 use Rattle.rulebook.specs.Proper.{Bytes, ProperRows, AllAlike, LackingZero}
 use Rattle.rulebook.specs.FileTable.{fieldsOf, EndToEnd, checks, NoneStrikes, FirstStrikes}
 use Rattle.rulebook.specs.EncodingExamples.{Written, written}
-use Rattle.rulebook.specs.JudgingExamples.{Windows, windows, Keys, keys}
+use Rattle.rulebook.specs.JudgingExamples.{FileWindows, file-windows, Keys, keys}
 use Rattle.rulebook.specs.IntervalLaws.{lacking-zero}
 use Rattle.rulebook.specs.EncodingLaws.{encoded-bytes, alike-bytes}
 use Rattle.rulebook.specs.WholeLaws.{taken-whole}
@@ -52,7 +51,7 @@ pub record FileTheorems : Type 0 where
   -- numbers 4 to 8: a file is refused with number n at position p exactly if, of the table's conditions at the file's fields in order, n's is the first
   -- that strikes, at the field that starts at p
   pub refusedExactly : (o : Terms) → InTerms o → (C : ℕ) (file : List ℕ) (n p : ℕ) → 0 < n
-      → (verdictTold (judged (limitsOf o C) file) ≡ numbered n p) ↔ FirstStrikes (checks o C file) n p
+      → (ofVerdict (judged (limitsOf o C) file) ≡ numbered n p) ↔ FirstStrikes (checks o C file) n p
   -- and accepted exactly if none strikes
   pub acceptedClear : (o : Terms) → InTerms o → (C : ℕ) (file : List ℕ) → (judged (limitsOf o C) file ≡ Accepted) ↔ NoneStrikes (checks o C file)
   -- so a submission to a lent book returns 3 exactly where the book is not well formed, and else by the table
@@ -65,7 +64,7 @@ pub record FileTheorems : Type 0 where
   pub fieldsAdjoin : (file : List ℕ) → EndToEnd 0 (fieldsOf file) (endPos file)
   -- rows written out by hand; files at the ends of their windows, with accounts and keys
   pub written : Written
-  pub windows : Windows
+  pub windows : FileWindows
   pub keys : Keys
 
 pub file-theorems : FileTheorems
@@ -84,6 +83,6 @@ file-theorems = record {
   submitAccepted = submit-accepted;
   fieldsAdjoin = fields-adjoin;
   written = written;
-  windows = windows;
+  windows = file-windows;
   keys = keys;
 }

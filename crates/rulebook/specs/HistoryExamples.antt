@@ -56,6 +56,11 @@ residualFile = zeros 4 ++ (1 ∷ 0 ∷ 0 ∷ first ∷ 0x25 ∷ zeros 768 ++ zer
 abbrev nccFile : ℕ → List ℕ
 nccFile load = zeros 6 ++ (1 ∷ 0 ∷ first ∷ 0x25 ∷ load ∷ zeros 191)
 
+-- a statement of n words
+abbrev words : ℕ → List ℤ
+words n = replicate n (pos 7)
+
+-- events, told from their answers, whatever gave these
 abbrev taken : List ℕ → Event
 taken file = record { call = submit file; answer = numbered 0 0 }
 
@@ -63,13 +68,9 @@ abbrev refused : List ℕ → Event
 refused file = record { call = submit file; answer = numbered 8 0 }
 
 abbrev closedDay : ℕ → ℕ → Event
-closedDay day count = record { call = close []; answer = record { number = 0; position = 0; day = day; count = count } }
+closedDay day count = record { call = close (words 2); answer = record { number = 0; position = 0; day = day; count = count } }
 
 -- ---- Closes
-
--- a statement of n words
-abbrev words : ℕ → List ℤ
-words n = replicate n (pos 7)
 
 pub record Closes : Type 0 where
   -- a new book: N + 1 words are room, and the first flag lacks

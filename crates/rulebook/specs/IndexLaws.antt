@@ -10,7 +10,7 @@ use Rattle.rulebook.specs.declared.Section.{Section}
 use Rattle.rulebook.specs.declared.Section.the-variants.{Vesting, Meter, Residual, Ncc}
 use Rattle.rulebook.specs.declared.Terms.{Terms}
 use Rattle.rulebook.specs.Sections.{TVQ, TVP, MEP, IEQ}
-use Rattle.rulebook.specs.Layout.{width, tablePlace, place, figureIndex, ring, slot, intervalWord, rowWord}
+use Rattle.rulebook.specs.Layout.{width, tablePlace, place, figureIndex, ring, intervalWord, rowWord}
 use Rattle.rulebook.specs.TestLaws.{all-at, all-yes, tests-same}
 use Rattle.rulebook.specs.WindowWalk.{windowSlot}
 use Rattle.rulebook.specs.RingLaws.{turn-of, turn-inside, turned, places-apart}

@@ -55,7 +55,7 @@ limitsOf o C = record {
 
 -- ---- Fields
 
--- 4: the n bytes at `at` are not all there
+-- the n bytes at `at` are all there, else 4
 abbrev pub whole : ℕ → List ℕ → ℕ → Verdict
 whole n s at = require (leb (at + n) (length s)) NotWhole at
 

@@ -5,13 +5,12 @@ use Prim.Native.Nat.{ℕ}
 use Rattle.integer.specs.Below.{turns}
 use Rattle.rulebook.specs.File.{num, signed32, valueAt, rowEnd, rowPos, sectionEnd}
 use Rattle.rulebook.specs.Judging.{upTo, fieldIn, value, key, given, rest, rowAfter, judgedRow, judgedSection, limitsOf, judged}
-use Rattle.rulebook.specs.Numbers.{numbered}
-use Rattle.rulebook.specs.Companion.{verdictTold}
+use Rattle.rulebook.specs.Numbers.{numbered, ofVerdict}
 use Rattle.rulebook.specs.Examples.{three, zeros}
 
 -- the file's number and position, with C the next day to close
 abbrev returns : ℕ → List ℕ → ℕ → ℕ → Type 0
-returns C file n p = verdictTold (judged (limitsOf three C) file) ≡ numbered n p
+returns C file n p = ofVerdict (judged (limitsOf three C) file) ≡ numbered n p
 
 -- files that end after the first row's day
 abbrev vestingDay : ℕ → ℕ → List ℕ
@@ -27,7 +26,7 @@ abbrev nccDay : ℕ → ℕ → List ℕ
 nccDay low high = zeros 6 ++ (1 ∷ 0 ∷ low ∷ high ∷ [])
 
 -- an open day's refusal is of the next field, which is cut
-pub record Windows : Type 0 where
+pub record FileWindows : Type 0 where
   -- C = 9,500: meter rows from C to C + 2, residual and NCC rows to C + 2
   pub meterBefore : returns 9500 (meterDay 0x1B 0x25) 6 5
   pub meterFrom : returns 9500 (meterDay 0x1C 0x25) 4 7
@@ -45,10 +44,15 @@ pub record Windows : Type 0 where
   -- C = 36,523: C + 2 is past 36,524
   pub vestingLast : returns 36523 (vestingDay 0xAC 0x8E) 4 5
   pub vestingPastLast : returns 36523 (vestingDay 0xAD 0x8E) 6 3
+  -- C = 36,525, a finished book: residual and NCC rows of its last two days are open
+  pub residualFinished : returns 36525 (residualDay 0xAC 0x8E) 4 9
+  pub nccFinished : returns 36525 (nccDay 0xAB 0x8E) 4 10
+  pub residualTooLate : returns 36525 (residualDay 0xAA 0x8E) 6 7
+  pub nccTooLate : returns 36525 (nccDay 0xAA 0x8E) 6 8
 
-pub windows : Windows
+pub file-windows : FileWindows
 unfolding judged judgedSection judgedRow rowAfter rest given key fieldIn value upTo num rowEnd rowPos sectionEnd turns valueAt signed32
-windows = record {
+file-windows = record {
   meterBefore = refl;
   meterFrom = refl;
   meterTo = refl;
@@ -63,6 +67,10 @@ windows = record {
   nccBeforeFirst = refl;
   vestingLast = refl;
   vestingPastLast = refl;
+  residualFinished = refl;
+  nccFinished = refl;
+  residualTooLate = refl;
+  nccTooLate = refl;
 }
 
 -- a vesting row of an account, day 9,472 + low, no tranches, all zero; an NCC row

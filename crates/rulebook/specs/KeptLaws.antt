@@ -16,7 +16,7 @@ use Rattle.rulebook.specs.declared.Kind.the-variants.{Quantity, Price, I
 use Rattle.rulebook.specs.declared.Terms.{Terms}
 use Rattle.rulebook.specs.Units.{lastDay, inRange}
 use Rattle.rulebook.specs.Sections.{kindOf, perInterval, leastCount, mostCount, valueInRange, sameSection, Figure, figureSection, figurePlace}
-use Rattle.rulebook.specs.Layout.{width, place, present, Word, flag, figure, spare, flagIndex, figureIndex, wordName}
+use Rattle.rulebook.specs.Layout.{width, present, Word, flag, figure, spare, flagIndex, figureIndex, wordName}
 use Rattle.rulebook.specs.WellFormed.{dayBound, isZero, rowFits, rowBlank, rowCounts, wordFits}
 use Rattle.rulebook.specs.File.{Row, numberOf, figureOf}
 use Rattle.rulebook.specs.Submit.{entry, wordOf}

@@ -1,11 +1,11 @@
--- Document 01, "The book": where each word stands. No later chapter has a word's index. Assumes nothing.
+-- Document 01, "The book": where each word stands. No later chapter has a word's index, but for `Opening.header`, which lists
+-- the first words in order, and `FormedBook`, which says them again in document 01's figures. Assumes nothing.
 use mathlib.Core.Bool.{Bool, true, false}
 use mathlib.Core.List.{List, [], _∷_}
 use Prim.Native.Nat.{ℕ, zero, suc, _+_, _-_, _*_, _%_, min, max}
 use lib.IntN.{ℤ}
 use lib.Dec.{eqb}
 use lib.ListN.{length, getD, set}
-use Rattle.integer.specs.Words.{word}
 use Rattle.rulebook.specs.declared.Section.{Section}
 use Rattle.rulebook.specs.declared.Section.the-variants.{Vesting, Meter, Residual, Ncc}
 use Rattle.rulebook.specs.declared.Terms.{Terms}

@@ -82,9 +82,12 @@ places = record {
 }
 
 -- a new book's header: 395, N, L, H, F, C and zeros to word 63, then the first balance
-pub new-header : tabulate 65 (word (header three)) ≡ pos 395 ∷ pos 3 ∷ pos 2 ∷ pos 3 ∷ pos 9497 ∷ pos 9497 ∷ replicate 59 (pos 0)
+pub record NewHeader : Type 0 where
+  pub words : tabulate 65 (word (header three)) ≡ pos 395 ∷ pos 3 ∷ pos 2 ∷ pos 3 ∷ pos 9497 ∷ pos 9497 ∷ replicate 59 (pos 0)
+
+pub new-header : NewHeader
 unfolding tabulate
-new-header = refl
+new-header = record { words = refl }
 
 -- ---- The window, and which slots have a day of it
 

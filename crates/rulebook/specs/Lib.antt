@@ -1,4 +1,4 @@
--- chapters, in document 01's order
+-- chapters, in the order of reading
 pub mod Units
 pub mod ReferencePrice
 pub mod Shares
@@ -42,8 +42,10 @@ pub mod BookExamples
 pub mod FileExamples
 pub mod DataExamples
 pub mod NumberExamples
+pub mod InputExamples
 pub mod CallExamples
 pub mod HistoryExamples
+pub mod SearchExamples
 pub mod EncodingExamples
 pub mod JudgingExamples
 -- laws, in the order in which they lean on each other

@@ -9,8 +9,7 @@ use Rattle.rulebook.specs.declared.SubmitAnswer.the-variants.{Taken, Ill
 use Rattle.rulebook.specs.declared.CloseAnswer.the-variants.{Closed, BookIllFormed, Finished, NoRoom, DatumMissing}
 use Rattle.rulebook.specs.File.{num, signed32, valueAt, rowEnd, rowPos, sectionEnd}
 use Rattle.rulebook.specs.Judging.{upTo, fieldIn, value, key, given, rest, rowAfter, judgedRow, judgedSection, limitsOf, judged}
-use Rattle.rulebook.specs.Numbers.{ofOpen, ofSubmit, ofClose, numbered, dayNotOpen}
-use Rattle.rulebook.specs.Companion.{verdictTold}
+use Rattle.rulebook.specs.Numbers.{ofOpen, ofVerdict, ofSubmit, ofClose, numbered, dayNotOpen}
 use Rattle.rulebook.specs.Examples.{two, three, zeros}
 
 -- ---- The table of numbers, in figures
@@ -51,11 +50,11 @@ returned = record {
 
 -- the file's number and position, with C the next day to close
 abbrev returns : ℕ → List ℕ → ℕ → ℕ → Type 0
-returns C file n p = verdictTold (judged (limitsOf two C) file) ≡ numbered n p
+returns C file n p = ofVerdict (judged (limitsOf two C) file) ≡ numbered n p
 
 -- the same of N = 3, L = 2, H = 3, C = 9,500
 abbrev returnsThree : List ℕ → ℕ → ℕ → Type 0
-returnsThree file n p = verdictTold (judged (limitsOf three 9500) file) ≡ numbered n p
+returnsThree file n p = ofVerdict (judged (limitsOf three 9500) file) ≡ numbered n p
 
 -- a vesting row of account 0, day 9,497, no tranches, all zero; an NCC and a residual row of that day
 abbrev pub vestingRow : List ℕ
@@ -72,7 +71,7 @@ pub record Table : Type 0 where
   pub eightZeros : returns 9497 (zeros 8) 0 0
   pub nineZeros : returns 9497 (zeros 9) 8 8
   pub thirdAccount : returns 9497 (1 ∷ 0 ∷ 2 ∷ []) 5 2
-  pub closingDay : returns 9497 (1 ∷ 0 ∷ 0 ∷ 0x1A ∷ 0x25 ∷ []) 6 3
+  pub afterHorizon : returns 9497 (1 ∷ 0 ∷ 0 ∷ 0x1A ∷ 0x25 ∷ []) 6 3
   pub givenTwice : returns 9497 (2 ∷ 0 ∷ vestingRow ++ vestingRow) 7 391
   -- the day before C: closed to vesting rows, open to NCC and residual rows
   pub vestingLate : returns 9498 (1 ∷ 0 ∷ vestingRow ++ zeros 6) 6 3
@@ -146,7 +145,7 @@ table = record {
   eightZeros = refl;
   nineZeros = refl;
   thirdAccount = refl;
-  closingDay = refl;
+  afterHorizon = refl;
   givenTwice = refl;
   vestingLate = refl;
   meterLate = refl;

@@ -1,8 +1,11 @@
 -- Document 01, "Numbers returned": the table, and what each answer returns. Assumes nothing.
+use mathlib.Core.List.{List}
 use Prim.Native.Nat.{ℕ}
 use lib.IntN.{ℤ, pos}
 use Rattle.rulebook.specs.declared.Why.{Why}
 use Rattle.rulebook.specs.declared.Why.the-variants.{NotWhole, OutOfRange, DayNotOpen, Repeated, Excess}
+use Rattle.rulebook.specs.declared.Verdict.{Verdict}
+use Rattle.rulebook.specs.declared.Verdict.the-variants.{Accepted, Refused}
 use Rattle.rulebook.specs.declared.OpenAnswer.{OpenAnswer}
 use Rattle.rulebook.specs.declared.OpenAnswer.the-variants.{Opened, BadTerms, TooShort}
 use Rattle.rulebook.specs.declared.SubmitAnswer.{SubmitAnswer}
@@ -99,10 +102,15 @@ ofOpen Opened = numbered accepted 0
 ofOpen BadTerms = numbered outsideRange 0
 ofOpen TooShort = numbered wordsTooFew 0
 
+-- a file's
+abbrev pub ofVerdict : Verdict → Answer
+ofVerdict Accepted = numbered accepted 0
+ofVerdict (Refused why at) = numbered (whyNumber why) at
+
 abbrev pub ofSubmit : SubmitAnswer → Answer
-ofSubmit Taken = numbered accepted 0
+ofSubmit Taken = ofVerdict Accepted
 ofSubmit IllFormed = numbered notWellFormed 0
-ofSubmit (FileRefused why at) = numbered (whyNumber why) at
+ofSubmit (FileRefused why at) = ofVerdict (Refused why at)
 
 abbrev pub ofClose : CloseAnswer → Answer
 ofClose (Closed day count) = record { number = accepted; position = 0; day = day; count = count }
@@ -131,6 +139,11 @@ abbrev pub shareNumber : ShareAnswer → ℕ
 shareNumber Shared = accepted
 shareNumber ShareRefused = outsideRange
 shareNumber OutputTooShort = outputTooShort
+
+-- the number, and the output's words after
+pub record ShareReturned : Type 0 where
+  pub number : ℕ
+  pub output : List ℤ
 
 pub record TrancheReturned : Type 0 where
   pub number : ℕ

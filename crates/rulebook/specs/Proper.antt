@@ -15,7 +15,7 @@ use Rattle.rulebook.specs.declared.Terms.{Terms}
 use Rattle.rulebook.specs.Sections.{sameSection}
 use Rattle.rulebook.specs.File.{Figure, BVQ, BVP, TVQ, TVP, MEP, IEQ, UEGQ, MQ, RVP1, RVP2, NccLoad, figureSection}
 use Rattle.rulebook.specs.NamedRows.{NamedRow}
-use Rattle.rulebook.specs.Encoding.{figures, ofSection}
+use Rattle.rulebook.specs.Encoding.{figures, rowsOf}
 
 -- every element is a byte
 abbrev pub Bytes : List ℕ → Type 0
@@ -103,8 +103,8 @@ Once (r ∷ rs) = Each (λ q. sameKey r q ≡ false) rs × Once rs
 pub record ProperRows (o : Terms) (C : ℕ) (rows : List NamedRow) : Type 0 where
   pub each : Each (Proper o C) rows
   pub once : Once rows
-  pub order : rows ≡ ofSection Vesting rows ++ (ofSection Meter rows ++ (ofSection Residual rows ++ ofSection Ncc rows))
-  pub few : (sec : Section) → length (ofSection sec rows) ≤ 65535
+  pub order : rows ≡ rowsOf Vesting rows ++ (rowsOf Meter rows ++ (rowsOf Residual rows ++ rowsOf Ncc rows))
+  pub few : (sec : Section) → length (rowsOf sec rows) ≤ 65535
 
 -- ---- Rows that say the same
 

@@ -10,63 +10,63 @@ use Rattle.rulebook.specs.declared.Section.the-variants.{Vesting, Meter,
 use Rattle.rulebook.specs.Sections.{sameSection}
 use Rattle.rulebook.specs.File.{rowAt, rowPos, rowsIn, sectionRows, fileRows, meterPos, residualPos, nccPos}
 use Rattle.rulebook.specs.NamedRows.{NamedRow, named, namedRows}
-use Rattle.rulebook.specs.Encoding.{ofSection}
+use Rattle.rulebook.specs.Encoding.{rowsOf}
 use Rattle.rulebook.specs.Proper.{sameKey, Once}
 use Rattle.rulebook.specs.TestLaws.{T-path}
 use Rattle.rulebook.specs.SectionsLaws.{same-section, section-self}
 use Rattle.rulebook.specs.ListLaws.{map-tabulate, map-append}
 
--- ---- ofSection
+-- ---- rowsOf
 
 pub same-self : (sec : Section) → sameSection sec sec ≡ true
 same-self sec = T-path (sameSection sec sec) (section-self sec)
 
-of-one : (sec : Section) (r : NamedRow) (rs : List NamedRow) (b : Bool) → sameSection sec (r .section) ≡ b → ofSection sec (r ∷ rs) ≡ cond b (r ∷ ofSection sec rs) (ofSection sec rs)
-unfolding ofSection
-of-one sec r rs b e = ap (λ c. cond c (r ∷ ofSection sec rs) (ofSection sec rs)) e
+of-one : (sec : Section) (r : NamedRow) (rs : List NamedRow) (b : Bool) → sameSection sec (r .section) ≡ b → rowsOf sec (r ∷ rs) ≡ cond b (r ∷ rowsOf sec rs) (rowsOf sec rs)
+unfolding rowsOf
+of-one sec r rs b e = ap (λ c. cond c (r ∷ rowsOf sec rs) (rowsOf sec rs)) e
 
-of-append : (sec : Section) (xs ys : List NamedRow) → ofSection sec (xs ++ ys) ≡ ofSection sec xs ++ ofSection sec ys
-unfolding ofSection
+of-append : (sec : Section) (xs ys : List NamedRow) → rowsOf sec (xs ++ ys) ≡ rowsOf sec xs ++ rowsOf sec ys
+unfolding rowsOf
 of-append sec [] ys = refl
 of-append sec (x ∷ xs) ys = rw (of-append sec xs ys) (by (sameSection sec (x .section)))
   where
-    by : (b : Bool) → cond b (x ∷ (ofSection sec xs ++ ofSection sec ys)) (ofSection sec xs ++ ofSection sec ys) ≡ cond b (x ∷ ofSection sec xs) (ofSection sec xs) ++ ofSection sec ys
+    by : (b : Bool) → cond b (x ∷ (rowsOf sec xs ++ rowsOf sec ys)) (rowsOf sec xs ++ rowsOf sec ys) ≡ cond b (x ∷ rowsOf sec xs) (rowsOf sec xs) ++ rowsOf sec ys
     by true = refl
     by false = refl
 
-of-table : (sec : Section) (b : Bool) (n : ℕ) (f : ℕ → NamedRow) → ((i : ℕ) → sameSection sec (f i .section) ≡ b) → ofSection sec (tabulate n f) ≡ cond b (tabulate n f) []
+of-table : (sec : Section) (b : Bool) (n : ℕ) (f : ℕ → NamedRow) → ((i : ℕ) → sameSection sec (f i .section) ≡ b) → rowsOf sec (tabulate n f) ≡ cond b (tabulate n f) []
 unfolding tabulate
-of-table sec true zero f h = unfold ofSection in refl
-of-table sec false zero f h = unfold ofSection in refl
+of-table sec true zero f h = unfold rowsOf in refl
+of-table sec false zero f h = unfold rowsOf in refl
 of-table sec true (suc n) f h = of-one sec (f 0) _ true (h 0) ∙ ap (λ l. f 0 ∷ l) (of-table sec true n (λ k. f (suc k)) (λ i. h (suc i)))
 of-table sec false (suc n) f h = of-one sec (f 0) _ false (h 0) ∙ of-table sec false n (λ k. f (suc k)) (λ i. h (suc i))
 
 -- what holds of each row holds of each of a section's
-pub of-each : (P : NamedRow → Type 0) (sec : Section) (rs : List NamedRow) → Each P rs → Each P (ofSection sec rs)
-unfolding ofSection
+pub of-each : (P : NamedRow → Type 0) (sec : Section) (rs : List NamedRow) → Each P rs → Each P (rowsOf sec rs)
+unfolding rowsOf
 of-each P sec [] e = tt
 of-each P sec (r ∷ rs) e = by (sameSection sec (r .section)) (of-each P sec rs (e .1))
   where
-    by : (b : Bool) → Each P (ofSection sec rs) → Each P (cond b (r ∷ ofSection sec rs) (ofSection sec rs))
+    by : (b : Bool) → Each P (rowsOf sec rs) → Each P (cond b (r ∷ rowsOf sec rs) (rowsOf sec rs))
     by true f = (e .0, f)
     by false f = f
 
-pub of-once : (sec : Section) (rs : List NamedRow) → Once rs → Once (ofSection sec rs)
-unfolding Once ofSection
+pub of-once : (sec : Section) (rs : List NamedRow) → Once rs → Once (rowsOf sec rs)
+unfolding Once rowsOf
 of-once sec [] o = tt
 of-once sec (r ∷ rs) o = by (sameSection sec (r .section)) (of-each (λ q. sameKey r q ≡ false) sec rs (o .0)) (of-once sec rs (o .1))
   where
-    by : (b : Bool) → Each (λ q. sameKey r q ≡ false) (ofSection sec rs) → Once (ofSection sec rs) → Once (cond b (r ∷ ofSection sec rs) (ofSection sec rs))
+    by : (b : Bool) → Each (λ q. sameKey r q ≡ false) (rowsOf sec rs) → Once (rowsOf sec rs) → Once (cond b (r ∷ rowsOf sec rs) (rowsOf sec rs))
     by true e f = (e, f)
     by false e f = f
 
-pub of-own : (sec : Section) (rs : List NamedRow) → Each (λ r. r .section ≡ sec) (ofSection sec rs)
-unfolding ofSection
+pub of-own : (sec : Section) (rs : List NamedRow) → Each (λ r. r .section ≡ sec) (rowsOf sec rs)
+unfolding rowsOf
 of-own sec [] = tt
 of-own sec (r ∷ rs) = by (sameSection sec (r .section)) (λ e. sym (same-section sec (r .section) (subst T (sym e) tt))) (of-own sec rs)
   where
-    by : (b : Bool) → (b ≡ true → r .section ≡ sec) → Each (λ r. r .section ≡ sec) (ofSection sec rs)
-        → Each (λ r. r .section ≡ sec) (cond b (r ∷ ofSection sec rs) (ofSection sec rs))
+    by : (b : Bool) → (b ≡ true → r .section ≡ sec) → Each (λ r. r .section ≡ sec) (rowsOf sec rs)
+        → Each (λ r. r .section ≡ sec) (cond b (r ∷ rowsOf sec rs) (rowsOf sec rs))
     by true h e = (h refl, e)
     by false h e = e
 
@@ -80,13 +80,13 @@ pub rows-are : (s : List ℕ) → namedRows s ≡ sectionOf s Vesting 0 ++ (sect
 unfolding namedRows fileRows sectionRows sectionOf
 rows-are s = simp (map-append, map-tabulate)
 
-of-part : (s : List ℕ) (sec other : Section) (at : ℕ) → ofSection sec (sectionOf s other at) ≡ cond (sameSection sec other) (sectionOf s other at) []
+of-part : (s : List ℕ) (sec other : Section) (at : ℕ) → rowsOf sec (sectionOf s other at) ≡ cond (sameSection sec other) (sectionOf s other at) []
 unfolding sectionOf
 of-part s sec other at = of-table sec (sameSection sec other) (rowsIn s at) _ (λ i. refl)
 
 pub of-rows : (s : List ℕ)
-    → (ofSection Vesting (namedRows s) ≡ sectionOf s Vesting 0)
-    × (ofSection Meter (namedRows s) ≡ sectionOf s Meter (meterPos s))
-    × (ofSection Residual (namedRows s) ≡ sectionOf s Residual (residualPos s))
-    × (ofSection Ncc (namedRows s) ≡ sectionOf s Ncc (nccPos s))
+    → (rowsOf Vesting (namedRows s) ≡ sectionOf s Vesting 0)
+    × (rowsOf Meter (namedRows s) ≡ sectionOf s Meter (meterPos s))
+    × (rowsOf Residual (namedRows s) ≡ sectionOf s Residual (residualPos s))
+    × (rowsOf Ncc (namedRows s) ≡ sectionOf s Ncc (nccPos s))
 of-rows s = rw rows-are (simp (of-append, of-part, append-nil), simp (of-append, of-part, append-nil), simp (of-append, of-part, append-nil), simp (of-append, of-part))

@@ -49,7 +49,7 @@ sameSection Meter t = elim t [ Vesting ↦ false | Meter ↦ true | Residual ↦
 sameSection Residual t = elim t [ Vesting ↦ false | Meter ↦ false | Residual ↦ true | Ncc ↦ false ]
 sameSection Ncc t = elim t [ Vesting ↦ false | Meter ↦ false | Residual ↦ false | Ncc ↦ true ]
 
--- section 4 has one row a day, kept as account 0's
+-- of n accounts, how many have rows of a section: section 4 has one row a day, kept as account 0's. For what is said of every section alike
 abbrev pub accountsOf : Section → ℕ → ℕ
 accountsOf Vesting n = n
 accountsOf Meter n = n

@@ -7,7 +7,7 @@ use lib.Signed.{leZ}
 use Rattle.integer.specs.Below.{sumℕ}
 use Rattle.rulebook.specs.Units.{positive}
 
--- a share call takes 1 to 32 accounts' UEGQ, and R within these
+-- a share call takes 1 to 32 accounts' UEGQ; R is from −leastResidual to mostResidual
 abbrev pub mostAccounts : ℕ
 mostAccounts = 32
 

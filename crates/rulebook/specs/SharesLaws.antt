@@ -5,14 +5,14 @@ use mathlib.Core.Logic.{_⊎_, inl, inr, ⊎-elim}
 use Prim.Native.Nat.{ℕ, zero, suc, _+_, _*_, _/_, _≤_, _<_, min}
 use native.Mathlib.Nat.{div-add-mod, mod-lt, mul-add, suc-mul, mul-comm, mul-zero, zero-mul, mul-le-mul, le-refl, le-of-mul-le-mul-left, lt-of-mul-lt-mul-left, div-le-of-le-mul}
 use native.Mathlib.Omega.{arith}
-use borrow.Author.Tests.{eqb-true, eqb-false, eq-eqb, ne-eqb}
+use borrow.Author.Tests.{eq-eqb, ne-eqb}
 use lib.Dec.{eqb}
 use lib.IntN.{ℤ, pos, negsuc, _*ℤ_}
 use lib.Signed.{leZ}
-use Rattle.integer.specs.Integer.{positive, negative}
+use Rattle.integer.specs.Integer.{positive}
 use Rattle.integer.specs.IntegerLaws.{int, parts, le-true, le-false, neg-parts}
 use Rattle.integer.specs.Below.{fold, sumℕ}
-use Rattle.integer.specs.BelowLaws.{lt-or-le, sumℕ-cong, sumℕ-member}
+use Rattle.integer.specs.BelowLaws.{lt-or-le, sumℕ-cong}
 use Rattle.rulebook.specs.Shares.{shareOf, share}
 
 -- ---- The three cases

@@ -17,7 +17,7 @@ use Rattle.rulebook.specs.Units.{lastDay, between, positive}
 use Rattle.rulebook.specs.Sections.{accountsOf, perInterval, leastCount, mostCount, valueInRange, Figure, figureSection, figurePlace}
 use Rattle.rulebook.specs.Layout.{width, place, ring, intervalSize, slot, intervalWord, rowWord, Word, spare, isSpare, intervalTable, accountTable, accountPlace, wordName, flagIndex, figureIndex}
 use Rattle.rulebook.specs.BookData.{entriesOf}
-use Rattle.rulebook.specs.WellFormed.{isZero, rowBlank, wordFits, sparesZero, rowCounts, rowFits, isThere, bothThere, slotRow, accountWordsFit, slotBlank, intervalFits, closedRowsThere, fits}
+use Rattle.rulebook.specs.WellFormed.{isZero, rowBlank, wordFits, sparesZero, rowCounts, rowFits, isThere, bothThere, slotRow, accountWordsFit, slotBlank, intervalFits, closedRowsThere}
 use Rattle.rulebook.specs.TestLaws.{and-left, and-right, or-cases, all-at, any-at}
 use Rattle.rulebook.specs.RowWordLaws.{Usable, figure-word, flag-inside}
 use Rattle.rulebook.specs.WindowWalk.{windowSlot, windowSlotFits}

@@ -13,8 +13,7 @@ use Rattle.rulebook.specs.declared.Verdict.{Verdict}
 use Rattle.rulebook.specs.declared.Verdict.the-variants.{Accepted, Refused}
 use Rattle.rulebook.specs.Terms.{InTerms}
 use Rattle.rulebook.specs.Judging.{limitsOf, judged}
-use Rattle.rulebook.specs.Numbers.{Answer, accepted, numbered, whyNumber}
-use Rattle.rulebook.specs.Companion.{verdictTold}
+use Rattle.rulebook.specs.Numbers.{Answer, accepted, numbered, whyNumber, ofVerdict}
 use Rattle.rulebook.specs.FileTable.{Field, start, fieldsOf, Check, checksOf, checks, NoneStrikes, FirstStrikes}
 use Rattle.rulebook.specs.FieldVerdictLaws.{toldOr, firstOr, fields-told}
 use Rattle.rulebook.specs.TableLaws.{judged-verdicts}
@@ -58,12 +57,12 @@ first-clear (c ∷ cs) h e = by (c .holds) refl e (first-clear cs (h .1))
 
 -- ---- Of a file
 
-told-is : (v : Verdict) → toldOr v (numbered accepted 0) ≡ verdictTold v
+told-is : (v : Verdict) → toldOr v (numbered accepted 0) ≡ ofVerdict v
 unfolding toldOr
 told-is Accepted = refl
 told-is (Refused w p) = refl
 
-pub told-accepted : (v : Verdict) → verdictTold v ≡ numbered accepted 0 → v ≡ Accepted
+pub told-accepted : (v : Verdict) → ofVerdict v ≡ numbered accepted 0 → v ≡ Accepted
 told-accepted Accepted e = refl
 told-accepted (Refused w p) e = absurd (refusing w (ap (λ (a : Answer). a .number) e))
   where
@@ -75,7 +74,7 @@ told-accepted (Refused w p) e = absurd (refusing w (ap (λ (a : Answer). a .numb
     refusing Excess z = omega arith
 
 module _ (o : Terms) (terms : InTerms o) (C : ℕ) (s : List ℕ) where
-  first-told : firstOr (checks o C s) (numbered accepted 0) ≡ verdictTold (judged (limitsOf o C) s)
+  first-told : firstOr (checks o C s) (numbered accepted 0) ≡ ofVerdict (judged (limitsOf o C) s)
   first-told =
       fields-told o C s terms (fieldsOf s) (numbered accepted 0)
       ∙ ap (λ v. toldOr v (numbered accepted 0)) (sym (judged-verdicts o C s))
@@ -86,7 +85,7 @@ module _ (o : Terms) (terms : InTerms o) (C : ℕ) (s : List ℕ) where
   all-numbered [] = tt
   all-numbered (f ∷ fs) = (omega arith, (omega arith, (omega arith, (omega arith, (omega arith, all-numbered fs)))))
 
-  pub refused-exactly : (n p : ℕ) → 0 < n → (verdictTold (judged (limitsOf o C) s) ≡ numbered n p) ↔ FirstStrikes (checks o C s) n p
+  pub refused-exactly : (n p : ℕ) → 0 < n → (ofVerdict (judged (limitsOf o C) s) ≡ numbered n p) ↔ FirstStrikes (checks o C s) n p
   refused-exactly n p h = (
     (λ e. first-finds (checks o C s) n p h (first-told ∙ e)),
     (λ f. sym first-told ∙ first-shows (checks o C s) (numbered accepted 0) n p f),
@@ -94,6 +93,6 @@ module _ (o : Terms) (terms : InTerms o) (C : ℕ) (s : List ℕ) where
 
   pub accepted-clear : (judged (limitsOf o C) s ≡ Accepted) ↔ NoneStrikes (checks o C s)
   accepted-clear = (
-    (λ e. first-clear (checks o C s) (all-numbered (fieldsOf s)) (first-told ∙ ap verdictTold e)),
+    (λ e. first-clear (checks o C s) (all-numbered (fieldsOf s)) (first-told ∙ ap ofVerdict e)),
     (λ f. told-accepted (judged (limitsOf o C) s) (sym first-told ∙ first-none (checks o C s) (numbered accepted 0) f)),
   )

@@ -16,8 +16,7 @@ use Rattle.rulebook.specs.BookData.{termsOf, nextDay}
 use Rattle.rulebook.specs.WellFormed.{wellFormed}
 use Rattle.rulebook.specs.Judging.{limitsOf, judged}
 use Rattle.rulebook.specs.Submit.{taken, submitted}
-use Rattle.rulebook.specs.Numbers.{Answer, accepted, notWellFormed, numbered, whyNumber, ofSubmit}
-use Rattle.rulebook.specs.Companion.{verdictTold}
+use Rattle.rulebook.specs.Numbers.{Answer, accepted, notWellFormed, numbered, whyNumber, ofVerdict, ofSubmit}
 use Rattle.rulebook.specs.FileTable.{checks, NoneStrikes, FirstStrikes}
 use Rattle.rulebook.specs.TestLaws.{T-path}
 use Rattle.rulebook.specs.FormedLaws.{opened-of}
@@ -41,11 +40,11 @@ module _ (w : List ℤ) (file : List ℕ) where
       go true (Refused why at) e = absurd (other why (ap (λ (y : Answer). y .number) e))
 
   module _ (t : T (wellFormed w)) where
-    told : (v : Verdict) → ofSubmit (taken w file v .answer) ≡ verdictTold v
+    told : (v : Verdict) → ofSubmit (taken w file v .answer) ≡ ofVerdict v
     told Accepted = refl
     told (Refused why at) = refl
 
-    judged-told : ofSubmit (submitted w file .answer) ≡ verdictTold (judged (limitsOf (termsOf w) (nextDay w)) file)
+    judged-told : ofSubmit (submitted w file .answer) ≡ ofVerdict (judged (limitsOf (termsOf w) (nextDay w)) file)
     unfolding submitted
     judged-told = rw (T-path (wellFormed w) t) (told (judged (limitsOf (termsOf w) (nextDay w)) file))
 
@@ -57,4 +56,4 @@ module _ (w : List ℤ) (file : List ℕ) where
     pub submit-accepted : (ofSubmit (submitted w file .answer) ≡ numbered accepted 0) ↔ NoneStrikes (checks (termsOf w) (nextDay w) file)
     submit-accepted =
         let r = accepted-clear (termsOf w) (opened-of w t) (nextDay w) file in
-        ((λ e. r .0 (told-accepted (judged (limitsOf (termsOf w) (nextDay w)) file) (sym judged-told ∙ e))), (λ f. judged-told ∙ ap verdictTold (r .1 f)))
+        ((λ e. r .0 (told-accepted (judged (limitsOf (termsOf w) (nextDay w)) file) (sym judged-told ∙ e))), (λ f. judged-told ∙ ap ofVerdict (r .1 f)))

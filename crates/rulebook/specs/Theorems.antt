@@ -38,14 +38,16 @@ use Rattle.rulebook.specs.FileTheorems.{FileTheorems, file-theorems}
 use Rattle.rulebook.specs.Figures.{Right, starred, starred-right}
 use Rattle.rulebook.specs.WorkedDay.{WorkedDay, worked-day}
 use Rattle.rulebook.specs.Examples.{RowExamples, row-examples, Headers, headers, Balances, balances, Ranges, ranges}
-use Rattle.rulebook.specs.AmountExamples.{BoundReached, bound-reached}
-use Rattle.rulebook.specs.LayoutExamples.{Places, places, Windows, windows}
+use Rattle.rulebook.specs.AmountExamples.{BoundReached, bound-reached, ResidualOfThree, residual-of-three, LagOfTwo, lag-of-two}
+use Rattle.rulebook.specs.LayoutExamples.{Places, places, NewHeader, new-header, Windows, windows}
 use Rattle.rulebook.specs.BookExamples.{Days, days}
-use Rattle.rulebook.specs.FileExamples.{FiguresRead, figures-read}
+use Rattle.rulebook.specs.FileExamples.{BytesRead, bytes-read, FiguresRead, figures-read}
 use Rattle.rulebook.specs.DataExamples.{BookRead, book-read, RowsRead, rows-read}
 use Rattle.rulebook.specs.NumberExamples.{Returned, returned, Table, table, Refusals, refusals, ThreeAccounts, three-accounts}
+use Rattle.rulebook.specs.InputExamples.{CallsTold, calls-told}
 use Rattle.rulebook.specs.CallExamples.{Openings, openings, LentBooks, lent-books}
 use Rattle.rulebook.specs.HistoryExamples.{Closes, closes-told, NewBooks, new-books}
+use Rattle.rulebook.specs.SearchExamples.{SearchedFlags, searched-flags}
 use Rattle.rulebook.specs.SharesLaws.{ShareTotal, share-total, RuleShare, share-rule}
 use Rattle.rulebook.specs.TranchesLaws.{TrancheSplit, tranche-split}
 use Rattle.rulebook.specs.DayAmountLaws.{IntervalShares, interval-shares, posted-within, msslExact, mssl-within}
@@ -130,14 +132,19 @@ pub record Theorems : Type 0 where
   pub starredRight : Each Right starred
   pub workedDay : WorkedDay
   pub boundReached : BoundReached
+  -- R of three accounts; the residual day two days back
+  pub residualOfThree : ResidualOfThree
+  pub lagOfTwo : LagOfTwo
   -- ranges, rows, headers, every word's index, the window, figures by name
   pub ranges : Ranges
   pub rows : RowExamples
   pub headers : Headers
+  pub newHeader : NewHeader
   pub places : Places
   pub windows : Windows
   pub balances : Balances
   pub days : Days
+  pub bytesRead : BytesRead
   pub figuresRead : FiguresRead
   pub bookRead : BookRead
   pub rowsRead : RowsRead
@@ -146,10 +153,14 @@ pub record Theorems : Type 0 where
   pub table : Table
   pub refusals : Refusals
   pub threeAccounts : ThreeAccounts
+  -- the calls on no book, and openings
+  pub callsTold : CallsTold
   pub openings : Openings
   pub lentBooks : LentBooks
   pub closes : Closes
   pub newBooks : NewBooks
+  -- the search by index, through accounts and intervals
+  pub searchedFlags : SearchedFlags
 
 pub theorems : Theorems
 theorems = record {
@@ -186,13 +197,17 @@ theorems = record {
   starredRight = starred-right;
   workedDay = worked-day;
   boundReached = bound-reached;
+  residualOfThree = residual-of-three;
+  lagOfTwo = lag-of-two;
   ranges = ranges;
   rows = row-examples;
   headers = headers;
+  newHeader = new-header;
   places = places;
   windows = windows;
   balances = balances;
   days = days;
+  bytesRead = bytes-read;
   figuresRead = figures-read;
   bookRead = book-read;
   rowsRead = rows-read;
@@ -200,8 +215,10 @@ theorems = record {
   table = table;
   refusals = refusals;
   threeAccounts = three-accounts;
+  callsTold = calls-told;
   openings = openings;
   lentBooks = lent-books;
   closes = closes-told;
   newBooks = new-books;
+  searchedFlags = searched-flags;
 }

@@ -1,7 +1,7 @@
 -- What a value in its range satisfies. Assumes nothing.
 use mathlib.Core.Path.{_≡_}
 use mathlib.Core.Bool.{true}
-use Prim.Native.Nat.{ℕ, _+_, _≤_}
+use Prim.Native.Nat.{ℕ, _≤_}
 use lib.IntN.{ℤ, pos, natAbs}
 use lib.Signed.{leZ, _≤ℤ_}
 use Rattle.integer.specs.Integer.{positive, negative, minus}

@@ -17,7 +17,7 @@ use Rattle.rulebook.specs.Sections.{valueInRange, perInterval, leastCoun
 use Rattle.rulebook.specs.Layout.{mark, markWord, accountsWord, lagWord, horizonWord, firstDayWord, nextDayWord, msslWord, balanceWord, headerSpares, headerSpare, accountSpares, accountSpare, Word, flag, figure, spare, isSpare, intervalTable, accountTable, accountPlace, present, width, wordName, flagIndex, place, intervalSize, ring, size, intervalWord, slot, windowFrom, windowDays}
 use Rattle.rulebook.specs.BookData.{termsOf, nextDay}
 
--- a balance grows by no more cents a closed day, either way
+-- a day's amount is at most so many cents, either way, and can be (`BoundReached`)
 abbrev pub dayBound : ℕ
 dayBound = 4800000000000
 

@@ -19,10 +19,10 @@
 -- Account 1: 595 − 494 + 3,000 − 4,316 − 200 − 85 = −1,500, just half: −2 cents. The MSSL: −6922.
 use mathlib.Core.Path.{_≡_, refl}
 use mathlib.Core.Bool.{cond}
-use mathlib.Core.List.{List, [], _∷_}
+use mathlib.Core.List.{[], _∷_}
 use Prim.Native.Nat.{ℕ}
 use lib.Dec.{eqb}
-use lib.IntN.{ℤ, pos}
+use lib.IntN.{pos}
 use Rattle.integer.specs.Integer.{minus, withSign}
 use Rattle.integer.specs.Below.{fold}
 use Rattle.rulebook.specs.Units.{nearest}

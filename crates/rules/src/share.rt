@@ -15,8 +15,8 @@ ghost use Rattle.integer.specs.Words.{filled};
 ghost use Rattle.rulebook.specs.declared.Kind.the-variants.{Quantity};
 ghost use Rattle.rulebook.specs.Units.{mostQuantity};
 ghost use Rattle.rulebook.specs.Shares.{mostAccounts, leastResidual, shareOf};
-ghost use Rattle.rulebook.specs.Numbers.{shareNumber};
-ghost use Rattle.rulebook.specs.Calls.{allInRange, shareInput, spareGeneration, shareWord, ShareReturned, shareCall};
+ghost use Rattle.rulebook.specs.Numbers.{shareNumber, ShareReturned};
+ghost use Rattle.rulebook.specs.Calls.{allInRange, shareInput, spareGeneration, shareWord, shareCall};
 
 // The share of an account with UEGQ u, of the residual load r, where all UEGQ total s.
 pub fn share_of(r: i64, s: u64, u: u64) -> u64
