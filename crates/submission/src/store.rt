@@ -23,6 +23,18 @@ ghost use Rattle.rulebook.specs.File.{rowEnd, rowAt, sectionEnd, sectionRows, f
 ghost use Rattle.rulebook.specs.Submit.{rowStored, rowsStored};
 ghost use Rattle.submission.specs.Stored.{formOf, numberFrom, wordFrom, rowFrom, RowFits, SectionFits, FileFits};
 
+// The words of a row at an interval: a vesting row's flag, BVQ, BVP and three pairs; a meter row's flag and four pairs; a residual row's flag,
+// UEGQ, MQ, RVP1 and RVP2; an NCC row's load and flag.
+const VESTING_WORDS: usize = 9;
+
+const METER_WORDS: usize = 9;
+
+const RESIDUAL_WORDS: usize = 5;
+
+const NCC_WORDS: usize = 2;
+
+const INTERVALS: usize = 48;
+
 // A row's words at an interval: how many they are, which of them is the flag, what the flag is, and how many values the row has.
 pub struct Form {
     pub words: usize,
@@ -39,25 +51,25 @@ fn form_of(sec: Section, count: usize) -> Form
     let values = per_interval(sec, count);
     match sec {
         Section::Vesting => Form {
-            words: 9,
+            words: VESTING_WORDS,
             place: 0,
             flag: 1 + count,
             values,
         },
         Section::Meter => Form {
-            words: 9,
+            words: METER_WORDS,
             place: 0,
             flag: count,
             values,
         },
         Section::Residual => Form {
-            words: 5,
+            words: RESIDUAL_WORDS,
             place: 0,
             flag: 1,
             values,
         },
         Section::Ncc => Form {
-            words: 2,
+            words: NCC_WORDS,
             place: 1,
             flag: 1,
             values,
@@ -111,10 +123,10 @@ fn put_entry(words: &mut [i64], form: Form, file: &[u8], from: usize)
 
 // Writes a row's words of the 48 intervals, from `start` on and `stride` words apart.
 fn put_row(book: &mut [i64], start: usize, stride: usize, form: Form, file: &[u8], from: usize)
-    requires { ⌜ (form .flag < 2 ^ 63) × (start + 47 * stride + form .words ≤ length (now book)) × (from + 4 * (48 * form .values) ≤ length (now file)) ⌝ }
-    ensures { λ _. ⌜ now (book .exit) ≡ grid start stride (form .words) (rowFrom form (now (file .entry)) from) 48 (now (book .entry)) ⌝ }
+    requires { ⌜ (form .flag < 2 ^ 63) × (start + 47 * stride + form .words ≤ length (now book)) × (from + 4 * (intervals * form .values) ≤ length (now file)) ⌝ }
+    ensures { λ _. ⌜ now (book .exit) ≡ grid start stride (form .words) (rowFrom form (now (file .entry)) from) intervals (now (book .entry)) ⌝ }
 {
-    for i in 0..48 {
+    for i in 0..INTERVALS {
         let a = start + i * stride;
         let e = a + form.words;
         put_entry(&mut book[a..e], form, file, from + 4 * (i * form.values));
@@ -134,7 +146,7 @@ fn store_row(book: &mut [i64], terms: Terms, sec: Section, file: &[u8], at: usiz
     let form = form_of(sec, number(file, count_at, m));
     let start = slot_start(terms, number(file, day_at, 2)) + place_of(sec, number(file, at, n));
     put_row(book, start, interval_size(terms), form, file, from);
-    from + 4 * (48 * form.values)
+    from + 4 * (INTERVALS * form.values)
 }
 
 // Stores the rows of the section at a position, in file order; the position past it.
