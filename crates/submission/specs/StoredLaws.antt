@@ -51,7 +51,7 @@ all-named Residual = tt
 all-named Ncc = tt
 
 -- a row has a word for its flag and one for each number
-pub numbers-few : (sec : Section) (count : ℕ) → count ≤ mostCount sec → perInterval sec count < width sec
+numbers-few : (sec : Section) (count : ℕ) → count ≤ mostCount sec → perInterval sec count < width sec
 numbers-few Vesting count h = omega arith
 numbers-few Meter count h = omega arith
 numbers-few Residual count h = omega arith
@@ -123,12 +123,6 @@ grid-same start stride m f g (suc n) w h =
     ap (λ (x : ℕ → ℤ). onPart (start + n * stride) (start + n * stride + m) (λ p. tabulate (length p) x) (grid start stride m f n w)) (fun-ext (h n (omega arith)))
     ∙ ap (onPart (start + n * stride) (start + n * stride + m) (λ p. tabulate (length p) (g n))) (grid-same start stride m f g n w (λ i l. h i (omega arith)))
 
-width-some : (sec : Section) → 0 < width sec
-width-some Vesting = omega arith
-width-some Meter = omega arith
-width-some Residual = omega arith
-width-some Ncc = omega arith
-
 module _ (o : Terms) (sec : Section) (a d : ℕ) where
   -- a row starts at its place in its day's slot
   pub row-start : {x y a′ d′ : ℕ} → x ≡ intervalWord o (slot o d′) 0 0 → y ≡ place sec a′ 0 → a′ ≡ a → d′ ≡ d → x + y ≡ rowWord o sec a d 0 0
@@ -142,7 +136,7 @@ module _ (o : Terms) (sec : Section) (a d : ℕ) where
   -- and ends within the book
   pub row-room : InTerms o → a < accountsOf sec (o .accounts) → rowWord o sec a d 0 0 + 47 * intervalSize o + width sec ≤ size o
   row-room t h =
-      let p = width-some sec in
+      let p = flag-inside sec in
       let l = row-word-inside o sec d {a = a} {i = 47} {j = width sec - 1} (ring-pos o t) h (omega arith) (omega arith) in
       omega (arith, row-run o sec a d 47 (width sec - 1) (omega arith), last-interval)
 

@@ -4,6 +4,7 @@ use crate::fields::field_at;
 use crate::fields::judge_field;
 use crate::fields::value_at;
 use crate::reader::read_heading;
+use crate::sections::INTERVALS;
 use crate::sections::account_bytes;
 use crate::sections::count_bytes;
 use crate::sections::kind_of;
@@ -27,8 +28,6 @@ ghost use Rattle.submission.specs.Fields.{outcome};
 ghost use Rattle.submission.specs.Values.{valueIn};
 ghost use Rattle.submission.specs.BookLimits.{BookLimits};
 ghost use Rattle.submission.specs.Marks.{markOf, marked, marksAfter, mostMarks};
-
-const INTERVALS: usize = 48;
 
 const MOST_ACCOUNTS: usize = 32;
 

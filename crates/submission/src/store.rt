@@ -4,6 +4,7 @@ use crate::fields::value_at;
 use crate::places::interval_size;
 use crate::places::place_of;
 use crate::places::slot_start;
+use crate::sections::INTERVALS;
 use crate::sections::account_bytes;
 use crate::sections::count_bytes;
 use crate::sections::per_interval;
@@ -32,8 +33,6 @@ const METER_WORDS: usize = 9;
 const RESIDUAL_WORDS: usize = 5;
 
 const NCC_WORDS: usize = 2;
-
-const INTERVALS: usize = 48;
 
 // A row's words at an interval: how many they are, which of them is the flag, what the flag is, and how many values the row has.
 pub struct Form {
