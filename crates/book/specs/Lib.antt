@@ -10,5 +10,4 @@ pub mod SlotLaws
 pub mod WalkLaws
 pub mod HeaderLaws
 pub mod JudgeLaws
-pub mod StoredLaws
 pub mod OpenLaws

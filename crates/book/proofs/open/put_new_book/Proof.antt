@@ -1,16 +1,8 @@
 -- `put_new_book` meets its contract: the header is stored, then the part from word 6 to the size is cleared.
-use mathlib.Core.Path.{_≡_, _∙_}
 use native.Mathlib.Omega.{arith}
 use borrow.Author.Needs.{needs}
-use lib.IntN.{pos}
-use lib.ListN.{length}
-use Rattle.integer.specs.Words.{word}
-use Rattle.rulebook.specs.Layout.{size, stored}
-use Rattle.rulebook.specs.Opening.{header}
-use Rattle.rulebook.specs.WordLaws.{length-stored}
 use Rattle.book.specs.JudgeLaws.{header-inside}
 use Rattle.book.specs.OpenLaws.{header-then-zeros}
-use Rattle.book.specs.StoredLaws.{part-stored}
 use Rattle.book.proofs.open.put_new_book.Statement.{statement}
 use Rattle.book.proofs.open.put_new_book.Tie as tie
 
@@ -38,11 +30,7 @@ same-length c = search needs
 returns : tie.Need-returns
 returns c =
     let s = c .before .before .before .before .before .before .before in
-    let w = stored (s .args .book .now) 0 6 (word (header (s .args .terms))) in
-    let e = c .before .before .before .book-size .ensures in
-    let l : length w ≡ length (s .args .book .now) = length-stored (s .args .book .now) 0 6 (word (header (s .args .terms))) in
-    rw (c .before .clear .ensures, c .before .before .before .before .before .put-header .ensures, e)
-    (part-stored 6 (size (s .args .terms)) (λ k. pos 0) w (omega (arith, header-inside (s .args .terms))) (omega arith) ∙ header-then-zeros (s .args .terms) (s .args .book .now))
+    rw (c .before .clear .ensures, c .before .before .before .before .before .put-header .ensures, c .before .before .before .book-size .ensures) (header-then-zeros (s .args .terms) (s .args .book .now) (s .pre .1))
 
 pub put-new-book-spec : {M : Type 1} → statement M
 put-new-book-spec = tie.close (tie.spec put-header-requires book-size-requires sub-clear part-clear-start part-clear-end clear-requires same-length returns)
