@@ -1,10 +1,14 @@
 -- The slots of a lent book, as the code lends them. Assumes nothing.
+use mathlib.Core.Bool.{cond}
 use mathlib.Core.List.{List}
 use Prim.Native.Nat.{ℕ, _+_, _*_}
 use lib.IntN.{ℤ}
 use Rattle.integer.specs.Words.{part}
 use Rattle.rulebook.specs.declared.Terms.{Terms}
+use Rattle.rulebook.specs.DayAmount.{residualDue, residualDay}
 use Rattle.rulebook.specs.Layout.{slot, intervalWord}
+use Rattle.closing.specs.declared.day.Residuals.{Residuals}
+use Rattle.closing.specs.Day.{residualsOf, noResiduals}
 
 -- where the slot of day d starts
 unfoldable pub slotStart : Terms → ℕ → ℕ
@@ -13,3 +17,11 @@ slotStart o d = intervalWord o (slot o d) 0 0
 -- its words
 abbrev pub slotWords : Terms → List ℤ → ℕ → List ℤ
 slotWords o w d = part w (slotStart o d) (48 * (4 + o .accounts * 24))
+
+-- the day whose slot a close settles residuals from: r, and D itself where none is due (its slot is lent but not read)
+unfoldable pub thenDay : Terms → ℕ → ℕ
+thenDay o D = cond (residualDue o D) (residualDay o D) D
+
+-- R and S of each interval of r, none where no residual is due
+unfoldable pub residualsDue : Terms → List ℤ → ℕ → Residuals
+residualsDue o w D = cond (residualDue o D) (residualsOf (o .accounts) (slotWords o w (thenDay o D))) noResiduals

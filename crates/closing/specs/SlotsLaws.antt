@@ -1,35 +1,61 @@
--- A cell of a slot has the book's words, so it says what the book says by name. Assumes nothing.
-use mathlib.Core.Path.{_≡_, refl, sym, ap, _∙_}
+-- Slots lie in a well-formed book, and their words are the book's. Assumes nothing.
+use mathlib.Core.Path.{_≡_, sym, ap, _∙_}
 use mathlib.Core.List.{List}
-use Prim.Native.Nat.{ℕ, zero, suc, _+_, _*_, _≤_, _<_}
+use Prim.Native.Nat.{ℕ, _+_, _*_, _≤_, _<_}
 use native.Mathlib.Nat.{add-mul}
 use native.Mathlib.Omega.{arith}
+use lib.Dec.{T}
 use lib.IntN.{ℤ, pos}
-use lib.ListN.{length, getD}
-use Rattle.integer.specs.Words.{word, part}
-use Rattle.integer.specs.WordsLaws.{row-fits, getD-part}
+use lib.ListN.{length}
+use Rattle.integer.specs.Words.{word}
+use Rattle.integer.specs.WordsLaws.{row-fits, length-part, getD-part}
 use Rattle.rulebook.specs.declared.Section.the-variants.{Vesting, Meter, Residual, Ncc}
 use Rattle.rulebook.specs.declared.Terms.{Terms}
-use Rattle.rulebook.specs.Units.{positive, asQuantity}
-use Rattle.rulebook.specs.Layout.{base, slot, intervalSize, intervalWord, rowWord, place}
-use Rattle.rulebook.specs.BookData.{bookData}
-use Rattle.rulebook.specs.AmountLaws.{Alike}
-use Rattle.rulebook.specs.IndexLaws.{place-run, tender-words, facility-words}
-use Rattle.closing.specs.Cell.{cellData}
+use Rattle.rulebook.specs.Layout.{ring, size, slot, intervalSize, intervalWord, rowWord, place}
+use Rattle.rulebook.specs.BookData.{termsOf}
+use Rattle.rulebook.specs.WellFormed.{wellFormed}
+use Rattle.rulebook.specs.LayoutLaws.{slot-inside}
+use Rattle.rulebook.specs.FormLaws.{ring-pos}
+use Rattle.rulebook.specs.FormedLaws.{formed-holds, opened-of}
+use Rattle.rulebook.specs.IndexLaws.{place-run}
 use Rattle.closing.specs.Day.{intervalOf, cellAt}
 use Rattle.closing.specs.Slots.{slotStart, slotWords}
+
+-- ---- The slot in the book
+
+module _ (w : List ℤ) (t : T (wellFormed w)) (d : ℕ) where
+  pub slot-fits : slotStart (termsOf w) d + 48 * (4 + termsOf w .accounts * 24) ≤ length w
+  unfolding slotStart intervalWord intervalSize size
+  slot-fits =
+      let l = formed-holds w t .long in
+      let s = slot-inside (termsOf w) d (ring-pos (termsOf w) (opened-of w t)) in
+      omega (arith, row-fits (slot (termsOf w) d) (ring (termsOf w)) (48 * (4 + termsOf w .accounts * 24)) s)
+
+  pub slot-length : length (slotWords (termsOf w) w d) ≡ 48 * (4 + termsOf w .accounts * 24)
+  slot-length = length-part w (slotStart (termsOf w) d) (48 * (4 + termsOf w .accounts * 24)) slot-fits
+
+-- ---- Its words
 
 size-is : (o : Terms) → intervalSize o ≡ 4 + o .accounts * 24
 unfolding intervalSize
 size-is o = omega arith
 
 module _ (o : Terms) (w : List ℤ) (d : ℕ) where
-  -- word k of a slot, at interval i and place m
-  slot-index : (i m : ℕ) → slotStart o d + (i * (4 + o .accounts * 24) + m) ≡ intervalWord o (slot o d) i m
+  -- the index of a slot's word, at interval i and place m
+  pub slot-index : (i m : ℕ) → slotStart o d + (i * (4 + o .accounts * 24) + m) ≡ intervalWord o (slot o d) i m
   unfolding slotStart intervalWord
   slot-index i m =
       rw (← size-is o)
       (omega (arith, add-mul (slot o d * 48) i (intervalSize o), add-mul (slot o d * 48) 0 (intervalSize o)))
+
+  -- the load of interval i
+  pub load-word : (i : ℕ) → i < 48 → word w (rowWord o Ncc 0 d i 0) ≡ word (intervalOf (o .accounts) (slotWords o w d) i) 0
+  unfolding rowWord
+  load-word i hi =
+      let n = o .accounts in
+      sym (getD-part (slotWords o w d) (i * (4 + n * 24)) (4 + n * 24) 0 (pos 0) (omega arith)
+      ∙ getD-part w (slotStart o d) (48 * (4 + n * 24)) (i * (4 + n * 24) + 0) (pos 0) (omega (arith, row-fits i 48 (4 + n * 24) hi))
+      ∙ ap (word w) (slot-index i 0))
 
   module _ (a i : ℕ) (ha : a < o .accounts) (hi : i < 48) where
     -- word k of account a's cell at interval i
@@ -43,21 +69,21 @@ module _ (o : Terms) (w : List ℤ) (d : ℕ) where
         step : slotStart o d + (i * (4 + o .accounts * 24) + (4 + a * 24) + k) ≡ slotStart o d + (i * (4 + o .accounts * 24) + (4 + 24 * a + k))
         step = omega arith
 
-    vesting-index : (j : ℕ) → j < 9 → rowWord o Vesting a d i j ≡ intervalWord o (slot o d) i (4 + 24 * a + j)
+    pub vesting-index : (j : ℕ) → j < 9 → rowWord o Vesting a d i j ≡ intervalWord o (slot o d) i (4 + 24 * a + j)
     unfolding rowWord
     vesting-index j h = ap (intervalWord o (slot o d) i) (place-run Vesting a j h ∙ e)
       where
         e : place Vesting a 0 + j ≡ 4 + 24 * a + j
         e = omega arith
 
-    meter-index : (j : ℕ) → j < 9 → rowWord o Meter a d i j ≡ intervalWord o (slot o d) i (4 + 24 * a + (9 + j))
+    pub meter-index : (j : ℕ) → j < 9 → rowWord o Meter a d i j ≡ intervalWord o (slot o d) i (4 + 24 * a + (9 + j))
     unfolding rowWord
     meter-index j h = ap (intervalWord o (slot o d) i) (place-run Meter a j h ∙ e)
       where
         e : place Meter a 0 + j ≡ 4 + 24 * a + (9 + j)
         e = omega arith
 
-    residual-index : (j : ℕ) → j < 5 → rowWord o Residual a d i j ≡ intervalWord o (slot o d) i (4 + 24 * a + (18 + j))
+    pub residual-index : (j : ℕ) → j < 5 → rowWord o Residual a d i j ≡ intervalWord o (slot o d) i (4 + 24 * a + (18 + j))
     unfolding rowWord
     residual-index j h = ap (intervalWord o (slot o d) i) (place-run Residual a j h ∙ e)
       where
