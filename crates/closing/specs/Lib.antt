@@ -9,3 +9,4 @@ pub mod Search
 pub mod SearchLaws
 pub mod Slots
 pub mod SlotsLaws
+pub mod SearchSameLaws
