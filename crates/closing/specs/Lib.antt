@@ -10,3 +10,4 @@ pub mod SearchLaws
 pub mod Slots
 pub mod SlotsLaws
 pub mod SearchSameLaws
+pub mod SlotDataLaws
