@@ -11,3 +11,4 @@ pub mod Slots
 pub mod SlotsLaws
 pub mod SearchSameLaws
 pub mod SlotDataLaws
+pub mod PostedLaws
