@@ -12,3 +12,4 @@ pub mod SlotsLaws
 pub mod SearchSameLaws
 pub mod SlotDataLaws
 pub mod PostedLaws
+pub mod SlotRangedLaws

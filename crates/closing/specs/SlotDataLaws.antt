@@ -27,7 +27,7 @@ module _ (o : Terms) (w : List ℤ) (d : ℕ) where
     cell = cellAt (o .accounts) (slotWords o w d) a i
 
     -- word j of the vesting row, and of the meter row, by its index k in the cell
-    vesting-at : (j k : ℕ) → j ≡ k → k < 9 → word w (rowWord o Vesting a d i j) ≡ word cell k
+    pub vesting-at : (j k : ℕ) → j ≡ k → k < 9 → word w (rowWord o Vesting a d i j) ≡ word cell k
     vesting-at j k e h = ap (λ (j : ℕ). word w (rowWord o Vesting a d i j)) e ∙ vesting-word o w d a i ha hi k h
 
     meter-at : (j k : ℕ) → j < 9 → 9 + j ≡ k → word w (rowWord o Meter a d i j) ≡ word cell k

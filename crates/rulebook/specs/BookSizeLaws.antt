@@ -39,10 +39,10 @@ module _ (w : List ℤ) (t : T (wellFormed w)) where
   book-ranged d h l = entries-ranged (termsOf w) w (nextDay w - termsOf w .first) (walk-of w t) (ring-pos (termsOf w) (opened-of w t)) d h l
 
   module _ (left : nextDay w ≤ lastDay) where
-    D-inside : InWindow (termsOf w) (nextDay w - termsOf w .first) (nextDay w)
+    pub D-inside : InWindow (termsOf w) (nextDay w - termsOf w .first) (nextDay w)
     D-inside = let q = opened-of w t in let n = next-of w t .1 in record { begun = omega arith; kept = omega arith; ahead = omega arith }
 
-    r-inside : T (residualDue (termsOf w) (nextDay w)) → InWindow (termsOf w) (nextDay w - termsOf w .first) (residualDay (termsOf w) (nextDay w))
+    pub r-inside : T (residualDue (termsOf w) (nextDay w)) → InWindow (termsOf w) (nextDay w - termsOf w .first) (residualDay (termsOf w) (nextDay w))
     unfolding residualDue
     r-inside x =
         let q = opened-of w t in

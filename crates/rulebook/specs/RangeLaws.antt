@@ -35,7 +35,7 @@ injection : (s : Section) (k : ℕ) (z : ℤ) → kindOf s k ≡ Injection → T
 injection s k z e t = injection-range z (T-path (inRange Injection z) (of-kind (kindOf s k) Injection z e t))
 
 -- pairs alternate
-even : (k : ℕ) → k % 2 ≡ 0 → (kindOf Vesting k ≡ Quantity) × (kindOf Meter k ≡ Price)
+pub even : (k : ℕ) → k % 2 ≡ 0 → (kindOf Vesting k ≡ Quantity) × (kindOf Meter k ≡ Price)
 even k e = (rw e, rw e)
 
 odd : (k : ℕ) → k % 2 ≡ 1 → (kindOf Vesting k ≡ Price) × (kindOf Meter k ≡ Injection)
