@@ -10,4 +10,5 @@ pub mod SlotLaws
 pub mod WalkLaws
 pub mod HeaderLaws
 pub mod JudgeLaws
+pub mod JudgedLaws
 pub mod OpenLaws

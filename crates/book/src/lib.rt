@@ -6,5 +6,6 @@ pub mod cell; // cell.rt: an account's words at an interval
 pub mod interval; // interval.rt: the words of an interval
 pub mod slots; // slots.rt: the slots, of days and blank
 pub mod header; // header.rt: the header, the size, the balances
+pub mod places; // places.rt: where a day's slot starts
 pub mod judge; // judge.rt: is a lent book well formed?
 pub mod open; // open.rt: opening

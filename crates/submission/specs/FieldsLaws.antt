@@ -48,11 +48,6 @@ up-stops (suc n) f i w p l h t =
     (λ b. let e : i ≡ n = omega arith in rw (← e, h, t))
     (lt-or-le i n)
 
-pub up-same : (n : ℕ) (f g : ℕ → Verdict) → ((i : ℕ) → i < n → f i ≡ g i) → upTo n f ≡ upTo n g
-unfolding upTo
-up-same zero f g h = refl
-up-same (suc n) f g h = rw (up-same n f g (λ i l. h i (omega arith)), h n (omega arith))
-
 -- ---- fieldAt
 
 module _ (n : ℕ) (s : List ℕ) (at : ℕ) where

@@ -19,7 +19,7 @@ use Rattle.rulebook.specs.declared.Verdict.the-variants.{Accepted, Refused}
 use Rattle.rulebook.specs.Sections.{leastCount, mostCount}
 use Rattle.rulebook.specs.File.{accountBytes, countBytes, accountAt, dayAt, dayPos, countPos, valuesPos, valuesIn, rowEnd, rowPos, rowsIn, sectionEnd}
 use Rattle.rulebook.specs.Judging.{openFrom, require, _andThen_, upTo, fieldIn, key, rest, rowAfter, judgedRow, judgedSection}
-use Rattle.rulebook.specs.JudgingLaws.{then-both, checked, field-says, keyed, section-start, up-each}
+use Rattle.rulebook.specs.JudgingLaws.{then-both, checked, field-says, keyed}
 use Rattle.submission.specs.declared.reader.Heading.{Heading}
 use Rattle.submission.specs.Fields.{outcome, headingAt, fieldOutcome}
 use Rattle.submission.specs.FieldsLaws.{up-none, up-more, field-whole, field-judged}
@@ -160,18 +160,3 @@ module _ (l : Limits) (sec : Section) (s : List ℕ) (at : ℕ) where
       → outcome (upTo count (judgedRow l sec s first)) (rowPos sec s first count) ≡ outcome (judgedSection l sec s at) (sectionEnd sec s at)
   unfolding sectionEnd
   section-judged h = rw (section-rows (h .0), ← h .1, ← h .2)
-
-  -- an accepted section ends within the file
-  module _ (e : judgedSection l sec s at ≡ Accepted) where
-    starts : at + 2 ≤ length s
-    starts = section-start l sec s at e
-
-    rows-inside : (i : ℕ) → i ≤ rowsIn s at → rowPos sec s (at + 2) i ≤ length s
-    rows-inside zero h = rw (pos-none sec s (at + 2)) starts
-    rows-inside (suc i) h =
-        let r = up-each (rowsIn s at) (judgedRow l sec s (at + 2)) (rw (← section-rows starts) e) i (omega arith) in
-        rw (← add-one i, pos-more sec s (at + 2) i) (row-end sec s (rowPos sec s (at + 2) i) (judged-parts l sec s (at + 2) i r .1))
-
-    pub section-end : sectionEnd sec s at ≤ length s
-    unfolding sectionEnd
-    section-end = rows-inside (rowsIn s at) (omega arith)

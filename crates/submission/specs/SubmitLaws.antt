@@ -25,8 +25,7 @@ use Rattle.rulebook.specs.Submit.{rowsStored, submitted}
 use Rattle.rulebook.specs.Promises.{SubmitPromise}
 use Rattle.rulebook.specs.TestLaws.{and-left, and-right}
 use Rattle.rulebook.specs.FormedLaws.{all-fits, opened-of, next-of}
-use Rattle.book.specs.declared.judge.Judged.the-variants.{WellFormed, IllFormed}
-use Rattle.book.specs.Judged.{judgedBook}
+use Rattle.book.specs.JudgedLaws.{Formed}
 use Rattle.submission.specs.Stored.{RowFits, SectionFits, FileFits}
 
 -- ---- An accepted file
@@ -74,58 +73,15 @@ module _ (o : Terms) (C : ℕ) (some : 1 ≤ o .accounts) (begun : o .first ≤ 
         ncc = section-fits Ncc s _ (p .ncc);
       }
 
--- ---- A book that was judged well formed
+-- ---- The promise, answer by answer
 
 module _ (w : List ℤ) where
-  pub record Formed (o : Terms) (C : ℕ) : Type 0 where
-    pub formed : wellFormed w ≡ true
-    pub terms : termsOf w ≡ o
-    pub next : nextDay w ≡ C
-    pub inTerms : InTerms o
-    pub begun : o .first ≤ C
-    pub ended : C ≤ 36525
-    pub room : size o ≤ length w
-
-  long : T (wellFormed w) → size (termsOf w) ≤ length w
-  unfolding fits
-  long t = let x = all-fits w t in leb→le (size (termsOf w)) (length w) (search (and-left, and-right) depth 6)
-
-  pub book-formed : (o : Terms) (C : ℕ) → judgedBook w ≡ WellFormed o C → Formed o C
-  unfolding judgedBook
-  book-formed o C e = go (wellFormed w) refl e
-    where
-      go : (b : Bool) → wellFormed w ≡ b → cond b (WellFormed (termsOf w) (nextDay w)) IllFormed ≡ WellFormed o C → Formed o C
-      go true f e =
-          let t : T (wellFormed w) = subst T (sym f) tt in
-          let x : termsOf w ≡ o = cc in
-          let y : nextDay w ≡ C = cc in
-          record {
-            formed = f;
-            terms = x;
-            next = y;
-            inTerms = subst InTerms x (opened-of w t);
-            begun = rw (← x, ← y) (next-of w t .1);
-            ended = rw (← y) (next-of w t .2);
-            room = rw (← x) (long t);
-          }
-      go false f e = absurd (let z : _≡_ {A = ℕ} 0 1 = cc in omega arith)
-
-  pub book-ill : judgedBook w ≡ IllFormed → wellFormed w ≡ false
-  unfolding judgedBook
-  book-ill e = go (wellFormed w) refl e
-    where
-      go : (b : Bool) → wellFormed w ≡ b → cond b (WellFormed (termsOf w) (nextDay w)) IllFormed ≡ IllFormed → wellFormed w ≡ false
-      go true f e = absurd (let z : _≡_ {A = ℕ} 0 1 = cc in omega arith)
-      go false f e = f
-
-  -- ---- The promise, answer by answer
-
   module _ (s : List ℕ) where
     pub ill-formed : wellFormed w ≡ false → SubmitPromise w s IllFormed w
     unfolding submitted
     ill-formed e = record { answered = rw e; bookAfter = rw e }
 
-    module _ (o : Terms) (C : ℕ) (f : Formed o C) where
+    module _ (o : Terms) (C : ℕ) (f : Formed w o C) where
       verdict : judged (limitsOf (termsOf w) (nextDay w)) s ≡ judged (limitsOf o C) s
       verdict = ap (λ (x : Terms). judged (limitsOf x (nextDay w)) s) (f .terms) ∙ ap (λ (D : ℕ). judged (limitsOf o D) s) (f .next)
 

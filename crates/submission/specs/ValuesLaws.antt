@@ -19,8 +19,8 @@ use Rattle.rulebook.specs.Sections.{kindOf}
 use Rattle.rulebook.specs.File.{num, signed32, valueAt}
 use Rattle.rulebook.specs.Judging.{upTo, value}
 use Rattle.rulebook.specs.JudgingLaws.{up-each, value-says}
+use Rattle.rulebook.specs.VerdictLaws.{up-cong}
 use Rattle.submission.specs.Values.{valueIn}
-use Rattle.submission.specs.FieldsLaws.{up-same}
 
 -- ---- Bytes
 
@@ -79,7 +79,7 @@ module _ (sec : Section) (s : List ℕ) (a e n : ℕ) (inside : a ≤ length s) 
   pub values-part : upTo n (valueIn sec (take (e - a) (drop a s)) a) ≡ upTo n (value sec s a)
   unfolding valueIn value
   values-part =
-      up-same n _ _
+      up-cong n _ _
       (λ k l.
       ⊎-elim
       (λ h. rw (part-length, lt-leb (4 * k + 4) (e - a) (omega arith), lt-leb (a + 4 * k + 4) (length s) h))

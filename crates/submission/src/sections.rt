@@ -8,9 +8,6 @@ ghost use Rattle.rulebook.specs.Sections.{leastCount, mostCount, perInterval, k
 ghost use Rattle.rulebook.specs.File.{accountBytes, countBytes};
 ghost use Rattle.rulebook.specs.Judging.{openFrom};
 
-// The intervals of a day.
-pub const INTERVALS: usize = 48;
-
 // The bytes of a row's account; an NCC row has none.
 pub fn account_bytes(sec: Section) -> usize
     ensures { λ r. ⌜ (r ≡ accountBytes sec) × (r ≤ 1) ⌝ }

@@ -4,6 +4,7 @@ use crate::rows::least;
 use crate::store::store_file;
 use book::judge::Judged;
 use book::judge::judge;
+use book::layout::LAST_DAY;
 use rulebook::Limits;
 use rulebook::SubmitAnswer;
 use rulebook::Terms;
@@ -15,8 +16,6 @@ ghost use Rattle.rulebook.specs.Judging.{limitsOf};
 ghost use Rattle.rulebook.specs.Promises.{SubmitPromise};
 ghost use Rattle.book.specs.declared.judge.Judged.the-variants.{WellFormed};
 ghost use Rattle.book.specs.Judged.{judgedBook};
-
-const LAST_DAY: usize = 36524;
 
 // The greater of two numbers.
 fn greatest(a: usize, b: usize) -> usize

@@ -2,6 +2,7 @@
 use mathlib.Core.Path.{_≡_, sym, _∙_}
 use borrow.Author.Needs.{needs}
 use borrow.Author.Tests.{lt-leb, le-leb}
+use Rattle.rulebook.specs.PositionLaws.{section-end}
 use Rattle.rulebook.specs.declared.Section.the-variants.{Vesting, Meter, Residual, Ncc}
 use Rattle.rulebook.specs.declared.Verdict.{Verdict}
 use Rattle.rulebook.specs.declared.Verdict.the-variants.{Accepted, Refused}
@@ -9,7 +10,6 @@ use Rattle.rulebook.specs.File.{meterPos, residualPos, nccPos, endPos}
 use Rattle.rulebook.specs.Judging.{judgedSection, judged}
 use Rattle.submission.specs.Fields.{outcome}
 use Rattle.submission.specs.FieldsLaws.{outcome-passed, outcome-stopped}
-use Rattle.submission.specs.RowsLaws.{section-end}
 use Rattle.submission.proofs.judge.judge_file.Statement.{statement}
 use Rattle.submission.proofs.judge.judge_file.Tie as tie
 

@@ -4,11 +4,14 @@ use borrow.Author.Needs.{needs}
 use Rattle.submission.proofs.places.place_of.Statement.{statement}
 use Rattle.submission.proofs.places.place_of.Tie as tie
 
+mul-cell : tie.Need-mul-cell
+mul-cell c = search needs
+
+add-cell : tie.Need-add-cell
+add-cell c = search needs
+
 enum-told : tie.Need-enum-told
 enum-told c = search needs
-
-mul-result : tie.Need-mul-result
-mul-result c = search needs
 
 add-result : tie.Need-add-result
 add-result c = search needs
@@ -16,17 +19,11 @@ add-result c = search needs
 enum-told-2 : tie.Need-enum-told-2
 enum-told-2 c = search needs
 
-mul-result-2 : tie.Need-mul-result-2
-mul-result-2 c = search needs
-
 add-result-2 : tie.Need-add-result-2
 add-result-2 c = search needs
 
 enum-told-3 : tie.Need-enum-told-3
 enum-told-3 c = search needs
-
-mul-result-3 : tie.Need-mul-result-3
-mul-result-3 c = search needs
 
 add-result-3 : tie.Need-add-result-3
 add-result-3 c = search needs
@@ -50,14 +47,13 @@ pub place-of-spec : {M : Type 1} → statement M
 place-of-spec =
     tie.close
     (tie.spec
+    mul-cell
+    add-cell
     enum-told
-    mul-result
     add-result
     enum-told-2
-    mul-result-2
     add-result-2
     enum-told-3
-    mul-result-3
     add-result-3
     enum-told-4
     returns

@@ -7,7 +7,8 @@ use Rattle.rulebook.specs.Judging.{limitsOf, judged}
 use Rattle.rulebook.specs.Promises.{SubmitPromise}
 use Rattle.submission.specs.BookLimits.{BookLimits}
 use Rattle.submission.specs.BookLimitsLaws.{limits-of}
-use Rattle.submission.specs.SubmitLaws.{Formed, book-formed, file-fits, file-taken, file-refused}
+use Rattle.book.specs.JudgedLaws.{Formed, book-formed}
+use Rattle.submission.specs.SubmitLaws.{file-fits, file-taken, file-refused}
 use Rattle.submission.proofs.submit.take_file.Statement.{statement}
 use Rattle.submission.proofs.submit.take_file.Tie as tie
 

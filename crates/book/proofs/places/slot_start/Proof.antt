@@ -4,8 +4,8 @@ use native.Mathlib.Nat.{mod-lt, mul-le-mul}
 use native.Mathlib.Omega.{arith}
 use borrow.Author.Needs.{needs}
 use Rattle.rulebook.specs.Layout.{base, ring, slot, intervalWord}
-use Rattle.submission.proofs.places.slot_start.Statement.{statement}
-use Rattle.submission.proofs.places.slot_start.Tie as tie
+use Rattle.book.proofs.places.slot_start.Statement.{statement}
+use Rattle.book.proofs.places.slot_start.Tie as tie
 
 few : (s : tie.Start) → (s .args .day - s .args .terms .first) % (s .args .terms .lag + s .args .terms .horizon) < s .args .terms .lag + s .args .terms .horizon
 few s = mod-lt (s .args .day - s .args .terms .first) (omega arith)

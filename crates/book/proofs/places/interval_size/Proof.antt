@@ -3,8 +3,8 @@ use mathlib.Core.Path.{refl}
 use native.Mathlib.Omega.{arith}
 use borrow.Author.Needs.{needs}
 use Rattle.rulebook.specs.Layout.{intervalSize}
-use Rattle.submission.proofs.places.interval_size.Statement.{statement}
-use Rattle.submission.proofs.places.interval_size.Tie as tie
+use Rattle.book.proofs.places.interval_size.Statement.{statement}
+use Rattle.book.proofs.places.interval_size.Tie as tie
 
 mul-result : tie.Need-mul-result
 mul-result c = search needs
