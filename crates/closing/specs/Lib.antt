@@ -13,3 +13,5 @@ pub mod SearchSameLaws
 pub mod SlotDataLaws
 pub mod PostedLaws
 pub mod SlotRangedLaws
+pub mod Written
+pub mod WrittenLaws

@@ -4,3 +4,5 @@ pub mod interval; // interval.rt: R and S of one interval
 pub mod total; // total.rt: the running total of a day
 pub mod day; // day.rt: the posted amount of a day
 pub mod search; // search.rt: the first absent datum
+pub mod statement; // statement.rt: the amounts of a close
+pub mod ledger; // ledger.rt: balances grow

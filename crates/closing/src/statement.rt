@@ -1,0 +1,55 @@
+// Document 01, "Close": the statement, N amounts and then the MSSL's, in cents.
+use crate::day::Residuals;
+use crate::day::posted_amount;
+use integer::add;
+use integer::put_word;
+use integer::word_at;
+ghost use mathlib.Core.Path.{_≡_};
+ghost use Prim.Native.Nat.{_≤_};
+ghost use lib.IntN.{negℤ};
+ghost use lib.ListN.{length};
+ghost use Rattle.integer.specs.Below.{sumℤ};
+ghost use Rattle.integer.specs.Words.{word, filled};
+ghost use Rattle.closing.specs.Day.{DaysRanged, slotPosted};
+ghost use Rattle.closing.specs.Written.{Small};
+
+// Posts the accounts' amounts, of the slots of today and of then.
+pub fn post_amounts(
+    statement: &mut [i64],
+    today: &[i64],
+    then: &[i64],
+    due: bool,
+    residuals: Residuals,
+    n: usize,
+)
+    requires { ⌜ DaysRanged n (now today) (now then) due residuals × (n ≤ 32) × (n ≤ length (now statement)) ⌝ }
+    ensures { λ _. ⌜ now (statement .exit) ≡ filled n (slotPosted n (now (today .entry)) (now (then .entry)) due residuals) (now (statement .entry)) ⌝ }
+{
+    for a in 0..n {
+        put_word(
+            statement,
+            a,
+            posted_amount(today, then, due, residuals, n, a),
+        );
+    }
+}
+
+// The sum of the n amounts.
+fn amounts_sum(statement: &[i64], n: usize) -> i64
+    requires { ⌜ Small n (now statement) × (n ≤ 32) ⌝ }
+    ensures { λ r. ⌜ r ≡ sumℤ n (word (now (statement .entry))) ⌝ }
+{
+    let mut sum: i64 = 0;
+    for a in 0..n {
+        sum = add(sum, word_at(statement, a));
+    }
+    sum
+}
+
+// The MSSL gets minus that.
+pub fn mssl_amount(statement: &[i64], n: usize) -> i64
+    requires { ⌜ Small n (now statement) × (n ≤ 32) ⌝ }
+    ensures { λ r. ⌜ r ≡ negℤ (sumℤ n (word (now (statement .entry)))) ⌝ }
+{
+    0 - amounts_sum(statement, n)
+}
