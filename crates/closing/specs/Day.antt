@@ -14,7 +14,7 @@ use Rattle.closing.specs.declared.interval.Residual.{Residual}
 use Rattle.closing.specs.declared.day.Residuals.{Residuals}
 use Rattle.closing.specs.declared.total.DayTotal.{DayTotal}
 use Rattle.closing.specs.Cell.{cellData, cellResidual}
-use Rattle.closing.specs.Interval.{cellOf, IntervalRanged, residualOf, spareOf}
+use Rattle.closing.specs.Interval.{IntervalRanged, residualOf, spareOf}
 
 -- interval i of a slot of n accounts
 abbrev pub intervalOf : ℕ → List ℤ → ℕ → List ℤ

@@ -1,18 +1,18 @@
 -- An interval of a slot, and a slot, as the code reads them part by part. Assumes nothing.
 use mathlib.Core.Path.{_≡_}
-use mathlib.Core.Bool.{Bool, true, cond}
+use mathlib.Core.Bool.{true}
 use mathlib.Core.List.{List}
 use Prim.Native.Nat.{ℕ, _+_, _*_, _≤_, _<_}
-use lib.IntN.{ℤ, pos, _+ℤ_, _-ℤ_}
+use lib.IntN.{ℤ, pos, _-ℤ_}
 use lib.ListN.{length}
-use Rattle.integer.specs.Below.{sumℕ, sumℤ}
+use Rattle.integer.specs.Below.{sumℕ}
 use Rattle.integer.specs.Words.{word, part}
 use Rattle.rulebook.specs.declared.Kind.the-variants.{Load}
 use Rattle.rulebook.specs.Units.{asQuantity, inRange}
-use Rattle.rulebook.specs.DayAmount.{vestedQuantity, vestingAmount}
+use Rattle.rulebook.specs.DayAmount.{vestedQuantity}
 use Rattle.closing.specs.declared.interval.Totals.{Totals}
 use Rattle.closing.specs.declared.interval.Residual.{Residual}
-use Rattle.closing.specs.Cell.{cellData, Ranged, cellResidual}
+use Rattle.closing.specs.Cell.{cellData, Ranged}
 
 -- ---- An interval of n accounts: its own 4 words, then the cells
 

@@ -1,11 +1,11 @@
 -- Sizes of an interval's totals, cell by cell. Assumes nothing.
-use mathlib.Core.Path.{_≡_, refl, ap, _∙_}
+use mathlib.Core.Path.{_≡_, refl}
 use mathlib.Core.List.{List}
 use Prim.Native.Nat.{ℕ, _+_, _*_, _≤_, _<_}
 use native.Mathlib.Omega.{arith}
 use lib.IntN.{ℤ, natAbs, pos, _-ℤ_}
 use Rattle.integer.specs.IntegerLaws.{sub-parts, parts, parts-eq}
-use Rattle.integer.specs.Below.{fold, sumℕ}
+use Rattle.integer.specs.Below.{fold}
 use Rattle.integer.specs.BelowLaws.{fold-suc, sumℕ-le}
 use Rattle.integer.specs.Words.{word}
 use Rattle.rulebook.specs.Units.{asQuantity}

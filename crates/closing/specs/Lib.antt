@@ -15,3 +15,5 @@ pub mod PostedLaws
 pub mod SlotRangedLaws
 pub mod Written
 pub mod WrittenLaws
+pub mod SettlingLaws
+pub mod CloseLaws

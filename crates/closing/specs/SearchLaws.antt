@@ -1,15 +1,15 @@
 -- Laws of the search, turn by turn. Assumes nothing.
-use mathlib.Core.Path.{_≡_, refl, _∙_}
-use mathlib.Core.Bool.{Bool, true, false, cond}
+use mathlib.Core.Path.{_≡_}
+use mathlib.Core.Bool.{true, false}
 use mathlib.Core.List.{List}
-use Prim.Native.Nat.{ℕ, _+_, _*_}
+use Prim.Native.Nat.{ℕ}
 use lib.IntN.{ℤ}
 use Rattle.integer.specs.declared.Found.{Found}
 use Rattle.integer.specs.declared.Found.the-variants.{At, Nothing}
 use Rattle.integer.specs.Below.{orElse}
 use Rattle.integer.specs.Words.{word}
 use Rattle.rulebook.specs.WellFormed.{isZero}
-use Rattle.closing.specs.Search.{absentAt, absentPair, absentSettled, absentResidual, absentIn}
+use Rattle.closing.specs.Search.{absentAt}
 
 pub absent-here : (w : List ℤ) (i : ℕ) → isZero (word w i) ≡ true → absentAt w i ≡ At i
 unfolding absentAt

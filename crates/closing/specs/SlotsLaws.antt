@@ -1,16 +1,19 @@
 -- Slots lie in a well-formed book, and their words are the book's. Assumes nothing.
 use mathlib.Core.Path.{_≡_, sym, ap, _∙_}
+use mathlib.Core.Bool.{Bool, true, false, cond}
 use mathlib.Core.List.{List}
-use Prim.Native.Nat.{ℕ, _+_, _*_, _≤_, _<_}
+use Prim.Native.Nat.{ℕ, _+_, _-_, _*_, _≤_, _<_}
 use native.Mathlib.Nat.{add-mul}
 use native.Mathlib.Omega.{arith}
-use lib.Dec.{T}
+use lib.Dec.{T, leb, leb→le}
 use lib.IntN.{ℤ, pos}
 use lib.ListN.{length}
 use Rattle.integer.specs.Words.{word}
 use Rattle.integer.specs.WordsLaws.{row-fits, length-part, getD-part}
 use Rattle.rulebook.specs.declared.Section.the-variants.{Vesting, Meter, Residual, Ncc}
 use Rattle.rulebook.specs.declared.Terms.{Terms}
+use Rattle.rulebook.specs.Terms.{InTerms}
+use Rattle.rulebook.specs.DayAmount.{residualDue}
 use Rattle.rulebook.specs.Layout.{ring, size, slot, intervalSize, intervalWord, rowWord, place}
 use Rattle.rulebook.specs.BookData.{termsOf}
 use Rattle.rulebook.specs.WellFormed.{wellFormed}
@@ -19,17 +22,26 @@ use Rattle.rulebook.specs.FormLaws.{ring-pos}
 use Rattle.rulebook.specs.FormedLaws.{formed-holds, opened-of}
 use Rattle.rulebook.specs.IndexLaws.{place-run}
 use Rattle.closing.specs.Day.{intervalOf, cellAt}
-use Rattle.closing.specs.Slots.{slotStart, slotWords}
+use Rattle.closing.specs.Slots.{slotStart, slotWords, thenDay}
 
 -- ---- The slot in the book
 
+pub slot-sized : (o : Terms) (d : ℕ) → InTerms o → slotStart o d + 48 * (4 + o .accounts * 24) ≤ size o
+unfolding slotStart intervalWord intervalSize size
+slot-sized o d h = omega (arith, row-fits (slot o d) (ring o) (48 * (4 + o .accounts * 24)) (slot-inside o d (ring-pos o h)))
+
+-- the days of a close are not before F
+pub then-late : (o : Terms) (D : ℕ) → o .first ≤ D → o .first ≤ thenDay o D
+unfolding thenDay residualDue
+then-late o D h = go (leb (o .first + o .lag) D) (leb→le (o .first + o .lag) D)
+  where
+    go : (b : Bool) → (T b → o .first + o .lag ≤ D) → o .first ≤ cond b (D - o .lag) D
+    go true x = let y = x tt in omega arith
+    go false x = h
+
 module _ (w : List ℤ) (t : T (wellFormed w)) (d : ℕ) where
-  pub slot-fits : slotStart (termsOf w) d + 48 * (4 + termsOf w .accounts * 24) ≤ length w
-  unfolding slotStart intervalWord intervalSize size
-  slot-fits =
-      let l = formed-holds w t .long in
-      let s = slot-inside (termsOf w) d (ring-pos (termsOf w) (opened-of w t)) in
-      omega (arith, row-fits (slot (termsOf w) d) (ring (termsOf w)) (48 * (4 + termsOf w .accounts * 24)) s)
+  slot-fits : slotStart (termsOf w) d + 48 * (4 + termsOf w .accounts * 24) ≤ length w
+  slot-fits = omega (arith, slot-sized (termsOf w) d (opened-of w t), formed-holds w t .long)
 
   pub slot-length : length (slotWords (termsOf w) w d) ≡ 48 * (4 + termsOf w .accounts * 24)
   slot-length = length-part w (slotStart (termsOf w) d) (48 * (4 + termsOf w .accounts * 24)) slot-fits

@@ -8,7 +8,7 @@ use crate::total::after_interval;
 use integer::add;
 use integer::nearest_to;
 ghost use mathlib.Core.Path.{_≡_};
-ghost use mathlib.Core.Bool.{true};
+ghost use mathlib.Core.Bool.{true, cond};
 ghost use Prim.Native.Nat.{_+_, _≤_, _<_};
 ghost use lib.IntN.{natAbs};
 ghost use lib.ListN.{length};
@@ -24,7 +24,7 @@ pub struct Residuals {
 }
 
 // Each is formed once, for all accounts.
-pub fn residuals_of(slot: &[i64], n: usize) -> Residuals
+fn residuals_of(slot: &[i64], n: usize) -> Residuals
     requires { ⌜ SlotRanged n (now slot) × (n ≤ 32) ⌝ }
     ensures { λ r. ⌜ r ≡ residualsOf n (now (slot .entry)) ⌝ }
 {
@@ -46,12 +46,24 @@ pub fn residuals_of(slot: &[i64], n: usize) -> Residuals
 }
 
 // None, where no residual is due.
-pub fn no_residuals() -> Residuals
+fn no_residuals() -> Residuals
     ensures { λ r. ⌜ r ≡ noResiduals ⌝ }
 {
     Residuals {
         loads: [0; 48],
         spares: [0; 48],
+    }
+}
+
+// Those of the slot, where a residual is due.
+pub fn residuals_due(slot: &[i64], due: bool, n: usize) -> Residuals
+    requires { ⌜ (due ≡ true → SlotRanged n (now slot)) × (n ≤ 32) ⌝ }
+    ensures { λ r. ⌜ r ≡ cond due (residualsOf n (now (slot .entry))) noResiduals ⌝ }
+{
+    if due {
+        residuals_of(slot, n)
+    } else {
+        no_residuals()
     }
 }
 

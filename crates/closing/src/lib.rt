@@ -6,3 +6,6 @@ pub mod day; // day.rt: the posted amount of a day
 pub mod search; // search.rt: the first absent datum
 pub mod statement; // statement.rt: the amounts of a close
 pub mod ledger; // ledger.rt: balances grow
+pub mod slots; // slots.rt: the slots of D and r
+pub mod write; // write.rt: what an accepted close writes
+pub mod close; // close.rt: the close

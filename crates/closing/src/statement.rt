@@ -5,13 +5,13 @@ use integer::add;
 use integer::put_word;
 use integer::word_at;
 ghost use mathlib.Core.Path.{_≡_};
-ghost use Prim.Native.Nat.{_≤_};
+ghost use Prim.Native.Nat.{_≤_, _<_};
 ghost use lib.IntN.{negℤ};
 ghost use lib.ListN.{length};
 ghost use Rattle.integer.specs.Below.{sumℤ};
 ghost use Rattle.integer.specs.Words.{word, filled};
 ghost use Rattle.closing.specs.Day.{DaysRanged, slotPosted};
-ghost use Rattle.closing.specs.Written.{Small};
+ghost use Rattle.closing.specs.Written.{Small, withMssl};
 
 // Posts the accounts' amounts, of the slots of today and of then.
 pub fn post_amounts(
@@ -47,9 +47,18 @@ fn amounts_sum(statement: &[i64], n: usize) -> i64
 }
 
 // The MSSL gets minus that.
-pub fn mssl_amount(statement: &[i64], n: usize) -> i64
+fn mssl_amount(statement: &[i64], n: usize) -> i64
     requires { ⌜ Small n (now statement) × (n ≤ 32) ⌝ }
     ensures { λ r. ⌜ r ≡ negℤ (sumℤ n (word (now (statement .entry)))) ⌝ }
 {
     0 - amounts_sum(statement, n)
+}
+
+// The word after the n amounts is the MSSL's.
+pub fn post_mssl(statement: &mut [i64], n: usize)
+    requires { ⌜ Small n (now statement) × (n ≤ 32) × (n < length (now statement)) ⌝ }
+    ensures { λ _. ⌜ now (statement .exit) ≡ withMssl n (now (statement .entry)) ⌝ }
+{
+    let amount = mssl_amount(statement, n);
+    put_word(statement, n, amount);
 }

@@ -1,10 +1,10 @@
 -- An accepted file's rows may be stored, and what is answered and left then is the promise. Assumes nothing.
-use mathlib.Core.Path.{_≡_, refl, sym, ap, _∙_, subst}
-use mathlib.Core.Bool.{Bool, true, false, cond}
+use mathlib.Core.Path.{_≡_, refl, sym, ap, _∙_}
+use mathlib.Core.Bool.{false}
 use mathlib.Core.List.{List}
 use Prim.Native.Nat.{ℕ, zero, suc, _+_, _*_, _≤_, _<_}
 use native.Mathlib.Omega.{arith}
-use lib.Dec.{T, leb→le}
+use lib.Dec.{T}
 use lib.IntN.{ℤ}
 use lib.ListN.{length}
 use Rattle.rulebook.specs.declared.Section.{Section}
@@ -13,18 +13,14 @@ use Rattle.rulebook.specs.declared.Terms.{Terms}
 use Rattle.rulebook.specs.declared.Why.{Why}
 use Rattle.rulebook.specs.declared.Verdict.the-variants.{Accepted, Refused}
 use Rattle.rulebook.specs.declared.SubmitAnswer.the-variants.{Taken, IllFormed, FileRefused}
-use Rattle.rulebook.specs.Terms.{InTerms}
 use Rattle.rulebook.specs.Sections.{accountsOf}
-use Rattle.rulebook.specs.Layout.{size}
 use Rattle.rulebook.specs.BookData.{termsOf, nextDay}
-use Rattle.rulebook.specs.WellFormed.{fits, wellFormed}
+use Rattle.rulebook.specs.WellFormed.{wellFormed}
 use Rattle.rulebook.specs.File.{num, accountAt, valuesPos, valuesIn, rowPos, fileRows}
 use Rattle.rulebook.specs.Judging.{openFrom, limitsOf, judgedSection, judged}
 use Rattle.rulebook.specs.JudgingLaws.{Fine, section-start, section-row, sections}
 use Rattle.rulebook.specs.Submit.{rowsStored, submitted}
 use Rattle.rulebook.specs.Promises.{SubmitPromise}
-use Rattle.rulebook.specs.TestLaws.{and-left, and-right}
-use Rattle.rulebook.specs.FormedLaws.{all-fits, opened-of, next-of}
 use Rattle.book.specs.JudgedLaws.{Formed}
 use Rattle.submission.specs.Stored.{RowFits, SectionFits, FileFits}
 

@@ -1,6 +1,6 @@
 -- `facilities_of` meets its contract: the flag word is not below zero.
 use mathlib.Core.Path.{ap}
-use borrow.Author.Needs.{needs, sfits-of}
+use borrow.Author.Needs.{sfits-of}
 use Rattle.integer.specs.Integer.{positive}
 use Rattle.integer.specs.IntegerLaws.{int, parts}
 use Rattle.integer.specs.Bits.{known}

@@ -1,5 +1,4 @@
 -- `reference_price` meets its contract: V is the average of the cell's sums.
-use mathlib.Core.Path.{_≡_}
 use native.Mathlib.Omega.{arith}
 use borrow.Author.Needs.{needs}
 use Rattle.integer.specs.Bits.{got}

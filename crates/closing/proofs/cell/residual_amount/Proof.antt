@@ -1,5 +1,5 @@
 -- `residual_amount` meets its contract: the share is within UEGQ and splits into two tranches, so both amounts are within 2 × 10^13.
-use mathlib.Core.Path.{_≡_, sym, ap, _∙_}
+use mathlib.Core.Path.{_≡_, ap, _∙_}
 use mathlib.Core.List.{List}
 use Prim.Native.Nat.{ℕ, _-_, _≤_}
 use native.Mathlib.Omega.{arith}

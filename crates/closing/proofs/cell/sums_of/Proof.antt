@@ -1,14 +1,11 @@
 -- `sums_of` meets its contract: each turn takes one facility more, and the sums stay within their bounds.
 use mathlib.Core.Path.{_≡_, sym, ap, _∙_}
-use mathlib.Core.List.{List}
-use Prim.Native.Nat.{ℕ, _+_, _*_, _-_, _≤_, _<_}
+use Prim.Native.Nat.{ℕ, _-_, _≤_, _<_}
 use native.Mathlib.Omega.{arith}
 use borrow.Author.Needs.{needs}
-use lib.IntN.{ℤ}
 use Rattle.integer.specs.Bits.{got}
-use Rattle.integer.specs.Words.{word}
 use Rattle.rules.specs.PriceSums.{sumsOf, sums-zero, sums-suc, sums-count, sums-within}
-use Rattle.closing.specs.Cell.{cellData, Ranged}
+use Rattle.closing.specs.Cell.{cellData}
 use Rattle.closing.proofs.cell.sums_of.Statement.{statement}
 use Rattle.closing.proofs.cell.sums_of.Tie as tie
 

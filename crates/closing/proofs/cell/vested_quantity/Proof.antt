@@ -2,7 +2,6 @@
 use mathlib.Core.Path.{_≡_, ap, _∙_}
 use Prim.Native.Nat.{ℕ, _+_, _*_, _-_, _≤_}
 use native.Mathlib.Omega.{arith}
-use borrow.Author.Needs.{needs}
 use Rattle.integer.specs.Below.{fold, sumℕ}
 use Rattle.integer.specs.BelowLaws.{fold-suc}
 use Rattle.integer.specs.Words.{word}

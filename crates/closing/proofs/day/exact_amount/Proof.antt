@@ -1,8 +1,6 @@
 -- `exact_amount` meets its contract: each turn absorbs one interval's amount, and 48 of them fit.
-use mathlib.Core.Path.{_≡_, refl, sym, ap, _∙_, subst}
-use mathlib.Core.Bool.{Bool}
-use mathlib.Core.List.{List}
-use Prim.Native.Nat.{ℕ, _+_, _*_, _-_, _≤_, _<_, _^_}
+use mathlib.Core.Path.{_≡_, refl, sym, ap, _∙_}
+use Prim.Native.Nat.{_+_, _*_, _-_, _≤_, _<_, _^_}
 use native.Mathlib.Omega.{arith}
 use borrow.Author.Needs.{needs}
 use lib.IntN.{ℤ, _+ℤ_}
@@ -13,7 +11,7 @@ use Rattle.integer.specs.Bits.{got}
 use Rattle.closing.specs.declared.total.DayTotal.{DayTotal}
 use Rattle.closing.specs.declared.interval.Residual.{Residual}
 use Rattle.closing.specs.Total.{absorbed}
-use Rattle.closing.specs.Day.{cellAt, residualIn, amountAt, slotAmount, totalTo}
+use Rattle.closing.specs.Day.{cellAt, amountAt, slotAmount, totalTo}
 use Rattle.closing.specs.DayLaws.{cell-ranged, cell-fits, total-zero, total-suc, total-room}
 use Rattle.closing.proofs.day.exact_amount.Statement.{statement}
 use Rattle.closing.proofs.day.exact_amount.Tie as tie

@@ -1,5 +1,5 @@
 -- `posted_amount` meets its contract: the day's sum is below 6 × 10^15, so it can be rounded.
-use mathlib.Core.Path.{_≡_, ap, _∙_}
+use mathlib.Core.Path.{ap, _∙_}
 use Prim.Native.Nat.{_≤_}
 use native.Mathlib.Omega.{arith}
 use borrow.Author.Needs.{needs}

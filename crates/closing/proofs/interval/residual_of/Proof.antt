@@ -11,7 +11,7 @@ use Rattle.integer.specs.Words.{word}
 use Rattle.rulebook.specs.Units.{asQuantity}
 use Rattle.closing.specs.declared.interval.Residual.{Residual}
 use Rattle.closing.specs.declared.interval.Totals.{Totals}
-use Rattle.closing.specs.Interval.{residualOf, vestedOf, spareOf}
+use Rattle.closing.specs.Interval.{residualOf}
 use Rattle.closing.specs.IntervalLaws.{vested-le, load-le, load-is}
 use Rattle.closing.proofs.interval.residual_of.Statement.{statement}
 use Rattle.closing.proofs.interval.residual_of.Tie as tie

@@ -8,8 +8,7 @@ use lib.IntN.{ℤ}
 use lib.ListN.{length}
 use Rattle.integer.specs.WordsLaws.{row-fits, lent}
 use Rattle.closing.specs.declared.interval.Totals.{Totals}
-use Rattle.closing.specs.Cell.{Ranged}
-use Rattle.closing.specs.Interval.{cellOf, totalsOf, more, Room}
+use Rattle.closing.specs.Interval.{totalsOf, more, Room}
 use Rattle.closing.specs.IntervalLaws.{totals-zero, totals-suc, totals-room}
 use Rattle.closing.proofs.interval.totals_of.Statement.{statement}
 use Rattle.closing.proofs.interval.totals_of.Tie as tie

@@ -1,8 +1,6 @@
 -- `grow` meets its contract: the sum fits.
 use mathlib.Core.Path.{_≡_, ap, _∙_}
-use native.Mathlib.Omega.{arith}
 use borrow.Author.Needs.{needs}
-use lib.IntN.{_+ℤ_, natAbs}
 use lib.ListN.{set}
 use mir.Syntax.{w64}
 use mir.Val.{toZ, ofZ}

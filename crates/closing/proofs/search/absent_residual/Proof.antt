@@ -1,11 +1,11 @@
 -- `absent_residual` meets its contract: each turn that finds nothing is one more of `first`.
-use mathlib.Core.Path.{_≡_, sym, _∙_, ap}
-use Prim.Native.Nat.{ℕ, _+_, _*_, _-_, _≤_, _<_}
+use mathlib.Core.Path.{_≡_, sym, _∙_}
+use Prim.Native.Nat.{_+_, _*_, _-_, _≤_, _<_}
 use native.Mathlib.Omega.{arith}
 use borrow.Author.Needs.{needs}
 use lib.ListN.{length}
 use Rattle.integer.specs.declared.Found.{Found}
-use Rattle.integer.specs.Below.{fold, first, orElse}
+use Rattle.integer.specs.Below.{fold, first}
 use Rattle.integer.specs.BelowLaws.{first-more, first-stops}
 use Rattle.integer.specs.WordsLaws.{row-fits}
 use Rattle.closing.specs.Search.{absentAt, absentResidual}

@@ -1,5 +1,5 @@
 -- `absent_settled` meets its contract: the NCC flag, then the accounts'.
-use mathlib.Core.Path.{_≡_, refl, sym, _∙_}
+use mathlib.Core.Path.{refl, sym, _∙_}
 use Prim.Native.Nat.{_+_}
 use borrow.Author.Needs.{needs}
 use Rattle.closing.specs.Search.{absentSettled}

@@ -9,7 +9,7 @@ use borrow.Author.Needs.{needs}
 use lib.IntN.{ℤ}
 use lib.ListN.{length}
 use Rattle.integer.specs.declared.Found.{Found}
-use Rattle.integer.specs.Below.{fold, first, orElse, isFound}
+use Rattle.integer.specs.Below.{fold, first, isFound}
 use Rattle.integer.specs.BelowLaws.{first-more, first-found, not-found, orElse-found}
 use Rattle.integer.specs.WordsLaws.{row-fits}
 use Rattle.closing.specs.Search.{absentPair, absentSettled, absentIn, firstAbsent}

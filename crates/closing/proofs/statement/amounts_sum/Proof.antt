@@ -1,8 +1,7 @@
 -- `amounts_sum` meets its contract: each turn adds one amount; 32 of them are below 2 × 10^14.
-use mathlib.Core.Path.{_≡_, refl, sym, ap, _∙_}
+use mathlib.Core.Path.{_≡_, refl, sym, _∙_}
 use Prim.Native.Nat.{_-_, _≤_}
 use native.Mathlib.Omega.{arith}
-use borrow.Author.Needs.{needs}
 use lib.IntN.{pos, _+ℤ_}
 use mir.Syntax.{w64}
 use mir.Val.{toZ, ofZ}

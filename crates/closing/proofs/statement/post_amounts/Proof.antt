@@ -1,11 +1,8 @@
 -- `post_amounts` meets its contract: each turn fills one word more.
-use mathlib.Core.Path.{_≡_, refl, sym, ap, _∙_}
+use mathlib.Core.Path.{_≡_, refl, sym, _∙_}
 use Prim.Native.Nat.{_-_, _≤_, _<_}
 use native.Mathlib.Omega.{arith}
-use borrow.Author.Needs.{needs}
-use lib.ListN.{length, length-set}
-use mir.Syntax.{w64}
-use mir.Val.{toZ, ofZ}
+use lib.ListN.{length}
 use Rattle.integer.specs.Bits.{got}
 use Rattle.integer.specs.Words.{filled}
 use Rattle.integer.specs.WordsLaws.{filled-zero, filled-step}
