@@ -51,8 +51,12 @@ pub record Ranged (c : List ℤ) : Type 0 where
 unfoldable pub tenderAmount : List ℤ → ℤ → ℤ
 tenderAmount c v = sumℤ tenders (λ t. (word c (4 + 2 * t) -ℤ v) *ℤ pos (asQuantity (word c (3 + 2 * t))))
 
--- the residual amount of R = r and S = s
-unfoldable pub cellResidual : List ℤ → ℤ → ℕ → ℤ
-cellResidual c r s =
-    (word c 21 -ℤ referencePriceOf (cellData c)) *ℤ pos (tranche1 (shareOf r s (asQuantity (word c 19))) (asQuantity (word c 1)) (asQuantity (word c 20)))
-    +ℤ (word c 22 -ℤ referencePriceOf (cellData c)) *ℤ pos (tranche2 (shareOf r s (asQuantity (word c 19))) (asQuantity (word c 1)) (asQuantity (word c 20)))
+-- the residual amount at V = v, of R = r and S = s
+unfoldable pub residualPriced : List ℤ → ℤ → ℤ → ℕ → ℤ
+residualPriced c v r s =
+    (word c 21 -ℤ v) *ℤ pos (tranche1 (shareOf r s (asQuantity (word c 19))) (asQuantity (word c 1)) (asQuantity (word c 20)))
+    +ℤ (word c 22 -ℤ v) *ℤ pos (tranche2 (shareOf r s (asQuantity (word c 19))) (asQuantity (word c 1)) (asQuantity (word c 20)))
+
+-- at the cell's own V
+abbrev pub cellResidual : List ℤ → ℤ → ℕ → ℤ
+cellResidual c r s = residualPriced c (referencePriceOf (cellData c)) r s

@@ -22,7 +22,7 @@ use Rattle.rulebook.specs.Tranches.{tranche1, tranche2}
 use Rattle.rulebook.specs.TranchesLaws.{tranche-split}
 use Rattle.rulebook.specs.DayAmount.{referencePriceOf, vestingAmount}
 use Rattle.closing.specs.declared.interval.Residual.{Residual}
-use Rattle.closing.specs.Cell.{cellData, Ranged, tenderAmount, cellResidual}
+use Rattle.closing.specs.Cell.{cellData, Ranged, tenderAmount, residualPriced, cellResidual}
 use Rattle.closing.specs.CellLaws.{cell-price-le, priced-le, tenders-le, vesting-split}
 use Rattle.closing.specs.declared.day.Residuals.{Residuals}
 use Rattle.closing.specs.Interval.{cellOf}
@@ -44,7 +44,7 @@ module _ (c : List ℤ) (h : Ranged c) where
       ))
 
   pub cell-residual-le : (r : ℤ) (s : ℕ) → natAbs (cellResidual c r s) ≤ 40000000000000
-  unfolding cellResidual
+  unfolding residualPriced
   cell-residual-le r s =
       let v = referencePriceOf (cellData c) in
       let p = cell-price-le c h in

@@ -18,7 +18,7 @@ use Rattle.rulebook.specs.SizeLaws.{SizedDay}
 use Rattle.rulebook.specs.AmountLaws.{Alike, vesting-same, residual-same}
 use Rattle.rulebook.specs.BookSizeLaws.{close-sized}
 use Rattle.closing.specs.declared.day.Residuals.{Residuals}
-use Rattle.closing.specs.Cell.{cellData, cellResidual}
+use Rattle.closing.specs.Cell.{cellData, residualPriced, cellResidual}
 use Rattle.closing.specs.CellLaws.{sum-cong}
 use Rattle.closing.specs.Interval.{cellOf, vestedOf, spareOf, residualOf}
 use Rattle.closing.specs.Day.{intervalOf, cellAt, residualsOf, noResiduals, residualIn, slotAmount, slotPosted}
@@ -31,7 +31,7 @@ use Rattle.closing.specs.SlotDataLaws.{load-same, cell-alike}
 -- the residual amount of an interval's data is that of its R and S
 interval-residual : (n : ℕ) (x : List ℤ) (a : ℕ)
     → residualAmount (asQuantity (word x 0)) n (λ b. cellData (cellOf x b)) a ≡ cellResidual (cellOf x a) (residualOf n x) (spareOf n x)
-unfolding residualAmount rvq share residualLoad cellResidual residualOf spareOf vestedOf
+unfolding residualAmount rvq share residualLoad residualPriced residualOf spareOf vestedOf
 interval-residual n x a = refl
 
 cell-residual-cong : (c : List ℤ) {r r′ : ℤ} {s s′ : ℕ} → r ≡ r′ → s ≡ s′ → cellResidual c r s ≡ cellResidual c r′ s′

@@ -17,7 +17,7 @@ ghost use Rattle.rulebook.specs.Units.{mostPrice, mostQuantity};
 ghost use Rattle.rulebook.specs.Shares.{leastResidual};
 ghost use Rattle.rulebook.specs.DayAmount.{referencePriceOf, vestedQuantity, vestingAmount};
 ghost use Rattle.rules.specs.PriceSums.{sumsOf};
-ghost use Rattle.closing.specs.Cell.{cellData, Ranged, tenderAmount, cellResidual};
+ghost use Rattle.closing.specs.Cell.{cellData, Ranged, tenderAmount, residualPriced};
 
 // Where the figures stand in a cell.
 const BVQ: usize = 1;
@@ -135,14 +135,13 @@ pub fn spare_generation(c: &[i64]) -> u64
     quantity_at(c, UEGQ)
 }
 
-// (RVP1 - V) × tranche 1 + (RVP2 - V) × tranche 2, of R = r and S = s.
-pub fn residual_amount(c: &[i64], r: i64, s: u64) -> i64
-    requires { ⌜ Ranged (now c) × (natAbs r ≤ leastResidual) ⌝ }
-    ensures { λ z. ⌜ z ≡ cellResidual (now (c .entry)) r s ⌝ }
+// (RVP1 - V) × tranche 1 + (RVP2 - V) × tranche 2, of V = v, R = r and S = s.
+pub fn residual_amount(c: &[i64], v: i64, r: i64, s: u64) -> i64
+    requires { ⌜ Ranged (now c) × (natAbs v ≤ mostPrice) × (natAbs r ≤ leastResidual) ⌝ }
+    ensures { λ z. ⌜ z ≡ residualPriced (now (c .entry)) v r s ⌝ }
 {
     let share = share_of(r, s, spare_generation(c));
     let first = first_tranche(share, quantity_at(c, BVQ), quantity_at(c, MQ));
-    let v = reference_price(c);
     let one = priced_at(c, RVP1, v, first);
     add(one, priced_at(c, RVP2, v, share - first))
 }

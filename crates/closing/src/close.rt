@@ -13,7 +13,7 @@ use rulebook::CloseAnswer;
 use rulebook::Terms;
 ghost use mathlib.Core.Path.{_≡_};
 ghost use mathlib.Core.List.{List};
-ghost use Prim.Native.Nat.{_+_, _≤_};
+ghost use Prim.Native.Nat.{_+_, _*_, _≤_};
 ghost use lib.IntN.{ℤ};
 ghost use lib.ListN.{length};
 ghost use Rattle.rulebook.specs.Terms.{InTerms};
@@ -34,13 +34,21 @@ fn first_missing(book: &[i64], terms: Terms, day: usize) -> Found
     first_absent(book, terms.accounts, today, then, is_due(terms, day))
 }
 
-// The residuals that a close settles: 48N, or none.
+// The residuals of a day: 48N.
+fn day_residuals(n: usize) -> usize
+    requires { ⌜ n ≤ 32 ⌝ }
+    ensures { λ r. ⌜ r ≡ 48 * n ⌝ }
+{
+    layout::INTERVALS * n
+}
+
+// Those that a close settles, or none.
 fn residual_count(terms: Terms, day: usize) -> usize
     requires { ⌜ InTerms terms ⌝ }
     ensures { λ r. ⌜ ((w : List ℤ) → r ≡ residualCount terms w day) ⌝ }
 {
     if is_due(terms, day) {
-        layout::INTERVALS * terms.accounts
+        day_residuals(terms.accounts)
     } else {
         0
     }

@@ -1,4 +1,5 @@
 // Document 01, "Day amount": an account's posted amount from the slots of D and of r.
+use crate::cell::reference_price;
 use crate::cell::residual_amount;
 use crate::cell::vesting_amount;
 use crate::interval::Residual;
@@ -88,7 +89,8 @@ fn interval_amount(today: &[i64], then: &[i64], due: bool, r: Residual) -> i64
 {
     let vesting = vesting_amount(today);
     if due {
-        add(vesting, residual_amount(then, r.load, r.spare))
+        let v = reference_price(then);
+        add(vesting, residual_amount(then, v, r.load, r.spare))
     } else {
         vesting
     }

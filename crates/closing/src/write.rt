@@ -45,7 +45,8 @@ fn blank_settled(book: &mut [i64], terms: Terms, day: usize)
     ensures { λ _. ⌜ now (book .exit) ≡ slotBlanked terms (now (book .entry)) day (now (book .entry)) ⌝ }
 {
     if is_due(terms, day) {
-        let a = slot_start(terms, day - terms.lag);
+        let settled = day - terms.lag;
+        let a = slot_start(terms, settled);
         let e = a + slot_words(terms.accounts);
         clear(&mut book[a..e]);
     }

@@ -16,9 +16,8 @@ use Rattle.rulebook.specs.Shares.{shareOf}
 use Rattle.rulebook.specs.SharesLaws.{share-cap}
 use Rattle.rulebook.specs.Tranches.{tranche1, tranche2}
 use Rattle.rulebook.specs.TranchesLaws.{tranche-split}
-use Rattle.rulebook.specs.DayAmount.{referencePriceOf}
-use Rattle.closing.specs.Cell.{cellData, cellResidual}
-use Rattle.closing.specs.CellLaws.{cell-price-le, priced-le, priced-cong, shareOf-cong, tranche-cong, sum-cong}
+use Rattle.closing.specs.Cell.{residualPriced}
+use Rattle.closing.specs.CellLaws.{priced-le, priced-cong, shareOf-cong, tranche-cong, sum-cong}
 use Rattle.closing.proofs.cell.residual_amount.Statement.{statement}
 use Rattle.closing.proofs.cell.residual_amount.Tie as tie
 
@@ -26,7 +25,7 @@ spare-generation-requires : tie.Need-spare-generation-requires
 spare-generation-requires c κs = search needs
 
 share-of-requires : tie.Need-share-of-requires
-share-of-requires c κs = (omega (int, known (c .before .fits .r), c .before .pre .1), c .spare-generation .ensures .1)
+share-of-requires c κs = (omega (int, known (c .before .fits .r), c .before .pre .2), c .spare-generation .ensures .1)
 
 quantity-at-requires : tie.Need-quantity-at-requires
 quantity-at-requires c κs = let s = c .before .before in let e = s .pre .0 .whole in (omega arith, s .pre .0 .bvq)
@@ -61,19 +60,16 @@ module _ (c : tie.After-first-tranche) where
   share-le : share ≤ 10000000
   share-le = omega (arith, share-cap (start .args .r) (start .args .s) (asQuantity (word cell 19)), quantity-range (word cell 19) (start .pre .0 .uegq) .most)
 
-reference-price-requires : tie.Need-reference-price-requires
-reference-price-requires c κs = search needs
-
 -- V, read back
-price : (c : tie.After-reference-price) → toZ w64 (ofZ w64 (c .reference-price .result)) ≡ referencePriceOf (cellData (cell (c .before)))
-price c = got (c .reference-price .result) (c .reference-price .ok) ∙ c .reference-price .ensures
+price : (c : tie.After-first-tranche) → toZ w64 (ofZ w64 (start c .args .v)) ≡ start c .args .v
+price c = search needs
 
-price-le : (c : tie.After-reference-price) → natAbs (toZ w64 (ofZ w64 (c .reference-price .result))) ≤ 1000000
-price-le c = rw (price c) (cell-price-le (cell (c .before)) (start (c .before) .pre .0))
+price-le : (c : tie.After-first-tranche) → natAbs (toZ w64 (ofZ w64 (start c .args .v))) ≤ 1000000
+price-le c = rw (price c) (start c .pre .1)
 
 priced-at-requires : tie.Need-priced-at-requires
 priced-at-requires c κs =
-    let b = c .before in
+    let b = c in
     let s = start b in
     let e = s .pre .0 .whole in
     let t = tranche-split (share b) (asQuantity (word (cell b) 1)) (asQuantity (word (cell b) 20)) .share in
@@ -81,31 +77,31 @@ priced-at-requires c κs =
 
 sub-priced-at : tie.Need-sub-priced-at
 sub-priced-at c =
-    let b = c .before .before in
+    let b = c .before in
     omega (arith, first-is b, share-is b, tranche-split (share b) (asQuantity (word (cell b) 1)) (asQuantity (word (cell b) 20)) .share)
 
 priced-at-requires-2 : tie.Need-priced-at-requires-2
 priced-at-requires-2 c κs =
-    let b = c .before .before in
+    let b = c .before in
     let s = start b in
     let e = s .pre .0 .whole in
-    (omega arith, s .pre .0 .rvp2, price-le (c .before), omega (arith, share-is b, share-le b))
+    (omega arith, s .pre .0 .rvp2, price-le b, omega (arith, share-is b, share-le b))
 
 -- both amounts, read back
 module _ (c : tie.After-priced-at2) where
   abbrev split : tie.After-first-tranche
-  split = c .before .before .before
+  split = c .before .before
 
   one : toZ w64 (ofZ w64 (c .before .priced-at .result))
-      ≡ (word (cell split) 21 -ℤ referencePriceOf (cellData (cell split))) *ℤ pos (tranche1 (share split) (asQuantity (word (cell split) 1)) (asQuantity (word (cell split) 20)))
-  one = let r = c .before .priced-at in got (r .result) (r .ok) ∙ r .ensures ∙ priced-cong (word (cell split) 21) (price (c .before .before)) (first-is split)
+      ≡ (word (cell split) 21 -ℤ start split .args .v) *ℤ pos (tranche1 (share split) (asQuantity (word (cell split) 1)) (asQuantity (word (cell split) 20)))
+  one = let r = c .before .priced-at in got (r .result) (r .ok) ∙ r .ensures ∙ priced-cong (word (cell split) 21) (price split) (first-is split)
 
   two : toZ w64 (ofZ w64 (c .priced-at2 .result))
-      ≡ (word (cell split) 22 -ℤ referencePriceOf (cellData (cell split))) *ℤ pos (tranche2 (share split) (asQuantity (word (cell split) 1)) (asQuantity (word (cell split) 20)))
+      ≡ (word (cell split) 22 -ℤ start split .args .v) *ℤ pos (tranche2 (share split) (asQuantity (word (cell split) 1)) (asQuantity (word (cell split) 20)))
   unfolding tranche2
   two =
       let r = c .priced-at2 in
-      got (r .result) (r .ok) ∙ r .ensures ∙ priced-cong (word (cell split) 22) (price (c .before .before)) (less (share-is split) (first-is split))
+      got (r .result) (r .ok) ∙ r .ensures ∙ priced-cong (word (cell split) 22) (price split) (less (share-is split) (first-is split))
     where
       less : {a a′ b b′ : ℕ} → a ≡ a′ → b ≡ b′ → a - b ≡ a′ - b′
       less e f = cc
@@ -114,8 +110,8 @@ add-requires : tie.Need-add-requires
 add-requires c κs =
     let b = split c in
     let w = cell b in
-    let v = referencePriceOf (cellData w) in
-    let h = cell-price-le w (start b .pre .0) in
+    let v = start b .args .v in
+    let h = start b .pre .1 in
     let x = tranche-split (share b) (asQuantity (word w 1)) (asQuantity (word w 20)) in
     let k = share-le b in
     omega (
@@ -127,8 +123,8 @@ add-requires c κs =
     )
 
 returns : tie.Need-returns
-unfolding cellResidual
+unfolding residualPriced
 returns c = got (c .add .result) (c .add .ok) ∙ c .add .ensures ∙ sum-cong (one (c .before)) (two (c .before))
 
 pub residual-amount-spec : {M : Type 1} → statement M
-residual-amount-spec = tie.close (tie.spec spare-generation-requires share-of-requires quantity-at-requires quantity-at-requires-2 first-tranche-requires reference-price-requires priced-at-requires sub-priced-at priced-at-requires-2 add-requires returns)
+residual-amount-spec = tie.close (tie.spec spare-generation-requires share-of-requires quantity-at-requires quantity-at-requires-2 first-tranche-requires priced-at-requires sub-priced-at priced-at-requires-2 add-requires returns)

@@ -11,11 +11,11 @@ use mir.Val.{SFits, toZ, ofZ}
 use mir.Facts.{toZ-ofZ}
 use Rattle.integer.specs.IntegerLaws.{int, fits-abs}
 use Rattle.integer.specs.Bits.{got, known}
-use Rattle.rulebook.specs.DayAmount.{vestingAmount}
+use Rattle.rulebook.specs.DayAmount.{referencePriceOf, vestingAmount}
 use Rattle.closing.specs.declared.interval.Residual.{Residual}
-use Rattle.closing.specs.Cell.{cellData, cellResidual}
+use Rattle.closing.specs.Cell.{cellData, residualPriced, cellResidual}
 use Rattle.closing.specs.Day.{amountAt}
-use Rattle.closing.specs.CellLaws.{sum-cong}
+use Rattle.closing.specs.CellLaws.{cell-price-le, sum-cong}
 use Rattle.closing.specs.DayLaws.{vesting-le, cell-residual-le}
 use Rattle.closing.proofs.day.interval_amount.Statement.{statement}
 use Rattle.closing.proofs.day.interval_amount.Tie as tie
@@ -27,35 +27,44 @@ vesting-amount-requires c κs = search needs
 load-fits : (c : tie.Start) → SFits w64 (c .args .r .load)
 load-fits c = let l = c .pre .2 in fits-abs (omega int)
 
+reference-price-requires : tie.Need-reference-price-requires
+reference-price-requires c κs = let s = c .before .before in s .pre .1 (c .if1 .taken)
+
+-- V of r, read back
+price : (c : tie.After-reference-price) → toZ w64 (ofZ w64 (c .reference-price .result)) ≡ referencePriceOf (cellData (c .before .before .before .args .then .now))
+price c = got (c .reference-price .result) (c .reference-price .ok) ∙ c .reference-price .ensures
+
 residual-amount-requires : tie.Need-residual-amount-requires
 residual-amount-requires c κs =
-    let s = c .before .before .before in
-    (s .pre .1 (c .before .if1 .taken), omega (int, known (load-fits s), s .pre .2))
+    let p = c .before in
+    let s = p .before .before .before in
+    let h = s .pre .1 (p .before .if1 .taken) in
+    (h, rw (price p) (cell-price-le (s .args .then .now) h), omega (int, known (load-fits s), s .pre .2))
 
 -- vesting, read back
 vesting : (c : tie.After-vesting-amount) → toZ w64 (ofZ w64 (c .vesting-amount .result)) ≡ vestingAmount (cellData (c .before .args .today .now))
 vesting c = got (c .vesting-amount .result) (c .vesting-amount .ok) ∙ c .vesting-amount .ensures
 
-residual-cong : (c : List ℤ) {r q : ℤ} (s : ℕ) → r ≡ q → cellResidual c r s ≡ cellResidual c q s
-residual-cong c s e = cc
+residual-cong : (c : List ℤ) {v u r q : ℤ} (s : ℕ) → v ≡ u → r ≡ q → residualPriced c v r s ≡ residualPriced c u q s
+residual-cong c s e f = cc
 
 -- the residual, read back
 residual : (c : tie.After-residual-amount)
     → toZ w64 (ofZ w64 (c .residual-amount .result))
-    ≡ cellResidual (c .before .before .before .before .args .then .now) (c .before .before .before .before .args .r .load) (c .before .before .before .before .args .r .spare)
+    ≡ cellResidual (c .before .before .before .before .before .args .then .now) (c .before .before .before .before .before .args .r .load) (c .before .before .before .before .before .args .r .spare)
 residual c =
-    let s = c .before .before .before .before in
-    got (c .residual-amount .result) (c .residual-amount .ok) ∙ c .residual-amount .ensures ∙ residual-cong (s .args .then .now) (s .args .r .spare) (toZ-ofZ (load-fits s))
+    let s = c .before .before .before .before .before in
+    got (c .residual-amount .result) (c .residual-amount .ok) ∙ c .residual-amount .ensures ∙ residual-cong (s .args .then .now) (s .args .r .spare) (price (c .before .before)) (toZ-ofZ (load-fits s))
 
 add-requires : tie.Need-add-requires
 add-requires c κs =
-    let s = c .before .before .before .before in
+    let s = c .before .before .before .before .before in
     omega (
       arith,
-      ap natAbs (vesting (c .before .before .before)),
+      ap natAbs (vesting (c .before .before .before .before)),
       ap natAbs (residual c),
       vesting-le (s .args .today .now) (s .pre .0),
-      cell-residual-le (s .args .then .now) (s .pre .1 (c .before .before .if1 .taken)) (s .args .r .load) (s .args .r .spare),
+      cell-residual-le (s .args .then .now) (s .pre .1 (c .before .before .before .if1 .taken)) (s .args .r .load) (s .args .r .spare),
     )
 
 picked : (today then : List ℤ) (due : Bool) (r : Residual) → due ≡ true → vestingAmount (cellData today) +ℤ cellResidual then (r .load) (r .spare) ≡ amountAt today then due r
@@ -66,9 +75,9 @@ passed today then due r e = rw e (sym (+ℤ-idr (vestingAmount (cellData today))
 
 returns : tie.Need-returns
 returns c =
-    let s = c .before .before .before .before .before in
-    got (c .add .result) (c .add .ok) ∙ c .add .ensures ∙ sum-cong (vesting (c .before .before .before .before)) (residual (c .before))
-    ∙ picked (s .args .today .now) (s .args .then .now) (s .args .due) (s .args .r) (c .before .before .before .if1 .taken)
+    let s = c .before .before .before .before .before .before in
+    got (c .add .result) (c .add .ok) ∙ c .add .ensures ∙ sum-cong (vesting (c .before .before .before .before .before)) (residual (c .before))
+    ∙ picked (s .args .today .now) (s .args .then .now) (s .args .due) (s .args .r) (c .before .before .before .before .if1 .taken)
 
 returns-2 : tie.Need-returns-2
 returns-2 c =
@@ -76,4 +85,4 @@ returns-2 c =
     vesting (c .before) ∙ passed (s .args .today .now) (s .args .then .now) (s .args .due) (s .args .r) (c .if1 .left)
 
 pub interval-amount-spec : {M : Type 1} → statement M
-interval-amount-spec = tie.close (tie.spec vesting-amount-requires residual-amount-requires add-requires returns returns-2)
+interval-amount-spec = tie.close (tie.spec vesting-amount-requires reference-price-requires residual-amount-requires add-requires returns returns-2)

@@ -16,8 +16,8 @@ use Rattle.closing.proofs.write.blank_settled.Tie as tie
 is-due-requires : tie.Need-is-due-requires
 is-due-requires c κs = search needs
 
-sub-slot-start : tie.Need-sub-slot-start
-sub-slot-start c = search needs
+sub-settled : tie.Need-sub-settled
+sub-settled c = search needs
 
 slot-start-requires : tie.Need-slot-start-requires
 unfolding residualDue
@@ -75,7 +75,7 @@ blank-settled-spec =
     tie.close
     (tie.spec
     is-due-requires
-    sub-slot-start
+    sub-settled
     slot-start-requires
     slot-words-requires
     add-e
