@@ -1,10 +1,3 @@
-pub mod Cell
-pub mod CellLaws
-pub mod Interval
-pub mod IntervalLaws
-pub mod Total
-pub mod Day
-pub mod DayLaws
 pub mod Search
 pub mod SearchLaws
 pub mod Slots

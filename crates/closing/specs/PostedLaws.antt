@@ -17,12 +17,12 @@ use Rattle.rulebook.specs.Close.{posted}
 use Rattle.rulebook.specs.SizeLaws.{SizedDay}
 use Rattle.rulebook.specs.AmountLaws.{Alike, vesting-same, residual-same}
 use Rattle.rulebook.specs.BookSizeLaws.{close-sized}
-use Rattle.closing.specs.declared.day.Residuals.{Residuals}
-use Rattle.closing.specs.Cell.{cellData, residualPriced, cellResidual}
-use Rattle.closing.specs.CellLaws.{sum-cong}
-use Rattle.closing.specs.Interval.{cellOf, vestedOf, spareOf, residualOf}
-use Rattle.closing.specs.Day.{intervalOf, cellAt, residualsOf, noResiduals, residualIn, slotAmount, slotPosted}
-use Rattle.closing.specs.DayLaws.{cell-in-slot}
+use Rattle.amounts.specs.declared.day.Residuals.{Residuals}
+use Rattle.amounts.specs.Cell.{cellData, residualPriced, cellResidual}
+use Rattle.amounts.specs.CellLaws.{sum-cong}
+use Rattle.amounts.specs.Interval.{cellOf, vestedOf, spareOf, residualOf}
+use Rattle.amounts.specs.Day.{intervalOf, cellAt, residualsOf, noResiduals, residualIn, slotAmount, slotPosted}
+use Rattle.amounts.specs.DayLaws.{cell-in-slot}
 use Rattle.closing.specs.Slots.{slotWords, thenDay, residualsDue}
 use Rattle.closing.specs.SlotDataLaws.{load-same, cell-alike}
 

@@ -27,7 +27,7 @@ use Rattle.rulebook.specs.ListLaws.{tabulate-cong}
 use Rattle.rulebook.specs.BeyondLaws.{statement-beyond, statement-amount, statement-mssl}
 use Rattle.rulebook.specs.WordLaws.{length-stored, stored-in}
 use Rattle.rulebook.specs.FormedLaws.{balance-at, mssl-at}
-use Rattle.closing.specs.Day.{DaysRanged, slotPosted}
+use Rattle.amounts.specs.Day.{DaysRanged, slotPosted}
 use Rattle.closing.specs.Slots.{slotStart, slotWords, thenDay, residualsDue}
 use Rattle.closing.specs.SlotsLaws.{slot-sized}
 use Rattle.closing.specs.PostedLaws.{slot-posted-same}

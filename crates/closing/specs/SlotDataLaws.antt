@@ -13,8 +13,8 @@ use Rattle.rulebook.specs.Layout.{figureIndex, rowWord}
 use Rattle.rulebook.specs.BookData.{bookData}
 use Rattle.rulebook.specs.AmountLaws.{Alike}
 use Rattle.rulebook.specs.IndexLaws.{tender-words, facility-words}
-use Rattle.closing.specs.Cell.{cellData}
-use Rattle.closing.specs.Day.{intervalOf, cellAt}
+use Rattle.amounts.specs.Cell.{cellData}
+use Rattle.amounts.specs.Day.{intervalOf, cellAt}
 use Rattle.closing.specs.Slots.{slotWords}
 use Rattle.closing.specs.SlotsLaws.{load-word, vesting-word, meter-word, residual-word}
 

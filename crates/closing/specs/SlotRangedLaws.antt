@@ -35,11 +35,11 @@ use Rattle.rulebook.specs.FormedLaws.{opened-of, next-of, formed-fit}
 use Rattle.rulebook.specs.BookSizeLaws.{book-ranged, D-inside, r-inside}
 use Rattle.rulebook.specs.AmountLaws.{Alike}
 use Rattle.rulebook.specs.IndexLaws.{tender-words}
-use Rattle.closing.specs.Cell.{cellData, Ranged}
-use Rattle.closing.specs.Interval.{residualOf}
-use Rattle.closing.specs.IntervalLaws.{residual-le}
-use Rattle.closing.specs.Day.{intervalOf, cellAt, SlotRanged, DaysRanged, residualsOf, noResiduals}
-use Rattle.closing.specs.DayLaws.{cell-in-slot}
+use Rattle.amounts.specs.Cell.{cellData, Ranged}
+use Rattle.amounts.specs.Interval.{residualOf}
+use Rattle.amounts.specs.IntervalLaws.{residual-le}
+use Rattle.amounts.specs.Day.{intervalOf, cellAt, SlotRanged, DaysRanged, residualsOf, noResiduals}
+use Rattle.amounts.specs.DayLaws.{cell-in-slot}
 use Rattle.closing.specs.Slots.{slotWords, thenDay, residualsDue}
 use Rattle.closing.specs.SlotsLaws.{slot-length, load-word, vesting-word, residual-word}
 use Rattle.closing.specs.SlotDataLaws.{cell-alike, vesting-at}

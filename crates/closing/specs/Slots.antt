@@ -7,8 +7,8 @@ use Rattle.integer.specs.Words.{part}
 use Rattle.rulebook.specs.declared.Terms.{Terms}
 use Rattle.rulebook.specs.DayAmount.{residualDue, residualDay}
 use Rattle.rulebook.specs.Layout.{slot, intervalWord}
-use Rattle.closing.specs.declared.day.Residuals.{Residuals}
-use Rattle.closing.specs.Day.{residualsOf, noResiduals}
+use Rattle.amounts.specs.declared.day.Residuals.{Residuals}
+use Rattle.amounts.specs.Day.{residualsOf, noResiduals}
 
 -- where the slot of day d starts
 unfoldable pub slotStart : Terms → ℕ → ℕ

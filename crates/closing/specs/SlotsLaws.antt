@@ -21,7 +21,7 @@ use Rattle.rulebook.specs.LayoutLaws.{slot-inside}
 use Rattle.rulebook.specs.FormLaws.{ring-pos}
 use Rattle.rulebook.specs.FormedLaws.{formed-holds, opened-of}
 use Rattle.rulebook.specs.IndexLaws.{place-run}
-use Rattle.closing.specs.Day.{intervalOf, cellAt}
+use Rattle.amounts.specs.Day.{intervalOf, cellAt}
 use Rattle.closing.specs.Slots.{slotStart, slotWords, thenDay}
 
 -- ---- The slot in the book

@@ -1,6 +1,6 @@
 // Document 01, "Close": the statement, N amounts and then the MSSL's, in cents.
-use crate::day::Residuals;
-use crate::day::posted_amount;
+use amounts::day::Residuals;
+use amounts::day::posted_amount;
 use integer::add;
 use integer::put_word;
 use integer::word_at;
@@ -10,7 +10,7 @@ ghost use lib.IntN.{negℤ};
 ghost use lib.ListN.{length};
 ghost use Rattle.integer.specs.Below.{sumℤ};
 ghost use Rattle.integer.specs.Words.{word, filled};
-ghost use Rattle.closing.specs.Day.{DaysRanged, slotPosted};
+ghost use Rattle.amounts.specs.Day.{DaysRanged, slotPosted};
 ghost use Rattle.closing.specs.Written.{Small, withMssl};
 
 // Posts the accounts' amounts, of the slots of today and of then.

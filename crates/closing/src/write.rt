@@ -1,5 +1,4 @@
 // Document 01, "Close": what an accepted close writes.
-use crate::day::residuals_due;
 use crate::ledger::grow;
 use crate::ledger::grow_balances;
 use crate::slots::is_due;
@@ -7,6 +6,7 @@ use crate::slots::slot_words;
 use crate::slots::then_day;
 use crate::statement::post_amounts;
 use crate::statement::post_mssl;
+use amounts::day::residuals_due;
 use book::layout;
 use book::places::slot_start;
 use book::words::clear;

@@ -8,7 +8,7 @@ use mir.Facts.{toZ-ofZ}
 use Rattle.integer.specs.Bits.{got, known}
 use Rattle.integer.specs.IntegerLaws.{int}
 use Rattle.integer.specs.Words.{word}
-use Rattle.closing.specs.CellLaws.{sum-cong}
+use Rattle.amounts.specs.CellLaws.{sum-cong}
 use Rattle.closing.proofs.ledger.grow.Statement.{statement}
 use Rattle.closing.proofs.ledger.grow.Tie as tie
 

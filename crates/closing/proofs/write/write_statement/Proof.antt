@@ -9,8 +9,8 @@ use lib.ListN.{length, take, drop}
 use Rattle.integer.specs.Words.{part, filled}
 use Rattle.integer.specs.WordsLaws.{lent}
 use Rattle.rulebook.specs.DayAmount.{residualDue}
-use Rattle.closing.specs.declared.day.Residuals.{Residuals}
-use Rattle.closing.specs.Day.{DaysRanged, slotPosted}
+use Rattle.amounts.specs.declared.day.Residuals.{Residuals}
+use Rattle.amounts.specs.Day.{DaysRanged, slotPosted}
 use Rattle.closing.specs.Slots.{slotStart, slotWords, thenDay, residualsDue}
 use Rattle.closing.specs.SlotsLaws.{slot-sized, then-late}
 use Rattle.closing.specs.Written.{Small, withMssl}

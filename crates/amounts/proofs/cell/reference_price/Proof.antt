@@ -1,0 +1,33 @@
+-- `reference_price` meets its contract: V is the average of the cell's sums.
+use native.Mathlib.Omega.{arith}
+use borrow.Author.Needs.{needs}
+use Rattle.integer.specs.Bits.{got}
+use Rattle.rulebook.specs.DayAmount.{referencePriceOf}
+use Rattle.rules.specs.PriceSums.{sums-count, sums-within, sums-price}
+use Rattle.amounts.specs.Cell.{cellData}
+use Rattle.amounts.proofs.cell.reference_price.Statement.{statement}
+use Rattle.amounts.proofs.cell.reference_price.Tie as tie
+
+sums-of-requires : tie.Need-sums-of-requires
+sums-of-requires c κs = search needs
+
+price-of-requires : tie.Need-price-of-requires
+price-of-requires c κs =
+    let s = c .before in
+    let d = cellData (s .args .c .now) in
+    let e = c .sums-of .ensures in
+    let n = sums-count (d .facilities) (d .mep) (d .ieq) in
+    let k = s .pre .few in (
+      rw e (sums-within (d .facilities) (d .mep) (d .ieq) (λ f h. s .pre .mep f (omega arith)) (λ f h. s .pre .ieq f (omega arith))),
+      rw (e, n) (s .pre .some),
+      rw (e, n) k,
+    )
+
+returns : tie.Need-returns
+unfolding referencePriceOf
+returns c =
+    let d = cellData (c .before .before .args .c .now) in
+    rw (got (c .price-of .result) (c .price-of .ok), c .price-of .ensures, c .before .sums-of .ensures, sums-price (d .facilities) (d .mep) (d .ieq))
+
+pub reference-price-spec : {M : Type 1} → statement M
+reference-price-spec = tie.close (tie.spec sums-of-requires price-of-requires returns)

@@ -1,0 +1,130 @@
+-- `residual_amount` meets its contract: the share is within UEGQ and splits into two tranches, so both amounts are within 2 × 10^13.
+use mathlib.Core.Path.{_≡_, ap, _∙_}
+use mathlib.Core.List.{List}
+use Prim.Native.Nat.{ℕ, _-_, _≤_}
+use native.Mathlib.Omega.{arith}
+use borrow.Author.Needs.{needs}
+use lib.IntN.{ℤ, pos, natAbs, _-ℤ_, _*ℤ_}
+use mir.Syntax.{w64}
+use mir.Val.{toZ, ofZ}
+use Rattle.integer.specs.IntegerLaws.{int}
+use Rattle.integer.specs.Bits.{got, known}
+use Rattle.integer.specs.Words.{word}
+use Rattle.rulebook.specs.Units.{asQuantity}
+use Rattle.rulebook.specs.UnitsLaws.{quantity-range}
+use Rattle.rulebook.specs.Shares.{shareOf}
+use Rattle.rulebook.specs.SharesLaws.{share-cap}
+use Rattle.rulebook.specs.Tranches.{tranche1, tranche2}
+use Rattle.rulebook.specs.TranchesLaws.{tranche-split}
+use Rattle.amounts.specs.Cell.{residualPriced}
+use Rattle.amounts.specs.CellLaws.{priced-le, priced-cong, shareOf-cong, tranche-cong, sum-cong}
+use Rattle.amounts.proofs.cell.residual_amount.Statement.{statement}
+use Rattle.amounts.proofs.cell.residual_amount.Tie as tie
+
+spare-generation-requires : tie.Need-spare-generation-requires
+spare-generation-requires c κs = search needs
+
+share-of-requires : tie.Need-share-of-requires
+share-of-requires c κs = (omega (int, known (c .before .fits .r), c .before .pre .2), c .spare-generation .ensures .1)
+
+quantity-at-requires : tie.Need-quantity-at-requires
+quantity-at-requires c κs = let s = c .before .before in let e = s .pre .0 .whole in (omega arith, s .pre .0 .bvq)
+
+quantity-at-requires-2 : tie.Need-quantity-at-requires-2
+quantity-at-requires-2 c κs = let s = c .before .before .before in let e = s .pre .0 .whole in (omega arith, s .pre .0 .mq)
+
+first-tranche-requires : tie.Need-first-tranche-requires
+first-tranche-requires c κs = search needs
+
+-- the share and its tranches, of the cell
+module _ (c : tie.After-first-tranche) where
+  abbrev start : tie.Start
+  start = c .before .before .before .before .before
+
+  abbrev cell : List ℤ
+  cell = start .args .c .now
+
+  abbrev share : ℕ
+  share = shareOf (start .args .r) (start .args .s) (asQuantity (word cell 19))
+
+  share-is : c .before .before .before .share-of .result ≡ share
+  share-is =
+      let q = c .before .before .before .share-of .ensures in
+      let u = c .before .before .before .before .spare-generation .ensures .0 in
+      let x : toZ w64 (ofZ w64 (start .args .r)) ≡ start .args .r = search needs in
+      q ∙ shareOf-cong (start .args .s) x u
+
+  first-is : c .first-tranche .result ≡ tranche1 share (asQuantity (word cell 1)) (asQuantity (word cell 20))
+  first-is = c .first-tranche .ensures ∙ tranche-cong share-is (c .before .before .quantity-at .ensures .0) (c .before .quantity-at2 .ensures .0)
+
+  share-le : share ≤ 10000000
+  share-le = omega (arith, share-cap (start .args .r) (start .args .s) (asQuantity (word cell 19)), quantity-range (word cell 19) (start .pre .0 .uegq) .most)
+
+-- V, read back
+price : (c : tie.After-first-tranche) → toZ w64 (ofZ w64 (start c .args .v)) ≡ start c .args .v
+price c = search needs
+
+price-le : (c : tie.After-first-tranche) → natAbs (toZ w64 (ofZ w64 (start c .args .v))) ≤ 1000000
+price-le c = rw (price c) (start c .pre .1)
+
+priced-at-requires : tie.Need-priced-at-requires
+priced-at-requires c κs =
+    let b = c in
+    let s = start b in
+    let e = s .pre .0 .whole in
+    let t = tranche-split (share b) (asQuantity (word (cell b) 1)) (asQuantity (word (cell b) 20)) .share in
+    (omega arith, s .pre .0 .rvp1, price-le c, omega (arith, first-is b, share-le b, t))
+
+sub-priced-at : tie.Need-sub-priced-at
+sub-priced-at c =
+    let b = c .before in
+    omega (arith, first-is b, share-is b, tranche-split (share b) (asQuantity (word (cell b) 1)) (asQuantity (word (cell b) 20)) .share)
+
+priced-at-requires-2 : tie.Need-priced-at-requires-2
+priced-at-requires-2 c κs =
+    let b = c .before in
+    let s = start b in
+    let e = s .pre .0 .whole in
+    (omega arith, s .pre .0 .rvp2, price-le b, omega (arith, share-is b, share-le b))
+
+-- both amounts, read back
+module _ (c : tie.After-priced-at2) where
+  abbrev split : tie.After-first-tranche
+  split = c .before .before
+
+  one : toZ w64 (ofZ w64 (c .before .priced-at .result))
+      ≡ (word (cell split) 21 -ℤ start split .args .v) *ℤ pos (tranche1 (share split) (asQuantity (word (cell split) 1)) (asQuantity (word (cell split) 20)))
+  one = let r = c .before .priced-at in got (r .result) (r .ok) ∙ r .ensures ∙ priced-cong (word (cell split) 21) (price split) (first-is split)
+
+  two : toZ w64 (ofZ w64 (c .priced-at2 .result))
+      ≡ (word (cell split) 22 -ℤ start split .args .v) *ℤ pos (tranche2 (share split) (asQuantity (word (cell split) 1)) (asQuantity (word (cell split) 20)))
+  unfolding tranche2
+  two =
+      let r = c .priced-at2 in
+      got (r .result) (r .ok) ∙ r .ensures ∙ priced-cong (word (cell split) 22) (price split) (less (share-is split) (first-is split))
+    where
+      less : {a a′ b b′ : ℕ} → a ≡ a′ → b ≡ b′ → a - b ≡ a′ - b′
+      less e f = cc
+
+add-requires : tie.Need-add-requires
+add-requires c κs =
+    let b = split c in
+    let w = cell b in
+    let v = start b .args .v in
+    let h = start b .pre .1 in
+    let x = tranche-split (share b) (asQuantity (word w 1)) (asQuantity (word w 20)) in
+    let k = share-le b in
+    omega (
+      arith,
+      ap natAbs (one c),
+      ap natAbs (two c),
+      priced-le (word w 21) v (tranche1 (share b) (asQuantity (word w 1)) (asQuantity (word w 20))) (start b .pre .0 .rvp1) h (omega (arith, x .share)),
+      priced-le (word w 22) v (tranche2 (share b) (asQuantity (word w 1)) (asQuantity (word w 20))) (start b .pre .0 .rvp2) h (omega (arith, x .whole)),
+    )
+
+returns : tie.Need-returns
+unfolding residualPriced
+returns c = got (c .add .result) (c .add .ok) ∙ c .add .ensures ∙ sum-cong (one (c .before)) (two (c .before))
+
+pub residual-amount-spec : {M : Type 1} → statement M
+residual-amount-spec = tie.close (tie.spec spare-generation-requires share-of-requires quantity-at-requires quantity-at-requires-2 first-tranche-requires priced-at-requires sub-priced-at priced-at-requires-2 add-requires returns)

@@ -1,0 +1,88 @@
+-- `interval_amount` meets its contract: the test of `due` picks the case, and both amounts are small.
+use mathlib.Core.Path.{_≡_, sym, ap, _∙_}
+use mathlib.Core.Bool.{Bool, true, false}
+use mathlib.Core.List.{List}
+use Prim.Native.Nat.{ℕ}
+use native.Mathlib.Omega.{arith}
+use borrow.Author.Needs.{needs}
+use lib.IntN.{ℤ, natAbs, _+ℤ_, +ℤ-idr}
+use mir.Syntax.{w64}
+use mir.Val.{SFits, toZ, ofZ}
+use mir.Facts.{toZ-ofZ}
+use Rattle.integer.specs.IntegerLaws.{int, fits-abs}
+use Rattle.integer.specs.Bits.{got, known}
+use Rattle.rulebook.specs.DayAmount.{referencePriceOf, vestingAmount}
+use Rattle.amounts.specs.declared.interval.Residual.{Residual}
+use Rattle.amounts.specs.Cell.{cellData, residualPriced, cellResidual}
+use Rattle.amounts.specs.Day.{amountAt}
+use Rattle.amounts.specs.CellLaws.{cell-price-le, sum-cong}
+use Rattle.amounts.specs.DayLaws.{vesting-le, cell-residual-le}
+use Rattle.amounts.proofs.day.interval_amount.Statement.{statement}
+use Rattle.amounts.proofs.day.interval_amount.Tie as tie
+
+vesting-amount-requires : tie.Need-vesting-amount-requires
+vesting-amount-requires c κs = search needs
+
+-- the load fits
+load-fits : (c : tie.Start) → SFits w64 (c .args .r .load)
+load-fits c = let l = c .pre .2 in fits-abs (omega int)
+
+reference-price-requires : tie.Need-reference-price-requires
+reference-price-requires c κs = let s = c .before .before in s .pre .1 (c .if1 .taken)
+
+-- V of r, read back
+price : (c : tie.After-reference-price) → toZ w64 (ofZ w64 (c .reference-price .result)) ≡ referencePriceOf (cellData (c .before .before .before .args .then .now))
+price c = got (c .reference-price .result) (c .reference-price .ok) ∙ c .reference-price .ensures
+
+residual-amount-requires : tie.Need-residual-amount-requires
+residual-amount-requires c κs =
+    let p = c .before in
+    let s = p .before .before .before in
+    let h = s .pre .1 (p .before .if1 .taken) in
+    (h, rw (price p) (cell-price-le (s .args .then .now) h), omega (int, known (load-fits s), s .pre .2))
+
+-- vesting, read back
+vesting : (c : tie.After-vesting-amount) → toZ w64 (ofZ w64 (c .vesting-amount .result)) ≡ vestingAmount (cellData (c .before .args .today .now))
+vesting c = got (c .vesting-amount .result) (c .vesting-amount .ok) ∙ c .vesting-amount .ensures
+
+residual-cong : (c : List ℤ) {v u r q : ℤ} (s : ℕ) → v ≡ u → r ≡ q → residualPriced c v r s ≡ residualPriced c u q s
+residual-cong c s e f = cc
+
+-- the residual, read back
+residual : (c : tie.After-residual-amount)
+    → toZ w64 (ofZ w64 (c .residual-amount .result))
+    ≡ cellResidual (c .before .before .before .before .before .args .then .now) (c .before .before .before .before .before .args .r .load) (c .before .before .before .before .before .args .r .spare)
+residual c =
+    let s = c .before .before .before .before .before in
+    got (c .residual-amount .result) (c .residual-amount .ok) ∙ c .residual-amount .ensures ∙ residual-cong (s .args .then .now) (s .args .r .spare) (price (c .before .before)) (toZ-ofZ (load-fits s))
+
+add-requires : tie.Need-add-requires
+add-requires c κs =
+    let s = c .before .before .before .before .before in
+    omega (
+      arith,
+      ap natAbs (vesting (c .before .before .before .before)),
+      ap natAbs (residual c),
+      vesting-le (s .args .today .now) (s .pre .0),
+      cell-residual-le (s .args .then .now) (s .pre .1 (c .before .before .before .if1 .taken)) (s .args .r .load) (s .args .r .spare),
+    )
+
+picked : (today then : List ℤ) (due : Bool) (r : Residual) → due ≡ true → vestingAmount (cellData today) +ℤ cellResidual then (r .load) (r .spare) ≡ amountAt today then due r
+picked today then due r e = rw e
+
+passed : (today then : List ℤ) (due : Bool) (r : Residual) → due ≡ false → vestingAmount (cellData today) ≡ amountAt today then due r
+passed today then due r e = rw e (sym (+ℤ-idr (vestingAmount (cellData today))))
+
+returns : tie.Need-returns
+returns c =
+    let s = c .before .before .before .before .before .before in
+    got (c .add .result) (c .add .ok) ∙ c .add .ensures ∙ sum-cong (vesting (c .before .before .before .before .before)) (residual (c .before))
+    ∙ picked (s .args .today .now) (s .args .then .now) (s .args .due) (s .args .r) (c .before .before .before .before .if1 .taken)
+
+returns-2 : tie.Need-returns-2
+returns-2 c =
+    let s = c .before .before in
+    vesting (c .before) ∙ passed (s .args .today .now) (s .args .then .now) (s .args .due) (s .args .r) (c .if1 .left)
+
+pub interval-amount-spec : {M : Type 1} → statement M
+interval-amount-spec = tie.close (tie.spec vesting-amount-requires reference-price-requires residual-amount-requires add-requires returns returns-2)

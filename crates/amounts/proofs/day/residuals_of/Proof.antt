@@ -1,0 +1,123 @@
+-- `residuals_of` meets its contract: each turn fills one word more of both arrays.
+use mathlib.Core.Path.{_≡_, refl, ap, _∙_}
+use mathlib.Core.List.{List}
+use Prim.Native.Nat.{ℕ, _+_, _*_, _-_, _≤_, _<_}
+use native.Mathlib.Omega.{arith}
+use borrow.Author.Needs.{needs}
+use lib.IntN.{ℤ, natAbs}
+use lib.ListN.{length}
+use mir.Syntax.{w64}
+use mir.Val.{SFits}
+use mir.Facts.{toZ-ofZ}
+use Rattle.integer.specs.Below.{tabulate}
+use Rattle.integer.specs.IntegerLaws.{int, fits-abs}
+use Rattle.integer.specs.Words.{filled}
+use Rattle.integer.specs.WordsLaws.{row-fits, lent, filled-step, filled-whole}
+use Rattle.amounts.specs.declared.interval.Residual.{Residual}
+use Rattle.amounts.specs.declared.day.Residuals.{Residuals}
+use Rattle.amounts.specs.Interval.{residualOf, spareOf, residualAt}
+use Rattle.amounts.specs.IntervalLaws.{residual-le}
+use Rattle.amounts.specs.Day.{intervalOf, residualsOf}
+use Rattle.amounts.proofs.day.residuals_of.Statement.{statement}
+use Rattle.amounts.proofs.day.residuals_of.Tie as tie
+
+abbrev loadAt : ℕ → List ℤ → ℕ → ℤ
+loadAt n x i = residualOf n (intervalOf n x i)
+
+abbrev spareAt : ℕ → List ℤ → ℕ → ℕ
+spareAt n x i = spareOf n (intervalOf n x i)
+
+abbrev Inv-loop : tie.InvT-loop
+Inv-loop slot n size loads₀ spares₀ h₀ loads spares h =
+    (size ≡ 4 + n * 24) × (h ≤ 48) × (loads ≡ filled h (loadAt n slot) loads₀) × (spares ≡ filled h (spareAt n slot) spares₀)
+
+abbrev μ-loop : tie.MeasureT-loop
+μ-loop slot n size loads₀ spares₀ h₀ loads spares h = 48 - h
+
+mul-size : tie.Need-mul-size Inv-loop μ-loop
+mul-size c = search needs
+
+add-size : tie.Need-add-size Inv-loop μ-loop
+add-size c = search needs
+
+loop-holds : tie.Need-loop-holds Inv-loop μ-loop
+unfolding tabulate
+loop-holds c = search needs
+
+-- interval h lies within the slot
+fits : (c : tie.In-loop Inv-loop μ-loop) → c .before .loop .h * (4 + c .before .before .args .n * 24) + (4 + c .before .before .args .n * 24) ≤ length (c .before .before .args .slot .now)
+fits c = let s = c .before .before in omega (arith, row-fits (c .before .loop .h) 48 (4 + s .args .n * 24) (c .loop-test .taken), s .pre .0 .whole)
+
+mul-i : tie.Need-mul-i Inv-loop μ-loop
+mul-i c = omega (arith, fits c)
+
+add-e : tie.Need-add-e Inv-loop μ-loop
+add-e c = omega (arith, fits c)
+
+mul-residual-of : tie.Need-mul-residual-of Inv-loop μ-loop
+mul-residual-of c = omega (arith, fits c)
+
+sub-residual-of : tie.Need-sub-residual-of Inv-loop μ-loop
+sub-residual-of c = search needs
+
+part-residual-of-start : tie.Need-part-residual-of-start Inv-loop μ-loop
+part-residual-of-start c = search needs
+
+part-residual-of-end : tie.Need-part-residual-of-end Inv-loop μ-loop
+part-residual-of-end c = omega (arith, fits c)
+
+residual-of-requires : tie.Need-residual-of-requires Inv-loop μ-loop
+residual-of-requires c κs =
+    let s = c .before .before .before in
+    let l = c .before .before .loop in
+    (rw (lent (s .args .slot .now) (l .h * (4 + s .args .n * 24)) (4 + s .args .n * 24)) (s .pre .0 .each (l .h) (c .before .loop-test .taken)), s .pre .1)
+
+mul-loads : tie.Need-mul-loads Inv-loop μ-loop
+mul-loads c = omega arith
+
+array-set-from-loads : tie.Need-array-set-from-loads Inv-loop μ-loop
+array-set-from-loads c = omega arith
+
+mul-spares : tie.Need-mul-spares Inv-loop μ-loop
+mul-spares c = omega arith
+
+array-write-spares : tie.Need-array-write-spares Inv-loop μ-loop
+array-write-spares c = omega arith
+
+add-h : tie.Need-add-h Inv-loop μ-loop
+add-h c = omega arith
+
+loop-less : tie.Need-loop-less Inv-loop μ-loop
+loop-less c = omega arith
+
+-- R and S of the turn's interval
+residual : (c : tie.After-residual-of Inv-loop μ-loop) → c .residual-of .result ≡ residualAt (c .before .before .before .before .args .n) (intervalOf (c .before .before .before .before .args .n) (c .before .before .before .before .args .slot .now) (c .before .before .before .loop .h))
+residual c =
+    let s = c .before .before .before .before in
+    let l = c .before .before .before .loop in
+    c .residual-of .ensures ∙ ap (residualAt (s .args .n)) (lent (s .args .slot .now) (l .h * (4 + s .args .n * 24)) (4 + s .args .n * 24))
+
+loop-again : tie.Need-loop-again Inv-loop μ-loop
+loop-again c =
+    let b = c .before in
+    let s = b .before .before .before .before in
+    let l = b .before .before .before .loop in
+    let r = ap (λ (r : Residual). r .load) (residual b) in
+    let k : l .h < 48 = b .before .before .loop-test .taken in
+    let m = residual-le (s .args .n) (intervalOf (s .args .n) (s .args .slot .now) (l .h)) (s .pre .0 .each (l .h) k) (s .pre .1) in
+    let f : SFits w64 (b .residual-of .result .load) = fits-abs (omega (int, ap natAbs r, m)) in
+    (refl, omega arith, filled-step (l .h) (loadAt (s .args .n) (s .args .slot .now)) _ k (l .inv .2) (toZ-ofZ f ∙ r), filled-step (l .h) (spareAt (s .args .n) (s .args .slot .now)) _ k (l .inv .3) (ap (λ (r : Residual). r .spare) (residual b)))
+
+made : {a b : List ℤ} {v w : List ℕ} → a ≡ b → v ≡ w → _≡_ {A = Residuals} (record { loads = a; spares = v }) (record { loads = b; spares = w })
+made e f = rw (e, f)
+
+returns : tie.Need-returns Inv-loop μ-loop
+unfolding residualsOf
+returns c =
+    let s = c .before .before in
+    let l = c .before .loop in
+    let e : l .h ≡ 48 = omega arith in
+    made (filled-whole (l .h) 48 (loadAt (s .args .n) (s .args .slot .now)) _ refl e (l .inv .2)) (filled-whole (l .h) 48 (spareAt (s .args .n) (s .args .slot .now)) _ refl e (l .inv .3))
+
+pub residuals-of-spec : {M : Type 1} → statement M
+residuals-of-spec = tie.close (tie.spec Inv-loop μ-loop mul-size add-size loop-holds mul-i add-e mul-residual-of sub-residual-of part-residual-of-start part-residual-of-end residual-of-requires mul-loads array-set-from-loads mul-spares array-write-spares add-h loop-less loop-again returns)

@@ -1,0 +1,64 @@
+-- A day's slot, as the code reads it interval by interval, and an account's amount over two slots. Assumes nothing.
+use mathlib.Core.Path.{_≡_}
+use mathlib.Core.Bool.{Bool, true, cond}
+use mathlib.Core.List.{List}
+use Prim.Native.Nat.{ℕ, _+_, _*_, _≤_, _<_}
+use lib.IntN.{ℤ, pos, natAbs, _+ℤ_}
+use lib.ListN.{length, getD, replicate}
+use Rattle.integer.specs.Below.{sumℤ, tabulate}
+use Rattle.integer.specs.Words.{part, word}
+use Rattle.rulebook.specs.Shares.{leastResidual}
+use Rattle.rulebook.specs.Units.{intervals, nearest, thousandthsPerCent}
+use Rattle.rulebook.specs.DayAmount.{vestingAmount}
+use Rattle.amounts.specs.declared.interval.Residual.{Residual}
+use Rattle.amounts.specs.declared.day.Residuals.{Residuals}
+use Rattle.amounts.specs.declared.total.DayTotal.{DayTotal}
+use Rattle.amounts.specs.Cell.{cellData, cellResidual}
+use Rattle.amounts.specs.Interval.{IntervalRanged, residualOf, spareOf}
+
+-- interval i of a slot of n accounts
+abbrev pub intervalOf : ℕ → List ℤ → ℕ → List ℤ
+intervalOf n x i = part x (i * (4 + n * 24)) (4 + n * 24)
+
+-- account a's cell at interval i
+abbrev pub cellAt : ℕ → List ℤ → ℕ → ℕ → List ℤ
+cellAt n x a i = part x (i * (4 + n * 24) + (4 + a * 24)) 24
+
+pub record SlotRanged (n : ℕ) (x : List ℤ) : Type 0 where
+  pub whole : length x ≡ 48 * (4 + n * 24)
+  pub each : (i : ℕ) → i < 48 → IntervalRanged n (intervalOf n x i)
+
+-- R and S of each interval
+unfoldable pub residualsOf : ℕ → List ℤ → Residuals
+residualsOf n x = record { loads = tabulate 48 (λ i. residualOf n (intervalOf n x i)); spares = tabulate 48 (λ i. spareOf n (intervalOf n x i)) }
+
+-- what an account has at an interval: vesting of today's cell and, where due, the residual of then's
+abbrev pub amountAt : List ℤ → List ℤ → Bool → Residual → ℤ
+amountAt today then due r = vestingAmount (cellData today) +ℤ cond due (cellResidual then (r .load) (r .spare)) (pos 0)
+
+-- none, where no residual is due
+abbrev pub noResiduals : Residuals
+noResiduals = record { loads = replicate 48 (pos 0); spares = replicate 48 0 }
+
+-- those of interval i
+abbrev pub residualIn : Residuals → ℕ → Residual
+residualIn rs i = record { load = word (rs .loads) i; spare = getD (rs .spares) i 0 }
+
+-- the slots of today and, where a residual is due, of then; R of each interval within what a share takes
+pub record DaysRanged (n : ℕ) (today then : List ℤ) (due : Bool) (rs : Residuals) : Type 0 where
+  pub closing : SlotRanged n today
+  pub long : length then ≡ length today
+  pub settled : due ≡ true → SlotRanged n then
+  pub loads : (i : ℕ) → i < 48 → natAbs (word (rs .loads) i) ≤ leastResidual
+
+-- account a's amount at interval i of two slots
+unfoldable pub slotAmount : ℕ → List ℤ → List ℤ → Bool → Residuals → ℕ → ℕ → ℤ
+slotAmount n today then due rs a i = amountAt (cellAt n today a i) (cellAt n then a i) due (residualIn rs i)
+
+-- the total of the intervals below k
+unfoldable pub totalTo : ℕ → List ℤ → List ℤ → Bool → Residuals → ℕ → ℕ → DayTotal
+totalTo n today then due rs a k = record { thousandths = sumℤ k (slotAmount n today then due rs a); intervals = k }
+
+-- the posted amount of two slots
+unfoldable pub slotPosted : ℕ → List ℤ → List ℤ → Bool → Residuals → ℕ → ℤ
+slotPosted n today then due rs a = nearest (sumℤ intervals (slotAmount n today then due rs a)) thousandthsPerCent

@@ -1,0 +1,52 @@
+-- An interval of a slot, and a slot, as the code reads them part by part. Assumes nothing.
+use mathlib.Core.Path.{_≡_}
+use mathlib.Core.Bool.{true}
+use mathlib.Core.List.{List}
+use Prim.Native.Nat.{ℕ, _+_, _*_, _≤_, _<_}
+use lib.IntN.{ℤ, pos, _-ℤ_}
+use lib.ListN.{length}
+use Rattle.integer.specs.Below.{sumℕ}
+use Rattle.integer.specs.Words.{word, part}
+use Rattle.rulebook.specs.declared.Kind.the-variants.{Load}
+use Rattle.rulebook.specs.Units.{asQuantity, inRange}
+use Rattle.rulebook.specs.DayAmount.{vestedQuantity}
+use Rattle.amounts.specs.declared.interval.Totals.{Totals}
+use Rattle.amounts.specs.declared.interval.Residual.{Residual}
+use Rattle.amounts.specs.Cell.{cellData, Ranged}
+
+-- ---- An interval of n accounts: its own 4 words, then the cells
+
+abbrev pub cellOf : List ℤ → ℕ → List ℤ
+cellOf x a = part x (4 + a * 24) 24
+
+pub record IntervalRanged (n : ℕ) (x : List ℤ) : Type 0 where
+  pub whole : length x ≡ 4 + n * 24
+  pub load : inRange Load (word x 0) ≡ true
+  pub cells : (a : ℕ) → a < n → Ranged (cellOf x a)
+
+-- all accounts' BVQ and TVQ
+unfoldable pub vestedOf : ℕ → List ℤ → ℕ
+vestedOf n x = sumℕ n (λ b. vestedQuantity (cellData (cellOf x b)))
+
+-- S
+unfoldable pub spareOf : ℕ → List ℤ → ℕ
+spareOf n x = sumℕ n (λ b. cellData (cellOf x b) .uegq)
+
+-- R
+unfoldable pub residualOf : ℕ → List ℤ → ℤ
+residualOf n x = pos (asQuantity (word x 0)) -ℤ pos (vestedOf n x)
+
+-- both
+abbrev pub residualAt : ℕ → List ℤ → Residual
+residualAt n x = record { load = residualOf n x; spare = spareOf n x }
+
+abbrev pub totalsOf : ℕ → List ℤ → Totals
+totalsOf n x = record { vested = vestedOf n x; spare = spareOf n x }
+
+-- with one cell more
+abbrev pub more : Totals → List ℤ → Totals
+more t c = record { vested = t .vested + vestedQuantity (cellData c); spare = t .spare + cellData c .uegq }
+
+-- there is room for one cell more
+abbrev pub Room : Totals → Type 0
+Room t = (t .vested ≤ 1240000000) × (t .spare ≤ 310000000)

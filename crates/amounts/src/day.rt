@@ -1,0 +1,149 @@
+// Document 01, "Day amount": an account's posted amount from the slots of D and of r.
+use crate::cell::reference_price;
+use crate::cell::residual_amount;
+use crate::cell::vesting_amount;
+use crate::interval::Residual;
+use crate::interval::residual_of;
+use crate::total::DayTotal;
+use crate::total::after_interval;
+use integer::add;
+use integer::nearest_to;
+ghost use mathlib.Core.Path.{_≡_};
+ghost use mathlib.Core.Bool.{true, cond};
+ghost use Prim.Native.Nat.{_+_, _≤_, _<_};
+ghost use lib.IntN.{natAbs};
+ghost use lib.ListN.{length};
+ghost use Rattle.integer.specs.Words.{part};
+ghost use Rattle.rulebook.specs.Shares.{leastResidual};
+ghost use Rattle.amounts.specs.Cell.{Ranged};
+ghost use Rattle.amounts.specs.Day.{SlotRanged, DaysRanged, residualsOf, noResiduals, residualIn, amountAt, totalTo, slotPosted};
+
+// R and S of a day's 48 intervals.
+pub struct Residuals {
+    pub loads: [i64; 48],
+    pub spares: [u64; 48],
+}
+
+// Each is formed once, for all accounts.
+fn residuals_of(slot: &[i64], n: usize) -> Residuals
+    requires { ⌜ SlotRanged n (now slot) × (n ≤ 32) ⌝ }
+    ensures { λ r. ⌜ r ≡ residualsOf n (now (slot .entry)) ⌝ }
+{
+    let size = 4 + n * 24;
+    let mut loads = [0; 48];
+    let mut spares = [0; 48];
+    for h in 0..48 {
+        let i = h * size;
+        let e = i + size;
+        let r = residual_of(&slot[i..e], n);
+        let load = r.load;
+        loads[h] = load;
+        spares[h] = r.spare;
+    }
+    Residuals {
+        loads: loads,
+        spares: spares,
+    }
+}
+
+// None, where no residual is due.
+fn no_residuals() -> Residuals
+    ensures { λ r. ⌜ r ≡ noResiduals ⌝ }
+{
+    Residuals {
+        loads: [0; 48],
+        spares: [0; 48],
+    }
+}
+
+// Those of the slot, where a residual is due.
+pub fn residuals_due(slot: &[i64], due: bool, n: usize) -> Residuals
+    requires { ⌜ (due ≡ true → SlotRanged n (now slot)) × (n ≤ 32) ⌝ }
+    ensures { λ r. ⌜ r ≡ cond due (residualsOf n (now (slot .entry))) noResiduals ⌝ }
+{
+    if due {
+        residuals_of(slot, n)
+    } else {
+        no_residuals()
+    }
+}
+
+// R and S of interval h.
+fn residual_at(residuals: Residuals, h: usize) -> Residual
+    requires { ⌜ h < 48 ⌝ }
+    ensures { λ r. ⌜ r ≡ residualIn residuals h ⌝ }
+{
+    let loads = residuals.loads;
+    let spares = residuals.spares;
+    let load = loads[h];
+    Residual {
+        load: load,
+        spare: spares[h],
+    }
+}
+
+// One account at one interval: vesting of today's cell and, where a residual is due, that of then's with V of then.
+fn interval_amount(today: &[i64], then: &[i64], due: bool, r: Residual) -> i64
+    requires { ⌜ Ranged (now today) × (due ≡ true → Ranged (now then)) × (natAbs (r .load) ≤ leastResidual) ⌝ }
+    ensures { λ z. ⌜ z ≡ amountAt (now (today .entry)) (now (then .entry)) due r ⌝ }
+{
+    let vesting = vesting_amount(today);
+    if due {
+        let v = reference_price(then);
+        add(vesting, residual_amount(then, v, r.load, r.spare))
+    } else {
+        vesting
+    }
+}
+
+// The same of the cells that stand at i in the slots of today and of then.
+fn amount_at(today: &[i64], then: &[i64], due: bool, r: Residual, i: usize) -> i64
+    requires { ⌜ (i + 24 ≤ length (now today)) × (length (now then) ≡ length (now today)) × Ranged (part (now today) i 24) × (due ≡ true → Ranged (part (now then) i 24)) × (natAbs (r .load) ≤ leastResidual) ⌝ }
+    ensures { λ z. ⌜ z ≡ amountAt (part (now (today .entry)) i 24) (part (now (then .entry)) i 24) due r ⌝ }
+{
+    let e = i + 24;
+    interval_amount(&today[i..e], &then[i..e], due, r)
+}
+
+// The account's amount over the 48 intervals of today's slot and, where a residual is due, of then's.
+fn exact_amount(
+    today: &[i64],
+    then: &[i64],
+    due: bool,
+    residuals: Residuals,
+    n: usize,
+    a: usize,
+) -> DayTotal
+    requires { ⌜ DaysRanged n (now today) (now then) due residuals × (n ≤ 32) × (a < n) ⌝ }
+    ensures { λ r. ⌜ r ≡ totalTo n (now (today .entry)) (now (then .entry)) due residuals a 48 ⌝ }
+{
+    let size = 4 + n * 24;
+    let mut total = DayTotal {
+        thousandths: 0,
+        intervals: 0,
+    };
+    for h in 0..48 {
+        let i = h * size + (4 + a * 24);
+        total = after_interval(
+            total,
+            amount_at(today, then, due, residual_at(residuals, h), i),
+        );
+    }
+    total
+}
+
+// The posted amount: the nearest whole cent to the day's sum.
+pub fn posted_amount(
+    today: &[i64],
+    then: &[i64],
+    due: bool,
+    residuals: Residuals,
+    n: usize,
+    a: usize,
+) -> i64
+    requires { ⌜ DaysRanged n (now today) (now then) due residuals × (n ≤ 32) × (a < n) ⌝ }
+    ensures { λ r. ⌜ r ≡ slotPosted n (now (today .entry)) (now (then .entry)) due residuals a ⌝ }
+{
+    let total = exact_amount(today, then, due, residuals, n, a);
+    nearest_to(total.thousandths, 1000)
+}
