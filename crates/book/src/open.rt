@@ -16,7 +16,7 @@ ghost use Rattle.rulebook.specs.Opening.{header, newBook};
 ghost use Rattle.rulebook.specs.Promises.{OpenPromise};
 
 // N is 1 to 32, L 1 to 75, H 1 to 92, F 9,497 to 36,524.
-fn terms_fit(terms: Terms) -> bool
+pub fn terms_fit(terms: Terms) -> bool
     ensures { λ r. ⌜ r ≡ termsFit terms ⌝ }
 {
     (1 <= terms.accounts)

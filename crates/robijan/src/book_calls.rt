@@ -1,0 +1,142 @@
+// The calls on a book.
+use crate::numbers;
+use book::header::book_size;
+use book::judge::Judged;
+use book::judge::judge;
+use book::layout::EARLIEST_FIRST_DAY;
+use book::open::open_book;
+use book::open::terms_fit;
+use rulebook::OpenAnswer;
+use rulebook::SubmitAnswer;
+use rulebook::Terms;
+use rulebook::Why;
+use submission::submit::submit;
+ghost use mathlib.Core.Path.{_≡_};
+ghost use Rattle.rulebook.specs.Numbers.{numbered, whyNumber, ofOpen, ofSubmit};
+ghost use Rattle.rulebook.specs.Opening.{opened};
+ghost use Rattle.rulebook.specs.Submit.{submitted};
+ghost use Rattle.robijan.specs.Returned.{sizeReturned, judgeNumber, judgedNumber};
+
+// The number of a call, and the position of what is refused, 0 unless the number names one.
+#[repr(C)]
+pub struct Answer {
+    pub number: u64,
+    pub position: u64,
+}
+
+// The number of a call, and a book's size in words.
+#[repr(C)]
+pub struct BookSize {
+    pub number: u64,
+    pub words: u64,
+}
+
+// Numbers 4 to 8.
+fn why_number(why: Why) -> u64
+    ensures { λ r. ⌜ r ≡ whyNumber why ⌝ }
+{
+    match why {
+        Why::NotWhole => numbers::FIELD_NOT_WHOLE,
+        Why::OutOfRange => numbers::FIELD_OUT_OF_RANGE,
+        Why::DayNotOpen => numbers::DAY_NOT_OPEN,
+        Why::Repeated => numbers::ROW_REPEATED,
+        Why::Excess => numbers::BYTES_AFTER_END,
+    }
+}
+
+fn numbered(number: u64) -> Answer
+    ensures { λ r. ⌜ numbered (r .number) (r .position) ≡ numbered number 0 ⌝ }
+{
+    Answer {
+        number: number,
+        position: 0,
+    }
+}
+
+fn of_open(answer: OpenAnswer) -> Answer
+    ensures { λ r. ⌜ numbered (r .number) (r .position) ≡ ofOpen answer ⌝ }
+{
+    match answer {
+        OpenAnswer::Opened => numbered(numbers::ACCEPTED),
+        OpenAnswer::BadTerms => numbered(numbers::OUTSIDE_RANGE),
+        OpenAnswer::TooShort => numbered(numbers::WORDS_TOO_FEW),
+    }
+}
+
+fn of_submit(answer: SubmitAnswer) -> Answer
+    ensures { λ r. ⌜ numbered (r .number) (r .position) ≡ ofSubmit answer ⌝ }
+{
+    match answer {
+        SubmitAnswer::Taken => numbered(numbers::ACCEPTED),
+        SubmitAnswer::IllFormed => numbered(numbers::NOT_WELL_FORMED),
+        SubmitAnswer::FileRefused(why, at) => Answer {
+            number: why_number(why),
+            position: at as u64,
+        },
+    }
+}
+
+// Opens a book in the words lent.
+#[no_mangle]
+pub extern "C" fn robijan_open(
+    book: &mut [i64],
+    accounts: usize,
+    lag: usize,
+    horizon: usize,
+    first: usize,
+) -> Answer
+    ensures answered { λ r. ⌜ numbered (r .number) (r .position) ≡ ofOpen (opened (record { accounts = accounts; lag = lag; horizon = horizon; first = first }) (now (book .entry)) .answer) ⌝ }
+    ensures book_after { λ _. ⌜ now (book .exit) ≡ opened (record { accounts = accounts; lag = lag; horizon = horizon; first = first }) (now (book .entry)) .words ⌝ }
+{
+    of_open(open_book(book, accounts, lag, horizon, first))
+}
+
+// Submits a file to a book.
+#[no_mangle]
+pub extern "C" fn robijan_submit(book: &mut [i64], file: &[u8]) -> Answer
+    ensures answered { λ r. ⌜ numbered (r .number) (r .position) ≡ ofSubmit (submitted (now (book .entry)) (now (file .entry)) .answer) ⌝ }
+    ensures book_after { λ _. ⌜ now (book .exit) ≡ submitted (now (book .entry)) (now (file .entry)) .words ⌝ }
+{
+    of_submit(submit(book, file))
+}
+
+fn of_judged(judged: Judged) -> u64
+    ensures { λ r. ⌜ r ≡ judgedNumber judged ⌝ }
+{
+    match judged {
+        Judged::WellFormed(_, _) => numbers::ACCEPTED,
+        Judged::IllFormed => numbers::NOT_WELL_FORMED,
+    }
+}
+
+// Is a lent book well formed? 0, or 3.
+#[no_mangle]
+pub extern "C" fn robijan_judge(book: &[i64]) -> u64
+    ensures { λ r. ⌜ r ≡ judgeNumber (now (book .entry)) ⌝ }
+{
+    of_judged(judge(book))
+}
+
+// The words that a book of these terms takes; terms outside their ranges are refused as by an opening.
+#[no_mangle]
+pub extern "C" fn robijan_book_size(accounts: usize, lag: usize, horizon: usize) -> BookSize
+    ensures { λ r. ⌜ record { number = r .number; words = r .words } ≡ sizeReturned accounts lag horizon ⌝ }
+{
+    let terms = Terms {
+        accounts: accounts,
+        lag: lag,
+        horizon: horizon,
+        first: EARLIEST_FIRST_DAY,
+    };
+    if terms_fit(terms) {
+        BookSize {
+            number: numbers::ACCEPTED,
+            words: book_size(terms) as u64,
+        }
+    } else {
+        BookSize {
+            number: numbers::OUTSIDE_RANGE,
+            words: 0,
+        }
+    }
+}
