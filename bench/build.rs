@@ -1,0 +1,11 @@
+//! Links the proved library; `rt staticlib robijan` writes it.
+
+fn main() {
+    let root = std::path::Path::new(env!("CARGO_MANIFEST_DIR")).join("../target/staticlib");
+    println!("cargo:rustc-link-search=native={}", root.display());
+    println!("cargo:rustc-link-lib=static=robijan");
+    println!(
+        "cargo:rerun-if-changed={}",
+        root.join("librobijan.a").display()
+    );
+}

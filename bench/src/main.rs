@@ -1,0 +1,108 @@
+//! The benchmark. Times are those of interleaved rounds in milliseconds, the median and the fastest; a ratio is that of the times of one
+//! round, told by its median and its 10th and 90th percentile, beside the ratio of the fastest. A first round, not counted, warms every
+//! buffer.
+
+use bench::large::{self, Rows};
+use bench::timing::{interleaved, Times};
+use bench::{plain, robijan};
+use reference::book::{open, size, well_formed};
+use reference::generate::Rng;
+use reference::submission::submit;
+use std::hint::black_box;
+
+const ROUNDS: usize = 151;
+const SMALL_ROUNDS: usize = 2_001;
+
+fn main() {
+    let mut rng = Rng::new(395);
+    println!("median and fastest of interleaved rounds, buffers warmed; GB/s at the median; Robijan / other: median (10th to 90th percentile), fastest / fastest");
+    for (name, rows) in [
+        ("judge, every row, all pairs used", Rows::Full),
+        ("judge, every row, mixed counts", Rows::Mixed),
+        ("judge, rows of the 75 closed days", Rows::Closed),
+        ("judge, no rows", Rows::None),
+    ] {
+        judge(name, &large::book(&mut rng, rows));
+    }
+    let book = large::book(&mut rng, Rows::Mixed);
+    let file = large::file(&mut rng, &book, 2_500, 0, 0);
+    submission("submit, 5,000 rows", &book, &file, ROUNDS);
+    let file = large::file(&mut rng, &book, 1, 1, 1);
+    submission("submit, 4 rows", &book, &file, ROUNDS);
+    let mut small = vec![0; size(2, 1, 1).unwrap() as usize];
+    open(&mut small, 2, 1, 1, 9_497);
+    let file = large::file(&mut rng, &small, 1, 1, 1);
+    submission("submit, 4 rows", &small, &file, SMALL_ROUNDS);
+    copying(&book);
+}
+
+/// The judge of Robijan, that of the second implementation, and a plain one.
+fn judge(name: &str, book: &[i64]) {
+    assert_eq!(robijan::judge(book), 0);
+    assert!(well_formed(book) && plain::well_formed(book));
+    let times = interleaved(
+        ROUNDS,
+        &mut [
+            &mut || assert_eq!(robijan::judge(black_box(book)), 0),
+            &mut || assert!(well_formed(black_box(book))),
+            &mut || assert!(plain::well_formed(black_box(book))),
+        ],
+    );
+    println!("{name}: {} words", book.len());
+    let bytes = 8 * book.len();
+    let [ours, reference, plain] = &times[..] else {
+        unreachable!()
+    };
+    row("Robijan", ours, ours, bytes);
+    row("reference", reference, ours, bytes);
+    row("plain judge", plain, ours, bytes);
+}
+
+/// A submission that is accepted, each time to the same book.
+fn submission(name: &str, book: &[i64], file: &[u8], rounds: usize) {
+    let (mut ours, mut theirs) = (book.to_vec(), book.to_vec());
+    let times = interleaved(
+        rounds,
+        &mut [
+            &mut || {
+                assert_eq!(
+                    robijan::submit(black_box(&mut ours), black_box(file)).number,
+                    0
+                )
+            },
+            &mut || assert_eq!(submit(black_box(&mut theirs), black_box(file)).number, 0),
+        ],
+    );
+    assert!(ours == theirs);
+    println!("{name}: {} words, file of {} bytes", book.len(), file.len());
+    let bytes = 8 * book.len() + file.len();
+    row("Robijan", &times[0], &times[0], bytes);
+    row("reference", &times[1], &times[0], bytes);
+}
+
+/// A copy of the book, for scale.
+fn copying(book: &[i64]) {
+    let mut copy = book.to_vec();
+    let times = interleaved(
+        ROUNDS,
+        &mut [&mut || black_box(&mut copy).copy_from_slice(black_box(book))],
+    );
+    println!("copy of the book's words: {} words", book.len());
+    row("copy", &times[0], &times[0], 8 * book.len());
+}
+
+/// A candidate's times, its speed over the bytes that it reads, and the ratio of Robijan's times to it.
+fn row(name: &str, times: &Times, ours: &Times, bytes: usize) {
+    let speed = bytes as f64 / times.median() / 1e9;
+    let (median, fastest) = (times.median() * 1e3, times.fastest() * 1e3);
+    print!("  {name:<12} {median:>9.4} ms {fastest:>9.4} ms {speed:>7.2} GB/s");
+    if !std::ptr::eq(times, ours) {
+        let ratio = ours.over(times);
+        let fastest = ours.fastest() / times.fastest();
+        print!(
+            "   {:.2} ({:.2} to {:.2}), {fastest:.2}",
+            ratio.median, ratio.low, ratio.high
+        );
+    }
+    println!();
+}

@@ -1,0 +1,174 @@
+//! The C functions of `librobijan.a`, each behind a safe function: a Rust slice is all that they ask of a pointer and a length. Nothing
+//! checks these declarations against the library but the comparison.
+
+#[repr(C)]
+#[derive(Clone, Copy, Debug, PartialEq, Eq)]
+pub struct Answer {
+    pub number: u64,
+    pub position: u64,
+}
+
+#[repr(C)]
+#[derive(Clone, Copy, Debug, PartialEq, Eq)]
+pub struct BookSize {
+    pub number: u64,
+    pub words: u64,
+}
+
+#[repr(C)]
+#[derive(Clone, Copy, Debug, PartialEq, Eq)]
+pub struct ReferencePrice {
+    pub number: u64,
+    pub price: i64,
+}
+
+#[repr(C)]
+#[derive(Clone, Copy, Debug, PartialEq, Eq)]
+pub struct Tranches {
+    pub number: u64,
+    pub first: i64,
+    pub second: i64,
+}
+
+#[repr(C)]
+#[derive(Clone, Copy, Debug, PartialEq, Eq)]
+pub struct Date {
+    pub number: u64,
+    pub year: u64,
+    pub month: u64,
+    pub day: u64,
+}
+
+#[repr(C)]
+#[derive(Clone, Copy, Debug, PartialEq, Eq)]
+pub struct Day {
+    pub number: u64,
+    pub day: u64,
+}
+
+#[repr(C)]
+#[derive(Clone, Copy, Debug, PartialEq, Eq)]
+pub struct Weekday {
+    pub number: u64,
+    pub weekday: u64,
+}
+
+#[repr(C)]
+#[derive(Clone, Copy, Debug, PartialEq, Eq)]
+pub struct Business {
+    pub number: u64,
+    pub business: u64,
+}
+
+mod library {
+    use super::{Answer, BookSize, Business, Date, Day, ReferencePrice, Tranches, Weekday};
+
+    extern "C" {
+        pub fn robijan_open(
+            book: *mut i64,
+            book_words: usize,
+            accounts: usize,
+            lag: usize,
+            horizon: usize,
+            first: usize,
+        ) -> Answer;
+        pub fn robijan_submit(
+            book: *mut i64,
+            book_words: usize,
+            file: *const u8,
+            file_bytes: usize,
+        ) -> Answer;
+        pub fn robijan_judge(book: *const i64, book_words: usize) -> u64;
+        pub fn robijan_book_size(accounts: usize, lag: usize, horizon: usize) -> BookSize;
+        pub fn robijan_price(
+            mep: *const i64,
+            meps: usize,
+            ieq: *const i64,
+            ieqs: usize,
+        ) -> ReferencePrice;
+        pub fn robijan_share(
+            residual: i64,
+            uegq: *const i64,
+            uegqs: usize,
+            output: *mut i64,
+            output_words: usize,
+        ) -> u64;
+        pub fn robijan_tranche(rvq: i64, bvq: i64, mq: i64) -> Tranches;
+        pub fn robijan_date(day: i64) -> Date;
+        pub fn robijan_day(year: i64, month: i64, day: i64) -> Day;
+        pub fn robijan_weekday(day: i64) -> Weekday;
+        pub fn robijan_statement_day(day: i64) -> Day;
+        pub fn robijan_business_day(day: i64, holidays: *const i64, listed: usize) -> Business;
+        pub fn robijan_final_statement(day: i64, holidays: *const i64, listed: usize) -> Day;
+        pub fn robijan_residual_due(
+            year: i64,
+            month: i64,
+            holidays: *const i64,
+            listed: usize,
+        ) -> Day;
+    }
+}
+
+pub fn open(book: &mut [i64], accounts: usize, lag: usize, horizon: usize, first: usize) -> Answer {
+    unsafe { library::robijan_open(book.as_mut_ptr(), book.len(), accounts, lag, horizon, first) }
+}
+
+pub fn submit(book: &mut [i64], file: &[u8]) -> Answer {
+    unsafe { library::robijan_submit(book.as_mut_ptr(), book.len(), file.as_ptr(), file.len()) }
+}
+
+pub fn judge(book: &[i64]) -> u64 {
+    unsafe { library::robijan_judge(book.as_ptr(), book.len()) }
+}
+
+pub fn book_size(accounts: usize, lag: usize, horizon: usize) -> BookSize {
+    unsafe { library::robijan_book_size(accounts, lag, horizon) }
+}
+
+pub fn price(mep: &[i64], ieq: &[i64]) -> ReferencePrice {
+    unsafe { library::robijan_price(mep.as_ptr(), mep.len(), ieq.as_ptr(), ieq.len()) }
+}
+
+pub fn share(residual: i64, uegq: &[i64], output: &mut [i64]) -> u64 {
+    unsafe {
+        library::robijan_share(
+            residual,
+            uegq.as_ptr(),
+            uegq.len(),
+            output.as_mut_ptr(),
+            output.len(),
+        )
+    }
+}
+
+pub fn tranche(rvq: i64, bvq: i64, mq: i64) -> Tranches {
+    unsafe { library::robijan_tranche(rvq, bvq, mq) }
+}
+
+pub fn date(day: i64) -> Date {
+    unsafe { library::robijan_date(day) }
+}
+
+pub fn day(year: i64, month: i64, day: i64) -> Day {
+    unsafe { library::robijan_day(year, month, day) }
+}
+
+pub fn weekday(day: i64) -> Weekday {
+    unsafe { library::robijan_weekday(day) }
+}
+
+pub fn statement_day(day: i64) -> Day {
+    unsafe { library::robijan_statement_day(day) }
+}
+
+pub fn business_day(day: i64, holidays: &[i64]) -> Business {
+    unsafe { library::robijan_business_day(day, holidays.as_ptr(), holidays.len()) }
+}
+
+pub fn final_statement(day: i64, holidays: &[i64]) -> Day {
+    unsafe { library::robijan_final_statement(day, holidays.as_ptr(), holidays.len()) }
+}
+
+pub fn residual_due(year: i64, month: i64, holidays: &[i64]) -> Day {
+    unsafe { library::robijan_residual_due(year, month, holidays.as_ptr(), holidays.len()) }
+}
