@@ -27,10 +27,10 @@ fn byte(x: u8) -> usize
 }
 
 // A byte, for a value.
-fn wide(x: u8) -> u64
+fn wide(x: u8) -> u32
     ensures { λ r. ⌜ (r ≡ x) × (r < 256) ⌝ }
 {
-    x as u64
+    x as u32
 }
 
 // The number that n bytes spell; a field of no bytes is 0.
@@ -89,16 +89,11 @@ pub fn judge_field(f: Field, at: usize, low: usize, high: usize, why: Why) -> Ou
     }
 }
 
-// Four bytes' number as a signed one.
-fn twos_complement(n: u64) -> i64
-    requires { ⌜ n < 4294967296 ⌝ }
-    ensures { λ r. ⌜ r ≡ signed32 n ⌝ }
+// Four bytes' number as a signed one. At 32 bits and without a branch, the four bytes and this compile to one load.
+fn twos_complement(n: u32) -> i64
+    ensures { λ r. ⌜ (r ≡ signed32 n) × (mag r < 2147483648) ⌝ }
 {
-    if n < 2147483648 {
-        n as i64
-    } else {
-        n as i64 - 4294967296
-    }
+    ((n as u64 + 2147483648) % 4294967296) as i64 - 2147483648
 }
 
 // The value at a position.

@@ -1,10 +1,8 @@
 -- `value_at` meets its contract: four bytes spell a number below 2 ^ 32.
-use Prim.Native.Nat.{_<_}
 use borrow.Author.Needs.{needs}
-use lib.Signed.{mag}
 use Rattle.integer.specs.Bits.{got}
-use Rattle.rulebook.specs.File.{signed32, valueAt}
-use Rattle.submission.specs.ValuesLaws.{num-four, signed32-range}
+use Rattle.rulebook.specs.File.{valueAt}
+use Rattle.submission.specs.ValuesLaws.{num-four}
 use Rattle.submission.proofs.fields.value_at.Statement.{statement}
 use Rattle.submission.proofs.fields.value_at.Tie as tie
 
@@ -68,8 +66,8 @@ returns c =
     let g = c .before .before .before .before .before .before .before .before .before .before .args in
     let f = num-four (g .s .now) (g .at) in
     let z = got (c .twos-complement .result) (c .twos-complement .ok) in
-    let b : mag (signed32 _) < 2147483648 = signed32-range _ (twos-complement-requires (c .before) _) in
-    (cc, rw z (rw (c .twos-complement .ensures) b))
+    let e = c .twos-complement .ensures .0 in
+    (cc, rw z (c .twos-complement .ensures .1))
 
 pub value-at-spec : {M : Type 1} → statement M
 value-at-spec =
