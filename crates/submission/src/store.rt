@@ -97,7 +97,7 @@ fn value_or_zero(n: usize, file: &[u8], from: usize, k: usize) -> i64
 }
 
 // Word j of a row at an interval, whose values are at a position.
-fn entry_word(form: Form, file: &[u8], from: usize, j: usize) -> i64
+fn word_about_flag(form: Form, file: &[u8], from: usize, j: usize) -> i64
     requires { ⌜ (form .flag < 2 ^ 63) × (from + 4 * form .values ≤ length (now file)) ⌝ }
     ensures { λ r. ⌜ r ≡ wordFrom form (now (file .entry)) from j ⌝ }
 {
@@ -108,6 +108,29 @@ fn entry_word(form: Form, file: &[u8], from: usize, j: usize) -> i64
         return flag_word(form.flag);
     }
     value_or_zero(form.values, file, from, j - 1)
+}
+
+// The same where the flag comes first.
+fn word_after_flag(form: Form, file: &[u8], from: usize, j: usize) -> i64
+    requires { ⌜ (form .place ≡ 0) × (form .flag < 2 ^ 63) × (from + 4 * form .values ≤ length (now file)) ⌝ }
+    ensures { λ r. ⌜ r ≡ wordFrom form (now (file .entry)) from j ⌝ }
+{
+    if j == 0 {
+        return flag_word(form.flag);
+    }
+    value_or_zero(form.values, file, from, j - 1)
+}
+
+// The same of any form. Whether the flag comes first is asked apart from j, so that a loop over the words asks it once.
+fn entry_word(form: Form, file: &[u8], from: usize, j: usize) -> i64
+    requires { ⌜ (form .flag < 2 ^ 63) × (from + 4 * form .values ≤ length (now file)) ⌝ }
+    ensures { λ r. ⌜ r ≡ wordFrom form (now (file .entry)) from j ⌝ }
+{
+    if form.place == 0 {
+        word_after_flag(form, file, from, j)
+    } else {
+        word_about_flag(form, file, from, j)
+    }
 }
 
 // Writes a row's words of an interval: the flag, the values, and zeros in the unused pairs.

@@ -1,4 +1,4 @@
--- `entry_word` meets its contract: before the flag, at it, and past it.
+-- `word_about_flag` meets its contract: before the flag, at it, and past it.
 use mathlib.Core.Path.{_≡_, _∙_}
 use native.Mathlib.Omega.{arith}
 use borrow.Author.Needs.{needs}
@@ -6,8 +6,8 @@ use borrow.Author.Tests.{lt-ltb, le-ltb, eq-eqb, ne-eqb}
 use mir.Syntax.{w64}
 use mir.Val.{toZ, ofZ}
 use Rattle.submission.specs.Stored.{wordFrom}
-use Rattle.submission.proofs.store.entry_word.Statement.{statement}
-use Rattle.submission.proofs.store.entry_word.Tie as tie
+use Rattle.submission.proofs.store.word_about_flag.Statement.{statement}
+use Rattle.submission.proofs.store.word_about_flag.Tie as tie
 
 value-or-zero-requires : tie.Need-value-or-zero-requires
 value-or-zero-requires c κs = search needs
@@ -42,8 +42,8 @@ returns-3 c =
     let z : toZ w64 (ofZ w64 (c .value-or-zero2 .result)) ≡ c .value-or-zero2 .result = search needs in
     z ∙ rw (ne-eqb (g .j) (g .form .place) (c .before .if2 .left), le-ltb (g .j) (g .form .place) (c .before .before .before .if1 .left)) (c .value-or-zero2 .ensures)
 
-pub entry-word-spec : {M : Type 1} → statement M
-entry-word-spec =
+pub word-about-flag-spec : {M : Type 1} → statement M
+word-about-flag-spec =
     tie.close
     (tie.spec
     value-or-zero-requires
