@@ -1,0 +1,85 @@
+-- What is to be shown of an opening and of an item, for each way that they go. Assumes nothing.
+use mathlib.Core.Path.{_≡_, refl, sym, ap, _∙_}
+use mathlib.Core.Bool.{true, false}
+use mathlib.Core.List.{List, []}
+use Prim.Native.Nat.{ℕ, _+_, _≤_, _<_}
+use native.Mathlib.Omega.{arith}
+use borrow.Author.Tests.{eq-eqb, ne-eqb, le-leb, lt-leb}
+use lib.Dec.{leb}
+use lib.IntN.{ℤ}
+use lib.ListN.{length, take}
+use Rattle.integer.specs.Words.{part}
+use Rattle.rulebook.specs.declared.OpenAnswer.{OpenAnswer}
+use Rattle.rulebook.specs.declared.OpenAnswer.the-variants.{Opened, BadTerms, TooShort}
+use Rattle.rulebook.specs.Opening.{opened}
+use Rattle.rulebook.specs.Submit.{submitted}
+use Rattle.rulebook.specs.Close.{closed}
+use Rattle.rulebook.specs.Numbers.{accepted, numbered, ofOpen, ofSubmit, ofClose}
+use Rattle.rulebook.specs.Promises.{OpenPromise}
+use Rattle.rulebook.specs.StartLaws.{opening-told}
+use Rattle.console.specs.declared.input.Item.the-variants.{Close, Submit, Bad, End}
+use Rattle.console.specs.Input.{openingBytes, openingTerms, itemOf}
+use Rattle.console.specs.Lines.{openLine, submitLine, closeLine, badLine}
+use Rattle.console.specs.Written.{Put}
+use Rattle.console.specs.WrittenLaws.{put-none}
+use Rattle.console.specs.Session.{openedBy, beginning, newStatement, turnOf, turn, Begins, Performs}
+
+opened-answer : (answer : OpenAnswer) → ofOpen answer .number ≡ accepted → ofOpen answer ≡ numbered accepted 0
+opened-answer Opened e = refl
+opened-answer BadTerms e = absurd (omega arith)
+opened-answer TooShort e = absurd (omega arith)
+
+module _ (book : List ℤ) (s line : List ℕ) where
+  -- ---- An opening
+
+  pub begins-cut : {line′ : List ℕ} {end : ℕ} → length s < openingBytes → Put line 0 (badLine 0) line′ end → Begins book s line (record { end = end; accounts = 0 }) book line′
+  unfolding beginning
+  begins-cut h p =
+      let e = lt-leb openingBytes (length s) h in
+      record { printed = rw e p; kept = rw e; counted = rw e; few = omega arith }
+
+  module _ {book′ : List ℤ} {line′ : List ℕ} {end : ℕ} (h : openingBytes ≤ length s) {answer : OpenAnswer} (o : OpenPromise (openingTerms s) book answer book′) (p : Put line 0 (openLine (ofOpen answer)) line′ end) where
+    told : leb openingBytes (length s) ≡ true
+    told = le-leb openingBytes (length s) h
+
+    -- ---- accepted: N is at most 32
+    pub begins-opened : ofOpen answer .number ≡ accepted → Begins book s line (record { end = end; accounts = openingTerms s .accounts }) book′ line′
+    unfolding beginning openedBy
+    begins-opened e =
+        record {
+          printed = rw (told, ← o .answered) p;
+          kept = rw told (o .bookAfter);
+          counted = rw (told, ← o .answered, eq-eqb (ofOpen answer .number) accepted e);
+          few = opening-told (openingTerms s) book book′ answer o .taken .0 (opened-answer answer e) .0 .accountsTo;
+        }
+
+    pub begins-refused : (ofOpen answer .number ≡ accepted → ⊥) → Begins book s line (record { end = end; accounts = 0 }) book′ line′
+    unfolding beginning openedBy
+    begins-refused e =
+        record {
+          printed = rw (told, ← o .answered) p;
+          kept = rw told (o .bookAfter);
+          counted = rw (told, ← o .answered, ne-eqb (ofOpen answer .number) accepted e);
+          few = omega arith;
+        }
+
+  -- ---- An item
+
+  module _ (accounts position : ℕ) where
+    pub performs-close : {book′ : List ℤ} {line′ : List ℕ} {end : ℕ} → itemOf s ≡ Close → book′ ≡ closed book newStatement .words → Put line 0 (closeLine (ofClose (closed book newStatement .answer)) (take (accounts + 1) (closed book newStatement .statement))) line′ end
+        → Performs accounts position book s line (record { end = end; more = true }) book′ line′
+    unfolding turn turnOf
+    performs-close i b p = record { printed = rw i p; kept = rw i b; goesOn = rw i }
+
+    pub performs-submit : {book′ : List ℤ} {line′ : List ℕ} {end : ℕ} (n : ℕ) → itemOf s ≡ Submit n → book′ ≡ submitted book (part s 3 n) .words → Put line 0 (submitLine (ofSubmit (submitted book (part s 3 n) .answer))) line′ end
+        → Performs accounts position book s line (record { end = end; more = true }) book′ line′
+    unfolding turn turnOf
+    performs-submit n i b p = record { printed = rw i p; kept = rw i b; goesOn = rw i }
+
+    pub performs-bad : {line′ : List ℕ} {end : ℕ} (k : ℕ) → itemOf s ≡ Bad k → Put line 0 (badLine (position + k)) line′ end → Performs accounts position book s line (record { end = end; more = false }) book line′
+    unfolding turn turnOf
+    performs-bad k i p = record { printed = rw i p; kept = rw i; goesOn = rw i }
+
+    pub performs-end : itemOf s ≡ End → Performs accounts position book s line (record { end = 0; more = false }) book line
+    unfolding turn turnOf
+    performs-end i = record { printed = rw i (put-none line 0 (omega arith)); kept = rw i; goesOn = rw i }

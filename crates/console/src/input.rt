@@ -1,0 +1,103 @@
+// Document 01, "Program `settle`": its input, told from the bytes at hand.
+use rulebook::Terms;
+ghost use mathlib.Core.Path.{_≡_};
+ghost use Prim.Native.Nat.{_+_, _≤_, _<_};
+ghost use lib.ListN.{length};
+ghost use Rattle.rulebook.specs.File.{num};
+ghost use Rattle.console.specs.Input.{openingBytes, openingTerms, fileWhole, itemOf, wanted as Input·wanted};
+
+pub const OPENING: usize = 5;
+
+pub const CLOSE: u8 = 0x43;
+
+pub const SUBMIT: u8 = 0x53;
+
+pub const LONGEST_FILE: usize = 16384;
+
+// What the rest of the input begins with: a close, a submission with its file's length, an item that is cut short, over-long or unknown, with
+// its place in the rest, or nothing.
+pub enum Item {
+    Close,
+    Submit(usize),
+    Bad(usize),
+    End,
+}
+
+// A byte.
+fn byte(x: u8) -> usize
+    ensures { λ r. ⌜ (r ≡ x) × (r < 256) ⌝ }
+{
+    x as usize
+}
+
+// The number that two bytes spell, the lower first.
+fn number_at(s: &[u8], at: usize) -> usize
+    requires { ⌜ at + 2 ≤ length (now s) ⌝ }
+    ensures { λ r. ⌜ (r ≡ num 2 (now (s .entry)) at) × (r < 65536) ⌝ }
+{
+    byte(s[at]) + 256 * byte(s[at + 1])
+}
+
+// The opening's arguments.
+pub fn opening_terms(s: &[u8]) -> Terms
+    requires { ⌜ openingBytes ≤ length (now s) ⌝ }
+    ensures { λ r. ⌜ r ≡ openingTerms (now (s .entry)) ⌝ }
+{
+    Terms {
+        accounts: byte(s[0]),
+        lag: byte(s[1]),
+        horizon: byte(s[2]),
+        first: number_at(s, 3),
+    }
+}
+
+// A submission's length and file are whole, and the length is allowed.
+fn file_whole(s: &[u8]) -> bool
+    ensures { λ r. ⌜ r ≡ fileWhole (now (s .entry)) ⌝ }
+{
+    if s.len() < 3 {
+        return false;
+    }
+    let n = number_at(s, 1);
+    (n <= LONGEST_FILE) & (3 + n <= s.len())
+}
+
+// What the rest of the input begins with.
+pub fn item_of(s: &[u8]) -> Item
+    ensures { λ r. ⌜ r ≡ itemOf (now (s .entry)) ⌝ }
+{
+    if s.len() == 0 {
+        return Item::End;
+    }
+    let command = s[0];
+    if command == CLOSE {
+        return Item::Close;
+    }
+    if command != SUBMIT {
+        return Item::Bad(0);
+    }
+    if file_whole(s) {
+        return Item::Submit(number_at(s, 1));
+    }
+    Item::Bad(1)
+}
+
+// How many bytes to have before the item can be told: one, with a submission's length three, with its file all.
+pub fn wanted(s: &[u8]) -> usize
+    ensures { λ r. ⌜ (r ≡ Input·wanted (now (s .entry))) × (r ≤ 16387) ⌝ }
+{
+    if s.len() == 0 {
+        return 1;
+    }
+    if s[0] != SUBMIT {
+        return 1;
+    }
+    if s.len() < 3 {
+        return 3;
+    }
+    let n = number_at(s, 1);
+    if LONGEST_FILE < n {
+        return 3;
+    }
+    3 + n
+}
