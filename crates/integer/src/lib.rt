@@ -1,7 +1,7 @@
 // Integers and loops: the laws that every proof above leans on stand in specs/. Here are the types that searches share, single lent words,
 // and rounding.
 ghost use mathlib.Core.Path.{_≡_};
-ghost use Prim.Native.Nat.{_+_, _*_, _/_, _^_, _≤_, _<_};
+ghost use Prim.Native.Nat.{_+_, _*_, _/_, _^_, _≤_, _<_, min, max};
 ghost use lib.IntN.{pos, natAbs, _+ℤ_};
 ghost use lib.ListN.{length, set};
 ghost use Rattle.integer.specs.Below.{isFound};
@@ -54,6 +54,20 @@ pub fn add(a: i64, b: i64) -> i64
     ensures { λ r. ⌜ r ≡ a +ℤ b ⌝ }
 {
     a + b
+}
+
+// The lesser of two numbers.
+pub fn least(a: usize, b: usize) -> usize
+    ensures { λ r. ⌜ r ≡ min a b ⌝ }
+{
+    if a < b { a } else { b }
+}
+
+// The greater of two numbers.
+pub fn greatest(a: usize, b: usize) -> usize
+    ensures { λ r. ⌜ r ≡ max a b ⌝ }
+{
+    if a < b { b } else { a }
 }
 
 // The magnitude of z.

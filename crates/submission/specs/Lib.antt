@@ -1,12 +1,3 @@
-pub mod BookLimits
-pub mod Fields
-pub mod Values
-pub mod Marks
 pub mod Stored
-pub mod BookLimitsLaws
-pub mod FieldsLaws
-pub mod ValuesLaws
-pub mod MarksLaws
-pub mod RowsLaws
 pub mod StoredLaws
 pub mod SubmitLaws

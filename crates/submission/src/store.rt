@@ -1,13 +1,13 @@
 // Document 01, "A submission file": an accepted row replaces all it names, in the 48 intervals of its day.
-use crate::fields::number;
-use crate::fields::value_at;
 use crate::places::place_of;
-use crate::sections::account_bytes;
-use crate::sections::count_bytes;
-use crate::sections::per_interval;
 use book::layout::INTERVALS;
 use book::places::interval_size;
 use book::places::slot_start;
+use files::fields::number;
+use files::fields::value_at;
+use files::sections::account_bytes;
+use files::sections::count_bytes;
+use files::sections::per_interval;
 use integer::put_word;
 use rulebook::Section;
 use rulebook::Terms;

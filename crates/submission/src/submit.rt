@@ -1,28 +1,22 @@
 // Document 01, "A submission file": a submission, taken whole or refused.
-use crate::judge::judge_file;
-use crate::rows::least;
 use crate::store::store_file;
 use book::judge::Judged;
 use book::judge::judge;
 use book::layout::LAST_DAY;
+use files::judge::judge_file;
+use integer::greatest;
+use integer::least;
 use rulebook::Limits;
 use rulebook::SubmitAnswer;
 use rulebook::Terms;
 use rulebook::Verdict;
 ghost use mathlib.Core.Path.{_≡_};
-ghost use Prim.Native.Nat.{_≤_, max};
+ghost use Prim.Native.Nat.{_≤_};
 ghost use Rattle.rulebook.specs.Terms.{InTerms};
 ghost use Rattle.rulebook.specs.Judging.{limitsOf};
 ghost use Rattle.rulebook.specs.Promises.{SubmitPromise};
 ghost use Rattle.book.specs.declared.judge.Judged.the-variants.{WellFormed};
 ghost use Rattle.book.specs.Judged.{judgedBook};
-
-// The greater of two numbers.
-fn greatest(a: usize, b: usize) -> usize
-    ensures { λ r. ⌜ r ≡ max a b ⌝ }
-{
-    if a < b { b } else { a }
-}
 
 // What files are judged by, where `next` is the next day to close: days from max(F, C − L) to min(C + H − 1, 36,524).
 fn limits_of(terms: Terms, next: usize) -> Limits

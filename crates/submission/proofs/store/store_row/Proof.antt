@@ -7,7 +7,7 @@ use Rattle.rulebook.specs.File.{accountAt, dayAt, countAt, valuesPos, valuesIn,
 use Rattle.rulebook.specs.Layout.{present, width, intervalSize, rowWord, size}
 use Rattle.rulebook.specs.Sections.{perInterval}
 use Rattle.submission.specs.declared.store.Form.{Form}
-use Rattle.submission.specs.RowsLaws.{count-le}
+use Rattle.files.specs.RowsLaws.{count-le}
 use Rattle.submission.specs.Stored.{formOf}
 use Rattle.submission.specs.StoredLaws.{flag-small, accounts-few, row-start, row-room, row-stored}
 use Rattle.submission.proofs.store.store_row.Statement.{statement}

@@ -5,8 +5,8 @@ use Rattle.rulebook.specs.declared.Limits.{Limits}
 use Rattle.rulebook.specs.declared.SubmitAnswer.the-variants.{Taken}
 use Rattle.rulebook.specs.Judging.{limitsOf, judged}
 use Rattle.rulebook.specs.Promises.{SubmitPromise}
-use Rattle.submission.specs.BookLimits.{BookLimits}
-use Rattle.submission.specs.BookLimitsLaws.{limits-of}
+use Rattle.files.specs.BookLimits.{BookLimits}
+use Rattle.files.specs.BookLimitsLaws.{limits-of}
 use Rattle.book.specs.JudgedLaws.{Formed, book-formed}
 use Rattle.submission.specs.SubmitLaws.{file-fits, file-taken, file-refused}
 use Rattle.submission.proofs.submit.take_file.Statement.{statement}

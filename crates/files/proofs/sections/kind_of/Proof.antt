@@ -1,0 +1,54 @@
+-- `kind_of` meets its contract: in each arm the section is known, and the test on k is the definition's.
+use borrow.Author.Needs.{needs}
+use borrow.Author.Tests.{eq-eqb, ne-eqb, lt-ltb, le-ltb}
+use Rattle.files.proofs.sections.kind_of.Statement.{statement}
+use Rattle.files.proofs.sections.kind_of.Tie as tie
+
+enum-told : tie.Need-enum-told
+enum-told c = search needs
+
+enum-told-2 : tie.Need-enum-told-2
+enum-told-2 c = search needs
+
+enum-told-3 : tie.Need-enum-told-3
+enum-told-3 c = search needs
+
+enum-told-4 : tie.Need-enum-told-4
+enum-told-4 c = search needs
+
+returns : tie.Need-returns
+returns c = rw (c .before .enum-told .given .1, eq-eqb _ _ (c .if1 .taken))
+
+returns-2 : tie.Need-returns-2
+returns-2 c = rw (c .before .enum-told .given .1, ne-eqb _ _ (c .if1 .left))
+
+returns-3 : tie.Need-returns-3
+returns-3 c = rw (c .before .enum-told2 .given .1, eq-eqb _ _ (c .if2 .taken))
+
+returns-4 : tie.Need-returns-4
+returns-4 c = rw (c .before .enum-told2 .given .1, ne-eqb _ _ (c .if2 .left))
+
+returns-5 : tie.Need-returns-5
+returns-5 c = rw (c .before .enum-told3 .given .1, lt-ltb _ _ (c .if3 .taken))
+
+returns-6 : tie.Need-returns-6
+returns-6 c = rw (c .before .enum-told3 .given .1, le-ltb _ _ (c .if3 .left))
+
+returns-7 : tie.Need-returns-7
+returns-7 c = search needs
+
+pub kind-of-spec : {M : Type 1} → statement M
+kind-of-spec =
+    tie.close
+    (tie.spec
+    enum-told
+    enum-told-2
+    enum-told-3
+    enum-told-4
+    returns
+    returns-2
+    returns-3
+    returns-4
+    returns-5
+    returns-6
+    returns-7)

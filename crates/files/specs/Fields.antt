@@ -1,0 +1,51 @@
+-- One field of a file, as the code answers it: read, then judged. Assumes nothing.
+use mathlib.Core.Bool.{Bool, true, false}
+use mathlib.Core.List.{List}
+use Prim.Native.Nat.{ℕ, _+_}
+use lib.Dec.{leb}
+use lib.ListN.{length}
+use Rattle.rulebook.specs.declared.Why.{Why}
+use Rattle.rulebook.specs.declared.Why.the-variants.{NotWhole}
+use Rattle.rulebook.specs.declared.Verdict.{Verdict}
+use Rattle.rulebook.specs.declared.Verdict.the-variants.{Accepted, Refused}
+use Rattle.rulebook.specs.File.{num}
+use Rattle.rulebook.specs.Judging.{require, _andThen_}
+use Rattle.files.specs.declared.fields.Field.{Field}
+use Rattle.files.specs.declared.fields.Field.the-variants.{Whole, Cut}
+use Rattle.files.specs.declared.fields.Outcome.{Outcome}
+use Rattle.files.specs.declared.fields.Outcome.the-variants.{Passed, Stopped}
+use Rattle.files.specs.declared.reader.Heading.{Heading}
+
+-- a verdict on a stretch of the file, with the number that goes on where it is accepted
+abbrev pub outcome : Verdict → ℕ → Outcome
+outcome Accepted n = Passed n
+outcome (Refused w at) n = Stopped w at
+
+-- ---- Read
+
+abbrev pub wholeOr : Bool → Field → Field
+wholeOr true f = f
+wholeOr false f = Cut
+
+-- the field of n bytes at `at`
+unfoldable pub fieldAt : ℕ → List ℕ → ℕ → Field
+fieldAt n s at = wholeOr (leb (at + n) (length s)) (Whole (num n s at) (at + n))
+
+-- where reading goes on: past a whole field, or where it was
+abbrev pub nextOf : Field → ℕ → ℕ
+nextOf (Whole v next) at = next
+nextOf Cut at = at
+
+abbrev pub headingOf : Field → Field → Heading
+headingOf account day = record { account = account; day = day }
+
+-- an account of n bytes at `at`, and the day after it
+abbrev pub headingAt : ℕ → List ℕ → ℕ → Heading
+headingAt n s at = headingOf (fieldAt n s at) (fieldAt 2 s (nextOf (fieldAt n s at) at))
+
+-- ---- Judged
+
+-- a field that was read at `at`: whole, and from low to high
+abbrev pub fieldOutcome : Field → ℕ → ℕ → ℕ → Why → Outcome
+fieldOutcome (Whole v next) at low high why = outcome (require (leb low v) why at andThen require (leb v high) why at) v
+fieldOutcome Cut at low high why = Stopped NotWhole at

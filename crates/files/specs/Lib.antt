@@ -1,0 +1,9 @@
+pub mod BookLimits
+pub mod Fields
+pub mod Values
+pub mod Marks
+pub mod BookLimitsLaws
+pub mod FieldsLaws
+pub mod ValuesLaws
+pub mod MarksLaws
+pub mod RowsLaws

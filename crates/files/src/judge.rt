@@ -1,0 +1,87 @@
+// Document 01, "A submission file": the rows of a section, the four sections, and the end of the file.
+use crate::fields::Field;
+use crate::fields::Outcome;
+use crate::fields::field_at;
+use crate::rows::judge_row;
+use rulebook::Limits;
+use rulebook::Section;
+use rulebook::Verdict;
+use rulebook::Why;
+ghost use mathlib.Core.Path.{_≡_};
+ghost use Prim.Native.Nat.{_≤_, _<_};
+ghost use lib.ListN.{length};
+ghost use Rattle.rulebook.specs.File.{rowPos, sectionEnd};
+ghost use Rattle.rulebook.specs.Judging.{upTo, judgedRow, judgedSection, judged};
+ghost use Rattle.files.specs.Fields.{outcome};
+ghost use Rattle.files.specs.BookLimits.{BookLimits};
+ghost use Rattle.files.specs.Marks.{unmarked};
+
+// 32 accounts, and at most 75 + 92 open days: a mark for each.
+const MARKS: usize = 5344;
+
+// The rows of a section, the first at a position; the position past the last. No account and day is marked at first.
+fn judge_rows(
+    limits: Limits,
+    sec: Section,
+    file: &[u8],
+    first: usize,
+    count: usize,
+    marks: &mut [u8],
+) -> Outcome
+    requires { ⌜ (BookLimits limits) × (first ≤ length (now file)) × (now marks ≡ unmarked) ⌝ }
+    ensures { λ r. ⌜ r ≡ outcome (upTo count (judgedRow limits sec (now (file .entry)) first)) (rowPos sec (now (file .entry)) first count) ⌝ }
+{
+    let mut at = first;
+    for i in 0..count {
+        match judge_row(limits, sec, file, at, marks) {
+            Outcome::Passed(next) => {
+                at = next;
+            }
+            Outcome::Stopped(w, p) => {
+                return Outcome::Stopped(w, p);
+            }
+        }
+    }
+    Outcome::Passed(at)
+}
+
+// The section at a position: its count of rows, then the rows; the position past it.
+fn judge_section(limits: Limits, sec: Section, file: &[u8], at: usize) -> Outcome
+    requires { ⌜ (BookLimits limits) × (at ≤ length (now file)) ⌝ }
+    ensures { λ r. ⌜ r ≡ outcome (judgedSection limits sec (now (file .entry)) at) (sectionEnd sec (now (file .entry)) at) ⌝ }
+{
+    match field_at(file, at, 2) {
+        Field::Cut => Outcome::Stopped(Why::NotWhole, at),
+        Field::Whole(count, first) => {
+            let mut marks = [0u8; MARKS];
+            judge_rows(limits, sec, file, first, count, &mut marks)
+        }
+    }
+}
+
+// The file: its four sections, and no byte after them.
+pub fn judge_file(limits: Limits, file: &[u8]) -> Verdict
+    requires { ⌜ BookLimits limits ⌝ }
+    ensures { λ r. ⌜ r ≡ judged limits (now (file .entry)) ⌝ }
+{
+    let meter = match judge_section(limits, Section::Vesting, file, 0) {
+        Outcome::Passed(next) => next,
+        Outcome::Stopped(w, p) => return Verdict::Refused(w, p),
+    };
+    let residual = match judge_section(limits, Section::Meter, file, meter) {
+        Outcome::Passed(next) => next,
+        Outcome::Stopped(w, p) => return Verdict::Refused(w, p),
+    };
+    let ncc = match judge_section(limits, Section::Residual, file, residual) {
+        Outcome::Passed(next) => next,
+        Outcome::Stopped(w, p) => return Verdict::Refused(w, p),
+    };
+    let end = match judge_section(limits, Section::Ncc, file, ncc) {
+        Outcome::Passed(next) => next,
+        Outcome::Stopped(w, p) => return Verdict::Refused(w, p),
+    };
+    if end < file.len() {
+        return Verdict::Refused(Why::Excess, end);
+    }
+    Verdict::Accepted
+}

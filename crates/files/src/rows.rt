@@ -1,0 +1,131 @@
+// Document 01, "A submission file": one row, its fields judged in file order.
+use crate::fields::Outcome;
+use crate::fields::field_at;
+use crate::fields::judge_field;
+use crate::fields::value_at;
+use crate::reader::read_heading;
+use crate::sections::account_bytes;
+use crate::sections::count_bytes;
+use crate::sections::kind_of;
+use crate::sections::least_count;
+use crate::sections::most_count;
+use crate::sections::open_from;
+use crate::sections::per_interval;
+use book::layout::INTERVALS;
+use integer::least;
+use rulebook::Limits;
+use rulebook::Section;
+use rulebook::Verdict;
+use rulebook::Why;
+use rules::ranges::in_range;
+ghost use mathlib.Core.Path.{_≡_};
+ghost use Prim.Native.Nat.{_+_, _*_, _≤_, _<_, _^_};
+ghost use lib.ListN.{length, set};
+ghost use Rattle.rulebook.specs.declared.Why.the-variants.{OutOfRange};
+ghost use Rattle.rulebook.specs.Sections.{leastCount, mostCount};
+ghost use Rattle.rulebook.specs.File.{num, accountBytes, countBytes, rowEnd};
+ghost use Rattle.rulebook.specs.Judging.{upTo, fieldIn, key, rest, rowAfter};
+ghost use Rattle.files.specs.Fields.{outcome};
+ghost use Rattle.files.specs.Values.{valueIn};
+ghost use Rattle.files.specs.BookLimits.{BookLimits};
+ghost use Rattle.files.specs.Marks.{markOf, marked, marksAfter, mostMarks};
+
+const MOST_ACCOUNTS: usize = 32;
+
+// The account and the day of the row at a position: the place of their mark.
+fn judge_key(limits: Limits, sec: Section, file: &[u8], at: usize) -> Outcome
+    requires { ⌜ (BookLimits limits) × (at ≤ length (now file)) ⌝ }
+    ensures { λ r. ⌜ r ≡ outcome (key limits sec (now (file .entry)) at) (markOf limits sec (now (file .entry)) at) ⌝ }
+{
+    let n = account_bytes(sec);
+    let heading = read_heading(file, at, n);
+    let account_field = heading.account;
+    let day_field = heading.day;
+    let account = match judge_field(account_field, at, 0, limits.accounts - 1, Why::OutOfRange) {
+        Outcome::Passed(v) => v,
+        Outcome::Stopped(w, p) => return Outcome::Stopped(w, p),
+    };
+    let low = open_from(limits, sec);
+    let day = match judge_field(day_field, at + n, low, limits.last, Why::DayNotOpen) {
+        Outcome::Passed(v) => v,
+        Outcome::Stopped(w, p) => return Outcome::Stopped(w, p),
+    };
+    Outcome::Passed(MOST_ACCOUNTS * (day - low) + account)
+}
+
+// Marks an account and day as given; whether they were given before.
+fn mark_given(marks: &mut [u8], k: usize) -> bool
+    requires { ⌜ k < length (now marks) ⌝ }
+    ensures { λ r. ⌜ (r ≡ marked (now (marks .entry)) k) × (now (marks .exit) ≡ set (now (marks .entry)) k 1) ⌝ }
+{
+    let again = marks[k] == 1;
+    marks[k] = 1;
+    again
+}
+
+// A row's n values, which stand in `part`: the file's stretch from `from` on, cut where the file ends.
+fn judge_values(part: &[u8], from: usize, sec: Section, n: usize) -> Verdict
+    requires { ⌜ (n ≤ 480) × (from + length (now part) < 2 ^ 63) ⌝ }
+    ensures { λ r. ⌜ r ≡ upTo n (valueIn sec (now (part .entry)) from) ⌝ }
+{
+    for k in 0..n {
+        let p = 4 * k;
+        if part.len() < p + 4 {
+            return Verdict::Refused(Why::NotWhole, from + p);
+        }
+        if !in_range(kind_of(sec, k), value_at(part, p)) {
+            return Verdict::Refused(Why::OutOfRange, from + p);
+        }
+    }
+    Verdict::Accepted
+}
+
+// A verdict on a stretch of the file, with the number that goes on where it is accepted.
+fn outcome_of(v: Verdict, next: usize) -> Outcome
+    ensures { λ r. ⌜ r ≡ outcome v next ⌝ }
+{
+    match v {
+        Verdict::Accepted => Outcome::Passed(next),
+        Verdict::Refused(w, p) => Outcome::Stopped(w, p),
+    }
+}
+
+// The tranche or facility count at a position.
+fn judge_count(sec: Section, file: &[u8], at: usize) -> Outcome
+    ensures { λ r. ⌜ r ≡ outcome (fieldIn (countBytes sec) (leastCount sec) (mostCount sec) OutOfRange (now (file .entry)) at) (num (countBytes sec) (now (file .entry)) at) ⌝ }
+{
+    let f = field_at(file, at, count_bytes(sec));
+    judge_field(f, at, least_count(sec), most_count(sec), Why::OutOfRange)
+}
+
+// What follows the day of the row at a position, count and values; the position past the row.
+fn judge_rest(sec: Section, file: &[u8], at: usize) -> Outcome
+    requires { ⌜ at + accountBytes sec + 2 ≤ length (now file) ⌝ }
+    ensures { λ r. ⌜ r ≡ outcome (rest sec (now (file .entry)) at) (rowEnd sec (now (file .entry)) at) ⌝ }
+{
+    let count_at = at + account_bytes(sec) + 2;
+    let count = match judge_count(sec, file, count_at) {
+        Outcome::Passed(v) => v,
+        Outcome::Stopped(w, p) => return Outcome::Stopped(w, p),
+    };
+    let from = count_at + count_bytes(sec);
+    let n = INTERVALS * per_interval(sec, count);
+    let end = from + 4 * n;
+    let cut = least(end, file.len());
+    outcome_of(judge_values(&file[from..cut], from, sec, n), end)
+}
+
+// The row at a position, after the rows whose accounts and days are marked; the position past it.
+pub fn judge_row(limits: Limits, sec: Section, file: &[u8], at: usize, marks: &mut [u8]) -> Outcome
+    requires { ⌜ (BookLimits limits) × (at ≤ length (now file)) × (length (now marks) ≡ mostMarks) ⌝ }
+    ensures { λ r. ⌜ (r ≡ outcome (rowAfter limits sec (now (file .entry)) at (marked (now (marks .entry)) (markOf limits sec (now (file .entry)) at))) (rowEnd sec (now (file .entry)) at)) × (now (marks .exit) ≡ marksAfter (key limits sec (now (file .entry)) at) (markOf limits sec (now (file .entry)) at) (now (marks .entry))) ⌝ }
+{
+    let k = match judge_key(limits, sec, file, at) {
+        Outcome::Passed(v) => v,
+        Outcome::Stopped(w, p) => return Outcome::Stopped(w, p),
+    };
+    if mark_given(marks, k) {
+        return Outcome::Stopped(Why::Repeated, at + account_bytes(sec));
+    }
+    judge_rest(sec, file, at)
+}
