@@ -1,9 +1,9 @@
 -- Document 01, "Program `settle`": its input. Assumes nothing.
 use mathlib.Core.Bool.{Bool, cond, _&&_}
-use mathlib.Core.List.{List}
+use mathlib.Core.List.{List, []}
 use Prim.Native.Nat.{ℕ, _+_}
-use lib.Dec.{eqb, leb, ltb}
-use lib.ListN.{length, getD}
+use lib.Dec.{eqb, leb}
+use lib.ListN.{length, getD, take}
 use Rattle.rulebook.specs.declared.Terms.{Terms}
 use Rattle.rulebook.specs.File.{num}
 use Rattle.console.specs.declared.input.Item.{Item}
@@ -51,3 +51,11 @@ itemOf s =
 -- how many bytes to have before the item can be told, as far as those at hand tell
 unfoldable pub wanted : List ℕ → ℕ
 wanted s = cond (eqb (getD s 0 0) submitCommand) (cond (leb 3 (length s) && leb (fileLength s) longestFile) (3 + fileLength s) 3) 1
+
+-- more of the input s, as far as the bytes at hand tell
+abbrev pub readOn : List ℕ → List ℕ → List ℕ
+readOn s got = take (wanted got) s
+
+-- an item's bytes: the command, then a submission's length, then its file
+unfoldable pub itemBytes : List ℕ → List ℕ
+itemBytes s = readOn s (readOn s (readOn s []))

@@ -2,10 +2,9 @@ pub mod Decimal
 pub mod Lines
 pub mod Input
 pub mod Written
-pub mod Session
 pub mod DecimalLaws
 pub mod WrittenLaws
 pub mod LinesLaws
 pub mod InputLaws
-pub mod SessionLaws
+pub mod ReadingLaws
 pub mod LineExamples

@@ -1,8 +1,8 @@
-// The program `settle` of document 01. What an item of its input is and does, and what is printed for it, is proved in `console`; here is the
-// reading and the writing.
+// The program `settle` of document 01. What an item of its input is and does, and what is printed for it, is proved in `console`
+// and `interpreter`; here is the reading and the writing.
 use console::input::wanted;
-use console::session::begin;
-use console::session::perform;
+use interpreter::begin;
+use interpreter::perform;
 use libc::STDIN_FILENO;
 use libc::STDOUT_FILENO;
 ghost use Prim.Native.Nat.{_≤_, _<_, _^_};

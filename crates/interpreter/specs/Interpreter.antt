@@ -7,17 +7,18 @@ use lib.Dec.{eqb, leb}
 use lib.IntN.{ℤ, pos}
 use lib.ListN.{length, take, drop, replicate}
 use Rattle.integer.specs.Words.{part}
+use Rattle.rulebook.specs.declared.Terms.{Terms}
 use Rattle.rulebook.specs.Opening.{Opening, opened}
 use Rattle.rulebook.specs.Submit.{submitted}
 use Rattle.rulebook.specs.Close.{closed}
 use Rattle.rulebook.specs.Numbers.{accepted, ofOpen, ofSubmit, ofClose}
 use Rattle.console.specs.declared.input.Item.{Item}
 use Rattle.console.specs.declared.input.Item.the-variants.{Close, Submit, Bad, End}
-use Rattle.console.specs.declared.session.Begun.{Begun}
-use Rattle.console.specs.declared.session.Performed.{Performed}
+use Rattle.interpreter.specs.declared.Begun.{Begun}
+use Rattle.interpreter.specs.declared.Performed.{Performed}
 use Rattle.console.specs.Input.{openingBytes, openingTerms, itemOf, wanted}
 use Rattle.console.specs.Lines.{openLine, submitLine, closeLine, badLine}
 use Rattle.console.specs.Written.{Put}
 
 -- ---- The opening
 
@@ -27,11 +28,11 @@ pub record Beginning : Type 0 where
   pub book : List ℤ
   pub accounts : ℕ
 
-unfoldable pub openedBy : List ℕ → Opening → Beginning
-openedBy s o = record { line = openLine (ofOpen (o .answer)); book = o .words; accounts = cond (eqb (ofOpen (o .answer) .number) accepted) (openingTerms s .accounts) 0 }
+unfoldable pub openedBy : Terms → Opening → Beginning
+openedBy o r = record { line = openLine (ofOpen (r .answer)); book = r .words; accounts = cond (eqb (ofOpen (r .answer) .number) accepted) (o .accounts) 0 }
 
 unfoldable pub beginning : List ℤ → List ℕ → Beginning
-beginning book s = cond (leb openingBytes (length s)) (openedBy s (opened (openingTerms s) book)) (record { line = badLine 0; book = book; accounts = 0 })
+beginning book s = cond (leb openingBytes (length s)) (openedBy (openingTerms s) (opened (openingTerms s) book)) (record { line = badLine 0; book = book; accounts = 0 })
 
 -- ---- An item after it
 

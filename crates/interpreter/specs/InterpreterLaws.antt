@@ -17,12 +17,12 @@ use Rattle.rulebook.specs.Close.{closed}
 use Rattle.rulebook.specs.Numbers.{accepted, numbered, ofOpen, ofSubmit, ofClose}
 use Rattle.rulebook.specs.Promises.{OpenPromise}
 use Rattle.rulebook.specs.StartLaws.{opening-told}
 use Rattle.console.specs.declared.input.Item.the-variants.{Close, Submit, Bad, End}
 use Rattle.console.specs.Input.{openingBytes, openingTerms, itemOf}
 use Rattle.console.specs.Lines.{openLine, submitLine, closeLine, badLine}
 use Rattle.console.specs.Written.{Put}
 use Rattle.console.specs.WrittenLaws.{put-none}
-use Rattle.console.specs.Session.{openedBy, beginning, newStatement, turnOf, turn, Begins, Performs}
+use Rattle.interpreter.specs.Interpreter.{openedBy, beginning, newStatement, turnOf, turn, Begins, Performs}
 
 opened-answer : (answer : OpenAnswer) → ofOpen answer .number ≡ accepted → ofOpen answer ≡ numbered accepted 0
 opened-answer Opened e = refl

@@ -5,8 +5,8 @@ use native.Mathlib.Omega.{arith}
 use lib.ListN.{length, take}
 use lib.Seq.{length-take-le}
 use borrow.Author.Needs.{needs}
-use Rattle.console.proofs.session.close_next.Statement.{statement}
-use Rattle.console.proofs.session.close_next.Tie as tie
+use Rattle.interpreter.proofs.close_next.Statement.{statement}
+use Rattle.interpreter.proofs.close_next.Tie as tie
 
 amounts : (c : tie.After-close) → length (take (c .before .before .before .before .args .accounts + 1) (c .close .last .1 .0)) ≡ c .before .before .before .before .args .accounts + 1
 amounts c = length-take-le _ _ (omega (arith, c .close .kept .1 .0, c .before .before .before .before .pre .0))

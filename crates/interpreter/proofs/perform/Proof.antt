@@ -2,10 +2,10 @@
 use borrow.Author.Needs.{needs}
 use mathlib.Core.Path.{_≡_, sym, _∙_}
 use native.Mathlib.Omega.{arith}
 use Rattle.console.specs.InputLaws.{submit-fits, bad-near}
-use Rattle.console.specs.SessionLaws.{performs-close, performs-submit, performs-bad, performs-end}
-use Rattle.console.proofs.session.perform.Statement.{statement}
-use Rattle.console.proofs.session.perform.Tie as tie
+use Rattle.interpreter.specs.InterpreterLaws.{performs-close, performs-submit, performs-bad, performs-end}
+use Rattle.interpreter.proofs.perform.Statement.{statement}
+use Rattle.interpreter.proofs.perform.Tie as tie
 
 item-of-requires : tie.Need-item-of-requires
 item-of-requires c κs = search needs

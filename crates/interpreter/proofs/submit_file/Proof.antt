@@ -2,8 +2,8 @@
 use borrow.Author.Needs.{needs}
 use Rattle.rulebook.specs.Promises.{SubmitPromise}
 use Rattle.integer.specs.WordsLaws.{lent}
-use Rattle.console.proofs.session.submit_file.Statement.{statement}
-use Rattle.console.proofs.session.submit_file.Tie as tie
+use Rattle.interpreter.proofs.submit_file.Statement.{statement}
+use Rattle.interpreter.proofs.submit_file.Tie as tie
 
 add-stop : tie.Need-add-stop
 add-stop c = search needs

@@ -1,9 +1,9 @@
 -- `begin` meets its contract: cut short, opened or refused.
 use borrow.Author.Needs.{needs}
 use mathlib.Core.Path.{sym, _∙_}
-use Rattle.console.specs.SessionLaws.{begins-cut, begins-opened, begins-refused}
-use Rattle.console.proofs.session.begin.Statement.{statement}
-use Rattle.console.proofs.session.begin.Tie as tie
+use Rattle.interpreter.specs.InterpreterLaws.{begins-cut, begins-opened, begins-refused}
+use Rattle.interpreter.proofs.begin.Statement.{statement}
+use Rattle.interpreter.proofs.begin.Tie as tie
 
 bad-line-requires : tie.Need-bad-line-requires
 bad-line-requires c κs = search needs

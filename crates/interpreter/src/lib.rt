@@ -1,16 +1,16 @@
 // Document 01, "Program `settle`": what it does with its input, item by item. Each call puts the line to print at the start of lent bytes.
-use crate::input::Item;
-use crate::input::OPENING;
-use crate::input::item_of;
-use crate::input::opening_terms;
-use crate::lines::bad_line;
-use crate::lines::close_line;
-use crate::lines::open_line;
-use crate::lines::submit_line;
-use crate::numbers::ACCEPTED;
-use crate::numbers::open_number;
 use book::open::open_book;
 use closing::close::close;
+use console::input::Item;
+use console::input::OPENING;
+use console::input::item_of;
+use console::input::opening_terms;
+use console::lines::bad_line;
+use console::lines::close_line;
+use console::lines::open_line;
+use console::lines::submit_line;
+use console::numbers::ACCEPTED;
+use console::numbers::open_number;
 use submission::submit::submit;
 ghost use mathlib.Core.Path.{_≡_};
 ghost use Prim.Native.Nat.{_+_, _≤_, _<_, _^_};
@@ -19,9 +19,9 @@ ghost use Rattle.integer.specs.Words.{part};
 ghost use Rattle.rulebook.specs.Submit.{submitted};
 ghost use Rattle.rulebook.specs.Close.{closed};
 ghost use Rattle.rulebook.specs.Numbers.{ofSubmit, ofClose};
 ghost use Rattle.console.specs.Lines.{submitLine, closeLine};
 ghost use Rattle.console.specs.Written.{Put};
-ghost use Rattle.console.specs.Session.{newStatement, Begins, Performs};
+ghost use Rattle.interpreter.specs.Interpreter.{newStatement, Begins, Performs};
 
 // An opening: its line's length, and how many accounts the book has, 0 where it is not opened.
 pub struct Begun {

@@ -1,0 +1,4 @@
+pub mod Interpreter
+pub mod InterpreterLaws
+pub mod InterpreterTheorems
+pub mod InterpreterExamples
