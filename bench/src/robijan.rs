@@ -10,6 +10,15 @@ pub struct Answer {
 
 #[repr(C)]
 #[derive(Clone, Copy, Debug, PartialEq, Eq)]
+pub struct Closed {
+    pub number: u64,
+    pub position: u64,
+    pub day: u64,
+    pub count: u64,
+}
+
+#[repr(C)]
+#[derive(Clone, Copy, Debug, PartialEq, Eq)]
 pub struct BookSize {
     pub number: u64,
     pub words: u64,
@@ -61,7 +70,7 @@ pub struct Business {
 }
 
 mod library {
-    use super::{Answer, BookSize, Business, Date, Day, ReferencePrice, Tranches, Weekday};
+    use super::{Answer, BookSize, Business, Closed, Date, Day, ReferencePrice, Tranches, Weekday};
 
     extern "C" {
         pub fn robijan_open(
@@ -78,6 +87,12 @@ mod library {
             file: *const u8,
             file_bytes: usize,
         ) -> Answer;
+        pub fn robijan_close(
+            book: *mut i64,
+            book_words: usize,
+            statement: *mut i64,
+            statement_words: usize,
+        ) -> Closed;
         pub fn robijan_judge(book: *const i64, book_words: usize) -> u64;
         pub fn robijan_book_size(accounts: usize, lag: usize, horizon: usize) -> BookSize;
         pub fn robijan_price(
@@ -115,6 +130,17 @@ pub fn open(book: &mut [i64], accounts: usize, lag: usize, horizon: usize, first
 
 pub fn submit(book: &mut [i64], file: &[u8]) -> Answer {
     unsafe { library::robijan_submit(book.as_mut_ptr(), book.len(), file.as_ptr(), file.len()) }
+}
+
+pub fn close(book: &mut [i64], statement: &mut [i64]) -> Closed {
+    unsafe {
+        library::robijan_close(
+            book.as_mut_ptr(),
+            book.len(),
+            statement.as_mut_ptr(),
+            statement.len(),
+        )
+    }
 }
 
 pub fn judge(book: &[i64]) -> u64 {

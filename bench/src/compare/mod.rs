@@ -3,26 +3,54 @@
 
 pub mod books;
 pub mod calendar;
+pub mod closing;
 pub mod judging;
+pub mod lists;
 pub mod rules;
 pub mod submitting;
 pub mod tally;
 
+use crate::robijan::{self, Closed};
+use reference::close::close as reference_close;
 use reference::generate::Rng;
 use tally::Tally;
 
 /// Runs so many cases of one call; on a difference, the case in words.
 pub type Cases = fn(&mut Rng, usize, &mut Tally) -> Result<(), String>;
 
-pub const CALLS: [(&str, Cases); 7] = [
+pub const CALLS: [(&str, Cases); 9] = [
     ("judge", judging::judge),
     ("submit", submitting::submit),
+    ("close", closing::close),
+    ("lists of calls", lists::lists),
     ("open", judging::open),
     ("price", rules::price),
     ("share", rules::share),
     ("tranche", rules::tranche),
     ("calendar", calendar::calendar),
 ];
+
+/// A close of both books, each with a statement of these words.
+fn both_close(
+    ours: &mut [i64],
+    theirs: &mut [i64],
+    statement: &[i64],
+    case: impl Fn() -> String,
+) -> Result<Closed, String> {
+    let (mut told_words, mut words) = (statement.to_vec(), statement.to_vec());
+    let told = robijan::close(ours, &mut told_words);
+    let answer = reference_close(theirs, &mut words);
+    let expected = Closed {
+        number: answer.number.into(),
+        position: answer.position as u64,
+        day: answer.day as u64,
+        count: answer.residual_count as u64,
+    };
+    same(told, expected, &case)?;
+    same_words(&told_words, &words, || format!("{}, statement", case()))?;
+    same_words(ours, theirs, case)?;
+    Ok(told)
+}
 
 /// The answers, and the words after, of both implementations.
 fn same<T: PartialEq + std::fmt::Debug>(

@@ -15,6 +15,9 @@ extern "C" {
 /* The number of a call, and the position of what is refused, 0 unless the number names one. */
 typedef struct { uint64_t number, position; } robijan_answer;
 
+/* The number of a close, the index of the word whose datum is missing, the day closed, and how many residuals were settled. */
+typedef struct { uint64_t number, position, day, count; } robijan_close_answer;
+
 /* The number of a call, and its figures; all are 0 where it is refused. */
 typedef struct { uint64_t number, words; } robijan_size_answer;
 typedef struct { uint64_t number; int64_t price; } robijan_price_answer;
@@ -28,6 +31,7 @@ typedef struct { uint64_t number, business; } robijan_business_answer;
 robijan_size_answer robijan_book_size(size_t accounts, size_t lag, size_t horizon);
 robijan_answer robijan_open(int64_t *book, size_t book_words, size_t accounts, size_t lag, size_t horizon, size_t first);
 robijan_answer robijan_submit(int64_t *book, size_t book_words, const uint8_t *file, size_t file_bytes);
+robijan_close_answer robijan_close(int64_t *book, size_t book_words, int64_t *statement, size_t statement_words);
 uint64_t robijan_judge(const int64_t *book, size_t book_words);
 
 /* Reference price, shares, tranches. The share call returns its number. */

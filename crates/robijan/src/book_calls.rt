@@ -6,15 +6,18 @@ use book::judge::judge;
 use book::layout::EARLIEST_FIRST_DAY;
 use book::open::open_book;
 use book::open::terms_fit;
+use closing::close::close;
+use rulebook::CloseAnswer;
 use rulebook::OpenAnswer;
 use rulebook::SubmitAnswer;
 use rulebook::Terms;
 use rulebook::Why;
 use submission::submit::submit;
 ghost use mathlib.Core.Path.{_≡_};
-ghost use Rattle.rulebook.specs.Numbers.{numbered, whyNumber, ofOpen, ofSubmit};
+ghost use Rattle.rulebook.specs.Numbers.{numbered, whyNumber, ofOpen, ofSubmit, ofClose};
 ghost use Rattle.rulebook.specs.Opening.{opened};
 ghost use Rattle.rulebook.specs.Submit.{submitted};
+ghost use Rattle.rulebook.specs.Close.{closed};
 ghost use Rattle.robijan.specs.Returned.{sizeReturned, judgeNumber, judgedNumber};
 
 // The number of a call, and the position of what is refused, 0 unless the number names one.
@@ -22,6 +25,16 @@ ghost use Rattle.robijan.specs.Returned.{sizeReturned, judgeNumber, judg
 pub struct Answer {
     pub number: u64,
     pub position: u64,
+}
+
+// The number of a close, the position of what is missing, the day closed and how many residuals it settled; a refused close has no day
+// and counts none.
+#[repr(C)]
+pub struct Closed {
+    pub number: u64,
+    pub position: u64,
+    pub day: u64,
+    pub count: u64,
 }
 
 // The number of a call, and a book's size in words.
@@ -76,6 +89,34 @@ fn of_submit(answer: SubmitAnswer) -> Answer
     }
 }
 
+fn close_refused(number: u64, position: u64) -> Closed
+    ensures { λ r. ⌜ record { number = r .number; position = r .position; day = r .day; count = r .count } ≡ numbered number position ⌝ }
+{
+    Closed {
+        number: number,
+        position: position,
+        day: 0,
+        count: 0,
+    }
+}
+
+fn of_close(answer: CloseAnswer) -> Closed
+    ensures { λ r. ⌜ record { number = r .number; position = r .position; day = r .day; count = r .count } ≡ ofClose answer ⌝ }
+{
+    match answer {
+        CloseAnswer::Closed(day, count) => Closed {
+            number: numbers::ACCEPTED,
+            position: 0,
+            day: day as u64,
+            count: count as u64,
+        },
+        CloseAnswer::BookIllFormed => close_refused(numbers::NOT_WELL_FORMED, 0),
+        CloseAnswer::Finished => close_refused(numbers::BOOK_FINISHED, 0),
+        CloseAnswer::NoRoom => close_refused(numbers::OUTPUT_TOO_SHORT, 0),
+        CloseAnswer::DatumMissing(at) => close_refused(numbers::DATUM_ABSENT, at as u64),
+    }
+}
+
 // Opens a book in the words lent.
 #[no_mangle]
 pub extern "C" fn robijan_open(
@@ -98,6 +139,16 @@ pub extern "C" fn robijan_submit(book: &mut [i64], file: &[u8]) -> Answer
     ensures book_after { λ _. ⌜ now (book .exit) ≡ submitted (now (book .entry)) (now (file .entry)) .words ⌝ }
 {
     of_submit(submit(book, file))
+}
+
+// Closes a book's next day.
+#[no_mangle]
+pub extern "C" fn robijan_close(book: &mut [i64], statement: &mut [i64]) -> Closed
+    ensures answered { λ r. ⌜ record { number = r .number; position = r .position; day = r .day; count = r .count } ≡ ofClose (closed (now (book .entry)) (now (statement .entry)) .answer) ⌝ }
+    ensures book_after { λ _. ⌜ now (book .exit) ≡ closed (now (book .entry)) (now (statement .entry)) .words ⌝ }
+    ensures statement_after { λ _. ⌜ now (statement .exit) ≡ closed (now (book .entry)) (now (statement .entry)) .statement ⌝ }
+{
+    of_close(close(book, statement))
 }
 
 fn of_judged(judged: Judged) -> u64

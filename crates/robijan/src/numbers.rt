@@ -17,7 +17,11 @@ pub const ROW_REPEATED: u64 = 7;
 
 pub const BYTES_AFTER_END: u64 = 8;
 
+pub const BOOK_FINISHED: u64 = 9;
+
 pub const OUTPUT_TOO_SHORT: u64 = 10;
+
+pub const DATUM_ABSENT: u64 = 11;
 
 pub const NO_SUCH_DATE: u64 = 12;
 
