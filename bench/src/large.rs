@@ -1,46 +1,79 @@
-//! The largest book, and large files for it.
+//! Books of the longest lag and horizon, and large files for them.
 
 use reference::book::{open, size};
 use reference::generate::Rng;
 
-pub const ACCOUNTS: usize = 32;
-pub const LAG: usize = 75;
-pub const HORIZON: usize = 92;
-pub const FIRST_DAY: usize = 9_497;
-const SLOTS: usize = LAG + HORIZON;
+const FIRST_DAY: u64 = 9_497;
 const NEXT_DAY: usize = 5;
 
-/// What the slots of the largest book hold.
+/// The size of a book.
+#[derive(Clone, Copy)]
+pub struct Terms {
+    pub accounts: usize,
+    pub lag: usize,
+    pub horizon: usize,
+}
+
+impl Terms {
+    /// The longest lag and horizon.
+    pub fn longest(accounts: usize) -> Terms {
+        Terms {
+            accounts,
+            lag: 75,
+            horizon: 92,
+        }
+    }
+
+    pub fn words(self) -> usize {
+        let [n, l, h] = [self.accounts, self.lag, self.horizon].map(|term| term as u64);
+        size(n, l, h).unwrap() as usize
+    }
+
+    /// Opens a book in these words.
+    pub fn open(self, book: &mut [i64]) {
+        let [n, l, h] = [self.accounts, self.lag, self.horizon].map(|term| term as u64);
+        assert_eq!(open(book, n, l, h, FIRST_DAY).number, 0);
+    }
+}
+
+/// What the slots of a book hold.
 #[derive(Clone, Copy, PartialEq, Eq)]
 pub enum Rows {
     /// Every row of every day, with every tranche and facility.
     Full,
     /// Every row of every day, with as many tranches and facilities as chance gives.
     Mixed,
-    /// The rows of the 75 closed days alone.
+    /// The rows of the closed days alone.
     Closed,
+    /// The rows of the open days alone: no day is closed.
+    Open,
     /// None: a book newly opened.
     None,
 }
 
-/// The largest book, written word by word; all but `Rows::None` have closed 75 days.
-pub fn book(rng: &mut Rng, rows: Rows) -> Vec<i64> {
-    let (accounts, lag, horizon) = (ACCOUNTS as u64, LAG as u64, HORIZON as u64);
-    let mut book = vec![0; size(accounts, lag, horizon).unwrap() as usize];
-    open(&mut book, accounts, lag, horizon, FIRST_DAY as u64);
-    let filled = match rows {
-        Rows::Full | Rows::Mixed => SLOTS,
-        Rows::Closed => LAG,
-        Rows::None => return book,
+/// A book of these terms, written word by word; all but `Rows::Open` and `Rows::None` have closed as many days as the lag.
+pub fn book(rng: &mut Rng, terms: Terms, rows: Rows) -> Vec<i64> {
+    let mut book = vec![0; terms.words()];
+    terms.open(&mut book);
+    let Terms {
+        accounts,
+        lag,
+        horizon,
+    } = terms;
+    let (closed, filled) = match rows {
+        Rows::Full | Rows::Mixed => (lag, lag + horizon),
+        Rows::Closed => (lag, lag),
+        Rows::Open => (0, horizon),
+        Rows::None => (0, 0),
     };
-    book[NEXT_DAY] += LAG as i64;
-    let slot_words = 48 * (4 + 24 * ACCOUNTS);
-    let slots = &mut book[64 + 8 * ACCOUNTS..][..filled * slot_words];
-    for interval in slots.chunks_exact_mut(4 + 24 * ACCOUNTS) {
+    book[NEXT_DAY] += closed as i64;
+    let interval_words = 4 + 24 * accounts;
+    let slots = &mut book[64 + 8 * accounts..][..filled * 48 * interval_words];
+    for interval in slots.chunks_exact_mut(interval_words) {
         interval[0] = rng.between(0, 1_000_000_000);
         interval[1] = 1;
         for account in interval[4..].chunks_exact_mut(24) {
-            fill(rng, account, rows == Rows::Mixed);
+            fill(rng, account, rows != Rows::Full);
         }
     }
     book

@@ -1,26 +1,32 @@
 //! Interleaved timing: each round times every candidate once, beginning with another one each round.
 
-use std::time::Instant;
+use std::time::{Duration, Instant};
 
 /// The times of one candidate, in seconds, by round.
 pub struct Times(Vec<f64>);
 
-/// Times each candidate once a round, after one round that is not counted and warms every buffer.
-pub fn interleaved(rounds: usize, candidates: &mut [&mut dyn FnMut()]) -> Vec<Times> {
+/// Runs each candidate once a round, after one round that is not counted and warms every buffer. A candidate answers how long the part of
+/// it took that is timed.
+pub fn interleaved(rounds: usize, candidates: &mut [&mut dyn FnMut() -> Duration]) -> Vec<Times> {
     let count = candidates.len();
     let mut times: Vec<Times> = (0..count).map(|_| Times(Vec::new())).collect();
     for round in 0..=rounds {
         for turn in 0..count {
             let which = (turn + round) % count;
-            let begin = Instant::now();
-            candidates[which]();
-            let taken = begin.elapsed().as_secs_f64();
+            let taken = candidates[which]().as_secs_f64();
             if round > 0 {
                 times[which].0.push(taken);
             }
         }
     }
     times
+}
+
+/// How long a call takes.
+pub fn timed(call: impl FnOnce()) -> Duration {
+    let begin = Instant::now();
+    call();
+    begin.elapsed()
 }
 
 impl Times {
