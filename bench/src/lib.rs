@@ -3,5 +3,7 @@
 pub mod compare;
 pub mod large;
 pub mod plain;
-pub mod robijan;
 pub mod timing;
+
+/// Robijan's calls, by the vendor's bindings.
+pub use ::robijan::raw as robijan;

@@ -3,7 +3,8 @@
 use super::books::{small_book, Change};
 use super::tally::Tally;
 use super::{same, same_words};
-use crate::{plain, robijan};
+use crate::plain;
+use crate::robijan;
 use reference::book::{open as reference_open, size, well_formed};
 use reference::generate::Rng;
 

@@ -1,5 +1,6 @@
-//! The C functions of `librobijan.a`, each behind a safe function: a Rust slice is all that they ask of a pointer and a length. Nothing
-//! checks these declarations against the library but the comparison.
+//! The C functions of `librobijan.a`, each behind a safe function that answers as the C function does: a Rust slice is all that they ask of
+//! a pointer and a length. `include/robijan.h` says what each answers. Nothing checks these declarations against the library but the
+//! comparison with the second implementation (`bench/compare`), which goes through them.
 
 #[repr(C)]
 #[derive(Clone, Copy, Debug, PartialEq, Eq)]

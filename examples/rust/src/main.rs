@@ -1,0 +1,156 @@
+//! A small settlement through Robijan: two accounts, a lag of 75 days, and the first day's uncovered load settled 75 days later.
+//! `examples/settlement.c` is the same in C; `examples/run` builds and runs both and compares what they print with `examples/expected.txt`.
+
+use robijan::{
+    balance, book_words, close, date, day, final_statement, mssl_balance, open, residual_due,
+    submit, Closed, Refusal,
+};
+
+const ACCOUNTS: usize = 2;
+const LAG: i64 = 75;
+const HORIZON: usize = 1;
+
+/// A submission file, written field by field; all fields are little-endian.
+#[derive(Default)]
+struct File(Vec<u8>);
+
+impl File {
+    fn byte(&mut self, value: u8) {
+        self.0.push(value);
+    }
+
+    /// A count of rows, or a day.
+    fn short(&mut self, value: u16) {
+        self.0.extend(value.to_le_bytes());
+    }
+
+    /// One interval's values, for each of the 48.
+    fn all_day(&mut self, values: &[i32]) {
+        for value in (0..48).flat_map(|_| values) {
+            self.0.extend(value.to_le_bytes());
+        }
+    }
+}
+
+/// Every account's vesting and meter row of a day.
+fn contracts(day: u16) -> Vec<u8> {
+    let mut file = File::default();
+    file.short(2); // section 1: two vesting rows
+
+    // Account 0: 400 kWh at 15,000 cents per MWh under its base contract, no tender contract.
+    file.byte(0);
+    file.short(day);
+    file.byte(0);
+    file.all_day(&[400, 15_000]);
+
+    // Account 1: no base contract; 100 kWh at 9,000 cents per MWh under one tender contract.
+    file.byte(1);
+    file.short(day);
+    file.byte(1);
+    file.all_day(&[0, 0, 100, 9_000]);
+
+    file.short(2); // section 2: two meter rows
+
+    // One facility each, paid 10,000 cents per MWh for what it injected: V is 10,000.
+    for account in 0..ACCOUNTS as u8 {
+        file.byte(account);
+        file.short(day);
+        file.byte(1);
+        file.all_day(&[10_000, 500]);
+    }
+    file.short(0); // section 3: no residual row
+    file.short(0); // section 4: no NCC row
+    file.0
+}
+
+/// Every account's residual row and the NCC load of a day.
+///
+/// The small consumers took 650 kWh, of which contracts cover 400 + 100: 150 are shared. The accounts had 100 and 200 kWh to spare, so they
+/// get 50 and 100. Account 0's base contract could have given 420, 20 more than it did: tranche 1 is 20, tranche 2 is 30. Account 1 has no
+/// base contract: all of its 100 are tranche 2.
+fn residuals(day: u16) -> Vec<u8> {
+    let mut file = File::default();
+    file.short(0); // section 1: no vesting row
+    file.short(0); // section 2: no meter row
+    file.short(2); // section 3: two residual rows, of UEGQ, MQ, RVP1 and RVP2
+    file.byte(0);
+    file.short(day);
+    file.all_day(&[100, 420, 12_000, 11_000]);
+    file.byte(1);
+    file.short(day);
+    file.all_day(&[200, 0, 12_000, 11_500]);
+    file.short(1); // section 4: the load
+    file.short(day);
+    file.all_day(&[650]);
+    file.0
+}
+
+fn print_date(what: &str, day: i64) -> Result<(), Refusal> {
+    let date = date(day)?;
+    println!("{what} {:04}-{:02}-{:02}", date.year, date.month, date.day);
+    Ok(())
+}
+
+fn print_close(answer: Result<Closed, Refusal>, statement: &[i64]) -> Result<(), Refusal> {
+    match answer {
+        Ok(closed) => {
+            print_date("closed", closed.day)?;
+            println!("  residuals settled: {}", closed.residuals);
+            for (account, cents) in statement[..ACCOUNTS].iter().enumerate() {
+                println!("  account {account}: {cents} cents");
+            }
+            println!("  MSSL: {} cents", statement[ACCOUNTS]);
+        }
+        Err(refusal) => println!(
+            "close refused: number {}, position {}",
+            refusal.number, refusal.position
+        ),
+    }
+    Ok(())
+}
+
+fn print_balances(book: &[i64]) {
+    print!("balances");
+    for account in 0..ACCOUNTS {
+        print!(" {}", balance(book, account).unwrap_or(0));
+    }
+    println!(", MSSL {}", mssl_balance(book).unwrap_or(0));
+}
+
+fn main() -> Result<(), Refusal> {
+    // The book is ours: the library says how many words it takes.
+    let mut book = vec![0; book_words(ACCOUNTS, LAG as usize, HORIZON)?];
+    let mut statement = [0; ACCOUNTS + 1];
+    println!("book of {} words", book.len());
+
+    let first = day(2026, 1, 1)?;
+    open(&mut book, ACCOUNTS, LAG as usize, HORIZON, first as usize)?;
+    print_date("opened, first day", first)?;
+    let due = residual_due(2026, 1, &[])?;
+    print_date("residual data of January are due", due)?;
+
+    // 75 days with contracts and meter data alone: from (15,000 - 10,000) x 400 thousandths of a cent an interval, account 0 gets 2,000
+    // cents, account 1 pays 100.
+    for day in first..first + LAG {
+        submit(&mut book, &contracts(day as u16))?;
+        let answer = close(&mut book, &mut statement);
+        if day == first || answer.is_err() {
+            print_close(answer, &statement)?;
+        }
+    }
+    print_balances(&book);
+
+    // The next close settles the first day's uncovered load too, so it needs that day's residual data.
+    submit(&mut book, &contracts((first + LAG) as u16))?;
+    print_close(close(&mut book, &mut statement), &statement)?;
+
+    // With them, account 0 gets (12,000 - 10,000) x 20 + (11,000 - 10,000) x 30 thousandths an interval more, 70 cents; account 1
+    // (11,500 - 10,000) x 100, 150 cents.
+    submit(&mut book, &residuals(first as u16))?;
+    print_close(close(&mut book, &mut statement), &statement)?;
+    print_balances(&book);
+    print_date(
+        "final statement of the first day",
+        final_statement(first, &[])?,
+    )
+}

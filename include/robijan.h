@@ -1,0 +1,165 @@
+/* Robijan: the settlement book of Singapore's residual vesting scheme, for programs in C and C++ on x86-64 Linux.
+ *
+ * Link target/staticlib/librobijan.a, which `rt staticlib robijan` writes:
+ *
+ *     cc -std=c99 -Iinclude program.c target/staticlib/librobijan.a -o program
+ *
+ * The library needs memcpy and memset of the C library and nothing else.
+ *
+ * WHAT IT KEEPS. Accounts hold vesting contracts, which fix the price of a quantity for each of a day's 48 half-hours. A book is opened for
+ * some accounts, takes submission files with the data of each account and day, and is closed day by day. A close posts to each account, in
+ * whole cents, what its contracts come to against the reference price V of that day, and, once `lag` days have passed since the book's first
+ * day, its share of the load that no contract covered `lag` days earlier. The MSSL (the buyer for small consumers) is posted minus the sum,
+ * so that all balances always total zero.
+ *
+ * UNITS
+ *   day              days since 1 January 2000, 0 to 36,524 (31 December 2099); 1 January 2026 is 9,497
+ *   interval         a half-hour of a day, 0 to 47
+ *   quantity         whole kWh, 0 to 10,000,000; metered injection (IEQ) -10,000,000 to 10,000,000
+ *   NCC load         the load of the small consumers of an interval, whole kWh, 0 to 1,000,000,000
+ *   price            whole cents per MWh, -1,000,000 to 1,000,000
+ *   amount, balance  whole cents; above 0 is owed to the account
+ *
+ * MEMORY. The caller owns all memory. The library allocates none, keeps no pointer after a call returns and has no state of its own, so a
+ * book may be copied, stored in a file, mapped and moved between calls. A list is a pointer and then its length in elements:
+ *   - the pointer is not NULL and is aligned to its element (8 bytes for int64_t), even where the length is 0;
+ *   - so many elements are there; words to be written may hold anything, as malloc gives them;
+ *   - a list that a call writes (one without const) overlaps no other list of that call. Lists that are only read may overlap.
+ * These are all the demands there are. Every value of every argument is answered: numbers out of range, books with any content, files of
+ * any bytes. No call reads or writes outside its lists, fails to end, or aborts the program; a refused call has changed no lent word, an
+ * accepted one only what is said below. A call takes less than 16 KiB of stack.
+ *
+ * THREADS. A call touches its lists and its stack. Calls on different memory may run at the same time; calls that share a list may, if none
+ * of them writes it; else the caller takes turns.
+ *
+ * ANSWERS. Each has a number: 0 for accepted, else why the call was refused. A position is that of the refusal, and 0 where the number has
+ * none; in a refused answer every other figure is 0. Checks are tried in the order of the list that each call gives, and the first that
+ * strikes is answered.
+ */
+#ifndef ROBIJAN_H
+#define ROBIJAN_H
+
+#include <stddef.h>
+#include <stdint.h>
+
+#ifdef __cplusplus
+extern "C" {
+#endif
+
+enum {
+    ROBIJAN_ACCEPTED = 0,
+    ROBIJAN_OUTSIDE_RANGE = 1,       /* a parameter, or a list's length, outside its range; MEP and IEQ lists of unequal length */
+    ROBIJAN_WORDS_TOO_FEW = 2,       /* an opening got fewer words than the book takes */
+    ROBIJAN_NOT_WELL_FORMED = 3,     /* the words lent are no book as the calls leave one */
+    ROBIJAN_FIELD_NOT_WHOLE = 4,     /* the file ends within the field at byte `position` */
+    ROBIJAN_FIELD_OUT_OF_RANGE = 5,  /* the account, count or value at byte `position` is out of range */
+    ROBIJAN_DAY_NOT_OPEN = 6,        /* the day at byte `position` takes no such row, or none any more */
+    ROBIJAN_ROW_REPEATED = 7,        /* the row whose day is at byte `position` was given earlier in the same section */
+    ROBIJAN_BYTES_AFTER_END = 8,     /* bytes follow the last section, from byte `position` */
+    ROBIJAN_BOOK_FINISHED = 9,       /* 31 December 2099 is closed */
+    ROBIJAN_OUTPUT_TOO_SHORT = 10,   /* the list to be written is too short */
+    ROBIJAN_DATUM_ABSENT = 11,       /* a datum that the close needs was not given; word `position` of the book is its flag */
+    ROBIJAN_NO_SUCH_DATE = 12,       /* no such date or month in 2000 to 2099, or day outside 0 to 36,524 */
+    ROBIJAN_BAD_HOLIDAYS = 13,       /* holidays are not strictly ascending days */
+    ROBIJAN_PAST_LAST_DAY = 14       /* the day asked for is past 31 December 2099 */
+};
+
+typedef struct { uint64_t number, position; } robijan_answer;
+typedef struct { uint64_t number, position, day, count; } robijan_close_answer;
+typedef struct { uint64_t number, words; } robijan_size_answer;
+typedef struct { uint64_t number; int64_t price; } robijan_price_answer;
+typedef struct { uint64_t number; int64_t first, second; } robijan_tranche_answer;
+typedef struct { uint64_t number, year, month, day; } robijan_date_answer;
+typedef struct { uint64_t number, day; } robijan_day_answer;
+typedef struct { uint64_t number, weekday; } robijan_weekday_answer;
+typedef struct { uint64_t number, business; } robijan_business_answer;
+
+/* ---- The book
+ *
+ * accounts  1 to 32, numbered from 0
+ * lag       1 to 75: after how many days the uncovered load of a day is settled (the market rule says 75)
+ * horizon   1 to 92: how many days, from the next one to close, rows may be given for
+ * first     9,497 to 36,524: the first day to close
+ *
+ * A book takes 64 + 8 * accounts + 48 * (lag + horizon) * (4 + 24 * accounts) words: 5,072 for 2 accounts, lag 1 and horizon 1, and
+ * 6,188,672 (49.5 MB) for the largest. More words may be lent; those beyond are neither read nor written. These words may be read at any
+ * time; all others are the library's. A book that another hand has changed is refused, unless it could be one that calls left. */
+enum {
+    ROBIJAN_WORD_NEXT_DAY = 5,       /* the next day to close */
+    ROBIJAN_WORD_MSSL_BALANCE = 6
+};
+#define ROBIJAN_WORD_BALANCE(account) (64 + 8 * (account))
+
+/* How many words a book takes. Refused: 1. */
+robijan_size_answer robijan_book_size(size_t accounts, size_t lag, size_t horizon);
+
+/* Opens a book: writes every word of its size, whatever they held. Refused: 1, 2. */
+robijan_answer robijan_open(int64_t *book, size_t book_words, size_t accounts, size_t lag, size_t horizon, size_t first);
+
+/* Takes a whole submission file, or refuses it and stores nothing of it. Refused: 3, then 4 to 8 at the first faulty field, in file order.
+ *
+ * A file has four sections, each a count of rows (2 bytes) and then its rows, in any order. All is little-endian; a value is 4 bytes in
+ * two's complement, and a row has its values interval by interval. With C the next day to close:
+ *
+ *   section       a row                                                                           days
+ *   1 vesting     account (1 byte), day (2), tender contracts 0 to 3 (1); BVQ, BVP, and for each   C to C + horizon - 1
+ *                 tender contract TVQ, TVP: quantity and price of the base and tender contracts
+ *   2 meter       account, day, facilities 1 to 4 (1); for each facility MEP, IEQ: its price       C to C + horizon - 1
+ *                 and metered injection
+ *   3 residual    account, day; UEGQ (spare generation), MQ (the most that the base contract       C - lag to C + horizon - 1,
+ *                 could have given), RVP1, RVP2 (prices of the share's two parts)                  from the first day on
+ *   4 NCC         day; NCC load                                                                    as in section 3
+ *
+ * No day is past 36,524. A row given again in a later file replaces the one before. Eight zero bytes are a file without rows. */
+robijan_answer robijan_submit(int64_t *book, size_t book_words, const uint8_t *file, size_t file_bytes);
+
+/* Closes the next day. Needed are every account's vesting and meter row of that day and, from day first + lag on, the NCC row and every
+ * account's residual row of the day `lag` days earlier. Accepted, it writes accounts + 1 amounts to the statement, the MSSL's last (words
+ * beyond are kept), and adds them to the balances; `day` is the day closed, `count` how many residuals (account and interval) were settled.
+ * Refused: 3, 9, 10, 11. */
+robijan_close_answer robijan_close(int64_t *book, size_t book_words, int64_t *statement, size_t statement_words);
+
+/* 0 for a book as calls leave one, else 3. The other calls ask this themselves. */
+uint64_t robijan_judge(const int64_t *book, size_t book_words);
+
+/* ---- Reference price, shares, tranches: no book */
+
+/* V of 1 to 4 facilities: the average of their prices (MEP) weighted with their injections (IEQ), negative ones counting 0; the simple
+ * average where all weights are 0; to the nearest cent per MWh, a tie away from zero. Refused: 1. */
+robijan_price_answer robijan_price(const int64_t *mep, size_t meps, const int64_t *ieq, size_t ieqs);
+
+/* Shares the residual load (-1,280,000,000 to 1,000,000,000 kWh) among 1 to 32 accounts in proportion to their spare generation, each at
+ * most that, rounded down; one word an account is written, words beyond are kept. Returns the number. Refused: 1, 10. */
+uint64_t robijan_share(int64_t residual, const int64_t *uegq, size_t uegqs, int64_t *output, size_t output_words);
+
+/* The parts of a share: `first` is at most what the base contract (BVQ) left of MQ, `second` the rest. Refused: 1. */
+robijan_tranche_answer robijan_tranche(int64_t rvq, int64_t bvq, int64_t mq);
+
+/* ---- The trading calendar: no book. Holidays are days, strictly ascending. */
+
+/* The date of a day. Refused: 12. */
+robijan_date_answer robijan_date(int64_t day);
+
+/* The day of a date. Refused: 12. */
+robijan_day_answer robijan_day(int64_t year, int64_t month, int64_t day);
+
+/* 0 for Saturday, 1 for Sunday, to 6 for Friday. Refused: 12. */
+robijan_weekday_answer robijan_weekday(int64_t day);
+
+/* The day 75 days later. Refused: 12, 14. */
+robijan_day_answer robijan_statement_day(int64_t day);
+
+/* 1 for Monday to Friday and no holiday, else 0. Refused: 12, 13. */
+robijan_business_answer robijan_business_day(int64_t day, const int64_t *holidays, size_t listed);
+
+/* The tenth business day after the statement day. Refused: 12, 13, 14. */
+robijan_day_answer robijan_final_statement(int64_t day, const int64_t *holidays, size_t listed);
+
+/* When a month's residual data fall due: the first business day after the 10th of the second month following. Refused: 12, 13, 14. */
+robijan_day_answer robijan_residual_due(int64_t year, int64_t month, const int64_t *holidays, size_t listed);
+
+#ifdef __cplusplus
+}
+#endif
+
+#endif
