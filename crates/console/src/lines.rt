@@ -2,7 +2,6 @@
 use crate::decimal::put_byte;
 use crate::decimal::put_decimal;
 use crate::decimal::put_signed;
-use crate::numbers;
 use integer::word_at;
 use rulebook::CloseAnswer;
 use rulebook::OpenAnswer;
@@ -76,7 +75,7 @@ fn closed_line(line: &mut [u8], day: usize, count: usize, amounts: &[i64]) -> us
     ensures { λ end. ⌜ Put (now (line .entry)) 0 (closedLine day count (now (amounts .entry))) (now (line .exit)) end ⌝ }
 {
     let a = put_text(line, 0, b"close");
-    let b = put_part(line, a, numbers::ACCEPTED);
+    let b = put_part(line, a, answers::ACCEPTED);
     let c = put_part(line, b, day as u64);
     let d = put_part(line, c, count as u64);
     let e = put_amounts(line, d, amounts);
@@ -88,7 +87,7 @@ pub fn open_line(line: &mut [u8], answer: OpenAnswer) -> usize
     requires { ⌜ 64 ≤ length (now line) ⌝ }
     ensures { λ end. ⌜ Put (now (line .entry)) 0 (openLine (ofOpen answer)) (now (line .exit)) end ⌝ }
 {
-    answer_line(line, b"open", numbers::open_number(answer), 0)
+    answer_line(line, b"open", answers::open_number(answer), 0)
 }
 
 // `submit`, number and position.
@@ -96,8 +95,8 @@ pub fn submit_line(line: &mut [u8], answer: SubmitAnswer) -> usize
     requires { ⌜ 64 ≤ length (now line) ⌝ }
     ensures { λ end. ⌜ Put (now (line .entry)) 0 (submitLine (ofSubmit answer)) (now (line .exit)) end ⌝ }
 {
-    let position = numbers::submit_position(answer) as u64;
-    answer_line(line, b"submit", numbers::submit_number(answer), position)
+    let position = answers::submit_position(answer) as u64;
+    answer_line(line, b"submit", answers::submit_number(answer), position)
 }
 
 // `close`, number and position; where it was accepted, 0, day, count and the amounts.
@@ -105,13 +104,13 @@ pub fn close_line(line: &mut [u8], answer: CloseAnswer, amounts: &[i64]) -> usiz
     requires { ⌜ 69 + 21 * length (now amounts) ≤ length (now line) ⌝ }
     ensures { λ end. ⌜ Put (now (line .entry)) 0 (closeLine (ofClose answer) (now (amounts .entry))) (now (line .exit)) end ⌝ }
 {
-    let number = numbers::close_number(answer);
-    if number == numbers::ACCEPTED {
-        let day = numbers::close_day(answer);
-        let count = numbers::close_count(answer);
+    let number = answers::close_number(answer);
+    if number == answers::ACCEPTED {
+        let day = answers::close_day(answer);
+        let count = answers::close_count(answer);
         return closed_line(line, day, count, amounts);
     }
-    let position = numbers::close_position(answer) as u64;
+    let position = answers::close_position(answer) as u64;
     answer_line(line, b"close", number, position)
 }
 

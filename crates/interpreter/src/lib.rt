@@ -1,4 +1,6 @@
 // Document 01, "Program `settle`": what it does with its input, item by item. Each call puts the line to print at the start of lent bytes.
+use answers::ACCEPTED;
+use answers::open_number;
 use book::open::open_book;
 use closing::close::close;
 use console::input::Item;
@@ -9,8 +11,6 @@ use console::lines::bad_line;
 use console::lines::close_line;
 use console::lines::open_line;
 use console::lines::submit_line;
-use console::numbers::ACCEPTED;
-use console::numbers::open_number;
 use submission::submit::submit;
 ghost use mathlib.Core.Path.{_≡_};
 ghost use Prim.Native.Nat.{_+_, _≤_, _<_, _^_};

@@ -1,5 +1,4 @@
 // The calls on a book.
-use crate::numbers;
 use book::header::book_size;
 use book::judge::Judged;
 use book::judge::judge;
@@ -11,10 +10,9 @@ use rulebook::CloseAnswer;
 use rulebook::OpenAnswer;
 use rulebook::SubmitAnswer;
 use rulebook::Terms;
-use rulebook::Why;
 use submission::submit::submit;
 ghost use mathlib.Core.Path.{_≡_};
-ghost use Rattle.rulebook.specs.Numbers.{numbered, whyNumber, ofOpen, ofSubmit, ofClose};
+ghost use Rattle.rulebook.specs.Numbers.{numbered, ofOpen, ofSubmit, ofClose};
 ghost use Rattle.rulebook.specs.Opening.{opened};
 ghost use Rattle.rulebook.specs.Submit.{submitted};
 ghost use Rattle.rulebook.specs.Close.{closed};
@@ -44,19 +42,6 @@ pub struct BookSize {
     pub words: u64,
 }
 
-// Numbers 4 to 8.
-fn why_number(why: Why) -> u64
-    ensures { λ r. ⌜ r ≡ whyNumber why ⌝ }
-{
-    match why {
-        Why::NotWhole => numbers::FIELD_NOT_WHOLE,
-        Why::OutOfRange => numbers::FIELD_OUT_OF_RANGE,
-        Why::DayNotOpen => numbers::DAY_NOT_OPEN,
-        Why::Repeated => numbers::ROW_REPEATED,
-        Why::Excess => numbers::BYTES_AFTER_END,
-    }
-}
-
 fn numbered(number: u64) -> Answer
     ensures { λ r. ⌜ numbered (r .number) (r .position) ≡ numbered number 0 ⌝ }
 {
@@ -70,9 +55,9 @@ fn of_open(answer: OpenAnswer) -> Answer
     ensures { λ r. ⌜ numbered (r .number) (r .position) ≡ ofOpen answer ⌝ }
 {
     match answer {
-        OpenAnswer::Opened => numbered(numbers::ACCEPTED),
-        OpenAnswer::BadTerms => numbered(numbers::OUTSIDE_RANGE),
-        OpenAnswer::TooShort => numbered(numbers::WORDS_TOO_FEW),
+        OpenAnswer::Opened => numbered(answers::ACCEPTED),
+        OpenAnswer::BadTerms => numbered(answers::OUTSIDE_RANGE),
+        OpenAnswer::TooShort => numbered(answers::WORDS_TOO_FEW),
     }
 }
 
@@ -80,10 +65,10 @@ fn of_submit(answer: SubmitAnswer) -> Answer
     ensures { λ r. ⌜ numbered (r .number) (r .position) ≡ ofSubmit answer ⌝ }
 {
     match answer {
-        SubmitAnswer::Taken => numbered(numbers::ACCEPTED),
-        SubmitAnswer::IllFormed => numbered(numbers::NOT_WELL_FORMED),
+        SubmitAnswer::Taken => numbered(answers::ACCEPTED),
+        SubmitAnswer::IllFormed => numbered(answers::NOT_WELL_FORMED),
         SubmitAnswer::FileRefused(why, at) => Answer {
-            number: why_number(why),
+            number: answers::why_number(why),
             position: at as u64,
         },
     }
@@ -105,15 +90,15 @@ fn of_close(answer: CloseAnswer) -> Closed
 {
     match answer {
         CloseAnswer::Closed(day, count) => Closed {
-            number: numbers::ACCEPTED,
+            number: answers::ACCEPTED,
             position: 0,
             day: day as u64,
             count: count as u64,
         },
-        CloseAnswer::BookIllFormed => close_refused(numbers::NOT_WELL_FORMED, 0),
-        CloseAnswer::Finished => close_refused(numbers::BOOK_FINISHED, 0),
-        CloseAnswer::NoRoom => close_refused(numbers::OUTPUT_TOO_SHORT, 0),
-        CloseAnswer::DatumMissing(at) => close_refused(numbers::DATUM_ABSENT, at as u64),
+        CloseAnswer::BookIllFormed => close_refused(answers::NOT_WELL_FORMED, 0),
+        CloseAnswer::Finished => close_refused(answers::BOOK_FINISHED, 0),
+        CloseAnswer::NoRoom => close_refused(answers::OUTPUT_TOO_SHORT, 0),
+        CloseAnswer::DatumMissing(at) => close_refused(answers::DATUM_ABSENT, at as u64),
     }
 }
 
@@ -155,8 +140,8 @@ fn of_judged(judged: Judged) -> u64
     ensures { λ r. ⌜ r ≡ judgedNumber judged ⌝ }
 {
     match judged {
-        Judged::WellFormed(_, _) => numbers::ACCEPTED,
-        Judged::IllFormed => numbers::NOT_WELL_FORMED,
+        Judged::WellFormed(_, _) => answers::ACCEPTED,
+        Judged::IllFormed => answers::NOT_WELL_FORMED,
     }
 }
 
@@ -181,12 +166,12 @@ pub extern "C" fn robijan_book_size(accounts: usize, lag: usize, horizon: usize)
     };
     if terms_fit(terms) {
         BookSize {
-            number: numbers::ACCEPTED,
+            number: answers::ACCEPTED,
             words: book_size(terms) as u64,
         }
     } else {
         BookSize {
-            number: numbers::OUTSIDE_RANGE,
+            number: answers::OUTSIDE_RANGE,
             words: 0,
         }
     }

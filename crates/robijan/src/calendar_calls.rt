@@ -1,5 +1,4 @@
 // The trading calendar.
-use crate::numbers;
 use calendar::BusinessAnswer;
 use calendar::DateAnswer;
 use calendar::DayAnswer;
@@ -50,13 +49,13 @@ fn of_date(answer: DateAnswer) -> Date
 {
     match answer {
         DateAnswer::On(year, month, day) => Date {
-            number: numbers::ACCEPTED,
+            number: answers::ACCEPTED,
             year: year as u64,
             month: month as u64,
             day: day as u64,
         },
         DateAnswer::NoSuchDate => Date {
-            number: numbers::NO_SUCH_DATE,
+            number: answers::NO_SUCH_DATE,
             year: 0,
             month: 0,
             day: 0,
@@ -78,12 +77,12 @@ fn of_day(answer: DayAnswer) -> Day
 {
     match answer {
         DayAnswer::On(day) => Day {
-            number: numbers::ACCEPTED,
+            number: answers::ACCEPTED,
             day: day as u64,
         },
-        DayAnswer::NoSuchDate => refused_day(numbers::NO_SUCH_DATE),
-        DayAnswer::BadHolidays => refused_day(numbers::BAD_HOLIDAYS),
-        DayAnswer::PastLastDay => refused_day(numbers::PAST_LAST_DAY),
+        DayAnswer::NoSuchDate => refused_day(answers::NO_SUCH_DATE),
+        DayAnswer::BadHolidays => refused_day(answers::BAD_HOLIDAYS),
+        DayAnswer::PastLastDay => refused_day(answers::PAST_LAST_DAY),
     }
 }
 
@@ -92,11 +91,11 @@ fn of_weekday(answer: WeekdayAnswer) -> Weekday
 {
     match answer {
         WeekdayAnswer::On(weekday) => Weekday {
-            number: numbers::ACCEPTED,
+            number: answers::ACCEPTED,
             weekday: weekday as u64,
         },
         WeekdayAnswer::NoSuchDate => Weekday {
-            number: numbers::NO_SUCH_DATE,
+            number: answers::NO_SUCH_DATE,
             weekday: 0,
         },
     }
@@ -113,15 +112,15 @@ fn of_business(answer: BusinessAnswer) -> Business
 {
     match answer {
         BusinessAnswer::Judged(test) => Business {
-            number: numbers::ACCEPTED,
+            number: answers::ACCEPTED,
             business: one_if(test),
         },
         BusinessAnswer::NoSuchDate => Business {
-            number: numbers::NO_SUCH_DATE,
+            number: answers::NO_SUCH_DATE,
             business: 0,
         },
         BusinessAnswer::BadHolidays => Business {
-            number: numbers::BAD_HOLIDAYS,
+            number: answers::BAD_HOLIDAYS,
             business: 0,
         },
     }

@@ -1,5 +1,4 @@
 // The calls that hold no book: reference price, shares, tranches.
-use crate::numbers;
 use rulebook::PriceAnswer;
 use rulebook::ShareAnswer;
 use rulebook::TrancheAnswer;
@@ -30,11 +29,11 @@ fn of_price(answer: PriceAnswer) -> ReferencePrice
 {
     match answer {
         PriceAnswer::Priced(price) => ReferencePrice {
-            number: numbers::ACCEPTED,
+            number: answers::ACCEPTED,
             price: price,
         },
         PriceAnswer::PriceRefused => ReferencePrice {
-            number: numbers::OUTSIDE_RANGE,
+            number: answers::OUTSIDE_RANGE,
             price: 0,
         },
     }
@@ -44,9 +43,9 @@ fn of_share(answer: ShareAnswer) -> u64
     ensures { λ r. ⌜ r ≡ shareNumber answer ⌝ }
 {
     match answer {
-        ShareAnswer::Shared => numbers::ACCEPTED,
-        ShareAnswer::ShareRefused => numbers::OUTSIDE_RANGE,
-        ShareAnswer::OutputTooShort => numbers::OUTPUT_TOO_SHORT,
+        ShareAnswer::Shared => answers::ACCEPTED,
+        ShareAnswer::ShareRefused => answers::OUTSIDE_RANGE,
+        ShareAnswer::OutputTooShort => answers::OUTPUT_TOO_SHORT,
     }
 }
 
@@ -55,12 +54,12 @@ fn of_tranches(answer: TrancheAnswer) -> Tranches
 {
     match answer {
         TrancheAnswer::Split(first, second) => Tranches {
-            number: numbers::ACCEPTED,
+            number: answers::ACCEPTED,
             first: first,
             second: second,
         },
         TrancheAnswer::TrancheRefused => Tranches {
-            number: numbers::OUTSIDE_RANGE,
+            number: answers::OUTSIDE_RANGE,
             first: 0,
             second: 0,
         },

@@ -1,4 +1,4 @@
-// Document 01, "Numbers returned": the figures of each answer.
+// Document 01, "Numbers returned": the table, and the figures of each answer.
 use rulebook::CloseAnswer;
 use rulebook::OpenAnswer;
 use rulebook::SubmitAnswer;
@@ -8,27 +8,33 @@ ghost use Rattle.rulebook.specs.Numbers.{whyNumber, ofOpen, ofSubmit, ofClose};
 
 pub const ACCEPTED: u64 = 0;
 
-const OUTSIDE_RANGE: u64 = 1;
+pub const OUTSIDE_RANGE: u64 = 1;
 
-const WORDS_TOO_FEW: u64 = 2;
+pub const WORDS_TOO_FEW: u64 = 2;
 
-const NOT_WELL_FORMED: u64 = 3;
+pub const NOT_WELL_FORMED: u64 = 3;
 
-const FIELD_NOT_WHOLE: u64 = 4;
+pub const FIELD_NOT_WHOLE: u64 = 4;
 
-const FIELD_OUT_OF_RANGE: u64 = 5;
+pub const FIELD_OUT_OF_RANGE: u64 = 5;
 
-const DAY_NOT_OPEN: u64 = 6;
+pub const DAY_NOT_OPEN: u64 = 6;
 
-const ROW_REPEATED: u64 = 7;
+pub const ROW_REPEATED: u64 = 7;
 
-const BYTES_AFTER_END: u64 = 8;
+pub const BYTES_AFTER_END: u64 = 8;
 
-const BOOK_FINISHED: u64 = 9;
+pub const BOOK_FINISHED: u64 = 9;
 
-const OUTPUT_TOO_SHORT: u64 = 10;
+pub const OUTPUT_TOO_SHORT: u64 = 10;
 
-const DATUM_ABSENT: u64 = 11;
+pub const DATUM_ABSENT: u64 = 11;
+
+pub const NO_SUCH_DATE: u64 = 12;
+
+pub const BAD_HOLIDAYS: u64 = 13;
+
+pub const PAST_LAST_DAY: u64 = 14;
 
 pub fn open_number(answer: OpenAnswer) -> u64
     ensures { λ r. ⌜ r ≡ ofOpen answer .number ⌝ }
@@ -40,7 +46,7 @@ pub fn open_number(answer: OpenAnswer) -> u64
     }
 }
 
-fn why_number(why: Why) -> u64
+pub fn why_number(why: Why) -> u64
     ensures { λ r. ⌜ r ≡ whyNumber why ⌝ }
 {
     match why {
