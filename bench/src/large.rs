@@ -3,7 +3,7 @@
 use reference::book::{open, size};
 use reference::generate::Rng;
 
-const FIRST_DAY: u64 = 9_497;
+pub const FIRST_DAY: u64 = 9_497;
 const NEXT_DAY: usize = 5;
 
 /// The size of a book.
@@ -99,48 +99,79 @@ fn fill(rng: &mut Rng, account: &mut [i64], mixed: bool) {
     account[22] = rng.between(-1_000_000, 1_000_000);
 }
 
-/// A file of so many vesting rows with three tranches, as many meter rows with four facilities, and so many residual and NCC rows, of the
-/// days from the book's next day on.
-pub fn file(rng: &mut Rng, book: &[i64], rows: usize, residual: usize, ncc: usize) -> Vec<u8> {
-    let accounts = book[1] as usize;
-    let row = |i: usize| {
-        (
-            (i % accounts) as u8,
-            book[NEXT_DAY] as u16 + (i / accounts) as u16,
-        )
-    };
+/// So many rows from this day on, accounts ascending in each day.
+#[derive(Clone, Copy)]
+pub struct Given {
+    pub day: i64,
+    pub rows: usize,
+}
+
+/// What a file gives: vesting rows with three tranches and as many meter rows with four facilities, residual rows, NCC rows.
+#[derive(Clone, Copy)]
+pub struct Sections {
+    pub contracts: Given,
+    pub residuals: Given,
+    pub loads: Given,
+}
+
+impl Sections {
+    /// So many rows of each from the book's next day on.
+    pub fn next(book: &[i64], contracts: usize, residuals: usize, loads: usize) -> Sections {
+        let given = |rows| Given {
+            day: book[NEXT_DAY],
+            rows,
+        };
+        Sections {
+            contracts: given(contracts),
+            residuals: given(residuals),
+            loads: given(loads),
+        }
+    }
+
+    pub fn rows(&self) -> usize {
+        2 * self.contracts.rows + self.residuals.rows + self.loads.rows
+    }
+}
+
+const QUANTITY: (i64, i64) = (0, 10_000_000);
+const PRICE: (i64, i64) = (-1_000_000, 1_000_000);
+const IEQ: (i64, i64) = (-10_000_000, 10_000_000);
+const LOAD: (i64, i64) = (0, 1_000_000_000);
+
+/// A file with random values.
+pub fn file(rng: &mut Rng, accounts: usize, sections: Sections) -> Vec<u8> {
+    let Sections {
+        contracts,
+        residuals,
+        loads,
+    } = sections;
     let mut file = Vec::new();
     let mut values = |file: &mut Vec<u8>, ranges: &[(i64, i64)]| {
         for &(low, high) in (0..48).flat_map(|_| ranges) {
             file.extend((rng.between(low, high) as i32).to_le_bytes());
         }
     };
-    let (quantity, price, ieq) = (
-        (0, 10_000_000),
-        (-1_000_000, 1_000_000),
-        (-10_000_000, 10_000_000),
-    );
-    for (most, pair) in [(3, [quantity, price]), (4, [price, ieq])] {
-        file.extend((rows as u16).to_le_bytes());
-        for i in 0..rows {
-            let (account, day) = row(i);
-            file.push(account);
-            file.extend(day.to_le_bytes());
+    let head = |file: &mut Vec<u8>, given: Given, i: usize| {
+        file.push((i % accounts) as u8);
+        file.extend((given.day as u16 + (i / accounts) as u16).to_le_bytes());
+    };
+    for (most, pair) in [(3, [QUANTITY, PRICE]), (4, [PRICE, IEQ])] {
+        file.extend((contracts.rows as u16).to_le_bytes());
+        for i in 0..contracts.rows {
+            head(&mut file, contracts, i);
             file.push(most);
             values(&mut file, &pair.repeat(4));
         }
     }
-    file.extend((residual as u16).to_le_bytes());
-    for i in 0..residual {
-        let (account, day) = row(i);
-        file.push(account);
-        file.extend(day.to_le_bytes());
-        values(&mut file, &[quantity, quantity, price, price]);
+    file.extend((residuals.rows as u16).to_le_bytes());
+    for i in 0..residuals.rows {
+        head(&mut file, residuals, i);
+        values(&mut file, &[QUANTITY, QUANTITY, PRICE, PRICE]);
     }
-    file.extend((ncc as u16).to_le_bytes());
-    for i in 0..ncc {
-        file.extend((book[NEXT_DAY] as u16 + i as u16).to_le_bytes());
-        values(&mut file, &[(0, 1_000_000_000)]);
+    file.extend((loads.rows as u16).to_le_bytes());
+    for i in 0..loads.rows {
+        file.extend((loads.day as u16 + i as u16).to_le_bytes());
+        values(&mut file, &[LOAD]);
     }
     file
 }

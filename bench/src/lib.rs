@@ -2,6 +2,7 @@
 
 pub mod compare;
 pub mod large;
+pub mod measures;
 pub mod plain;
 pub mod timing;
 

@@ -1,0 +1,313 @@
+//! Each call timed beside the second implementation, and beside a copy of the memory that it goes through.
+
+use crate::large::{self, Rows, Sections, Terms};
+use crate::timing::{interleaved, timed, Times};
+use crate::{plain, robijan};
+use reference::book::{open, well_formed};
+use reference::calendar;
+use reference::close::close;
+use reference::generate::Rng;
+use reference::share::share;
+use reference::submission::submit;
+use std::cell::RefCell;
+use std::hint::black_box;
+use std::time::Duration;
+
+/// Calls timed as one, where a single one is too short.
+const BATCH: usize = 1_000;
+
+/// Rounds: more where a call is short.
+fn rounds(words: usize) -> usize {
+    match words {
+        0..=100_000 => 2_001,
+        100_001..=500_000 => 1_001,
+        500_001..=2_000_000 => 401,
+        _ => 151,
+    }
+}
+
+/// A copy of these words into others, timed.
+fn copying<'a>(from: &'a [i64], to: &'a RefCell<Vec<i64>>) -> impl FnMut() -> Duration + 'a {
+    move || {
+        let to = &mut to.borrow_mut()[..from.len()];
+        timed(|| black_box(to).copy_from_slice(black_box(from)))
+    }
+}
+
+/// The judge of Robijan, that of the second implementation, and a plain one.
+pub fn judge(name: &str, book: &[i64]) {
+    let words = book.len();
+    let copy = RefCell::new(book.to_vec());
+    let times = interleaved(
+        rounds(words),
+        &mut [
+            &mut || timed(|| assert_eq!(robijan::judge(black_box(book)), 0)),
+            &mut || timed(|| assert!(well_formed(black_box(book)))),
+            &mut || timed(|| assert!(plain::well_formed(black_box(book)))),
+            &mut copying(book, &copy),
+        ],
+    );
+    println!("{name}: {words} words");
+    print(&times, &["reference", "plain judge", "copy"], 8 * words);
+}
+
+/// An opening in words that held something else.
+pub fn opening(name: &str, terms: Terms) {
+    let words = terms.words();
+    let (lent, copy) = (RefCell::new(vec![7; words]), RefCell::new(vec![7; words]));
+    let from = vec![5; words];
+    let Terms {
+        accounts,
+        lag,
+        horizon,
+    } = terms;
+    let [n, l, h] = [accounts, lag, horizon].map(|term| term as u64);
+    let times = interleaved(
+        rounds(words),
+        &mut [
+            &mut || {
+                let book = &mut lent.borrow_mut()[..];
+                timed(|| {
+                    let first = large::FIRST_DAY as usize;
+                    let told = robijan::open(black_box(book), accounts, lag, horizon, first);
+                    assert_eq!(told.number, 0);
+                })
+            },
+            &mut || {
+                let book = &mut lent.borrow_mut()[..];
+                timed(|| {
+                    let answer = open(black_box(book), n, l, h, large::FIRST_DAY);
+                    assert_eq!(answer.number, 0);
+                })
+            },
+            &mut copying(&from, &copy),
+        ],
+    );
+    println!("{name}: {words} words");
+    print(&times, &["reference", "copy"], 8 * words);
+}
+
+/// A submission that is accepted, each time to the same book, in the same words.
+pub fn submission(name: &str, book: &[i64], rng: &mut Rng, sections: Sections) {
+    let file = &large::file(rng, book[1] as usize, sections)[..];
+    let through = book.len() + file.len() / 8;
+    let (lent, copy) = (RefCell::new(book.to_vec()), RefCell::new(vec![0; through]));
+    let from = vec![5; through];
+    let times = interleaved(
+        rounds(through),
+        &mut [
+            &mut || {
+                let book = &mut lent.borrow_mut()[..];
+                timed(|| {
+                    let told = robijan::submit(black_box(book), black_box(file));
+                    assert_eq!(told.number, 0);
+                })
+            },
+            &mut || {
+                let book = &mut lent.borrow_mut()[..];
+                timed(|| {
+                    let answer = submit(black_box(book), black_box(file));
+                    assert_eq!(answer.number, 0);
+                })
+            },
+            &mut copying(&from, &copy),
+        ],
+    );
+    println!(
+        "{name}: {} words, {} rows in {} bytes",
+        book.len(),
+        sections.rows(),
+        file.len()
+    );
+    print(&times, &["reference", "copy"], 8 * through);
+}
+
+/// A close that is accepted, of the same words; what it changed is restored outside the timed part.
+pub fn closing(name: &str, book: &[i64]) {
+    let (words, accounts) = (book.len(), book[1] as usize);
+    // Balances, the next day, and the slot of the day settled, which is the first one.
+    let changed = 64 + 8 * accounts + 48 * (4 + 24 * accounts);
+    let (lent, copy) = (RefCell::new(book.to_vec()), RefCell::new(vec![0; words]));
+    let restored = || {
+        let mut lent = lent.borrow_mut();
+        lent[..changed].copy_from_slice(&book[..changed]);
+        lent
+    };
+    let (mut told, mut stated) = (vec![0; accounts + 1], vec![0; accounts + 1]);
+    let times = interleaved(
+        rounds(words),
+        &mut [
+            &mut || {
+                let book = &mut restored()[..];
+                timed(|| {
+                    let told = robijan::close(black_box(book), black_box(&mut told));
+                    assert_eq!(told.number, 0);
+                })
+            },
+            &mut || {
+                let book = &mut restored()[..];
+                timed(|| {
+                    let answer = close(black_box(book), black_box(&mut stated));
+                    assert_eq!(answer.number, 0);
+                })
+            },
+            &mut copying(book, &copy),
+        ],
+    );
+    assert!(told == stated);
+    println!("{name}: {words} words");
+    print(&times, &["reference", "copy"], 8 * words);
+}
+
+/// Shares among so many accounts, of as many residual loads as a batch has.
+pub fn sharing(rng: &mut Rng, accounts: usize) {
+    let uegq: Vec<i64> = (0..accounts).map(|_| rng.between(0, 10_000_000)).collect();
+    let most = 10_000_000 * accounts as i64;
+    let loads: Vec<i64> = (0..BATCH).map(|_| rng.between(-most / 8, most)).collect();
+    let (mut ours, mut theirs) = (vec![0; accounts], vec![0; accounts]);
+    let times = interleaved(
+        501,
+        &mut [
+            &mut || {
+                timed(|| {
+                    for &load in &loads {
+                        let output = black_box(&mut ours);
+                        assert_eq!(robijan::share(black_box(load), black_box(&uegq), output), 0);
+                    }
+                })
+            },
+            &mut || {
+                timed(|| {
+                    for &load in &loads {
+                        let output = black_box(&mut theirs);
+                        assert_eq!(share(black_box(load), black_box(&uegq), output), 0);
+                    }
+                })
+            },
+        ],
+    );
+    assert!(ours == theirs);
+    println!("share among {accounts}: {BATCH} calls");
+    print(&times, &["reference"], 16 * accounts * BATCH);
+}
+
+/// Final statement days, with a list of so many holidays, and dates.
+pub fn days(rng: &mut Rng, listed: usize) {
+    let mut holidays: Vec<i64> = (0..listed).map(|_| rng.between(0, 36_524)).collect();
+    holidays.sort_unstable();
+    holidays.dedup();
+    let days: Vec<i64> = (0..BATCH).map(|_| rng.between(0, 36_400)).collect();
+    let times = interleaved(
+        501,
+        &mut [
+            &mut || {
+                timed(|| {
+                    for &day in &days {
+                        let told = robijan::final_statement(black_box(day), black_box(&holidays));
+                        assert_eq!(told.number, 0);
+                    }
+                })
+            },
+            &mut || {
+                timed(|| {
+                    for &day in &days {
+                        let answer =
+                            calendar::final_statement(black_box(day), black_box(&holidays));
+                        assert_eq!(answer.number, 0);
+                    }
+                })
+            },
+        ],
+    );
+    println!(
+        "final statement, {} holidays: {BATCH} calls",
+        holidays.len()
+    );
+    print(&times, &["reference"], 8 * holidays.len() * BATCH);
+    let times = interleaved(
+        501,
+        &mut [
+            &mut || {
+                timed(|| {
+                    for &day in &days {
+                        let date = robijan::date(black_box(day));
+                        let (year, month) = (date.year as i64, date.month as i64);
+                        let back = robijan::day(year, month, date.day as i64);
+                        assert_eq!(back.day, day as u64);
+                    }
+                })
+            },
+            &mut || {
+                timed(|| {
+                    for &day in &days {
+                        let date = calendar::day_to_date(black_box(day));
+                        let back = calendar::date_to_day(date.year, date.month, date.day);
+                        assert_eq!(back.day, day);
+                    }
+                })
+            },
+        ],
+    );
+    println!("day to date and back: {BATCH} calls of each");
+    print(&times, &["reference"], 0);
+}
+
+/// How the judge and the close grow: the time by word of books of these terms.
+pub fn growth(rng: &mut Rng, all: &[Terms]) {
+    for &terms in all {
+        let book = &large::book(rng, terms, Rows::Mixed)[..];
+        let (words, accounts) = (book.len(), terms.accounts);
+        let changed = 64 + 8 * accounts + 48 * (4 + 24 * accounts);
+        let mut lent = book.to_vec();
+        let mut statement = vec![0; accounts + 1];
+        let times = interleaved(
+            rounds(words) / 3,
+            &mut [
+                &mut || timed(|| assert_eq!(robijan::judge(black_box(book)), 0)),
+                &mut || {
+                    lent[..changed].copy_from_slice(&book[..changed]);
+                    timed(|| {
+                        let told = robijan::close(black_box(&mut lent), black_box(&mut statement));
+                        assert_eq!(told.number, 0);
+                    })
+                },
+            ],
+        );
+        let [judge, close] = [&times[0], &times[1]].map(Times::median);
+        println!(
+            "  {:>2} accounts, lag {}, horizon {:>2}: {words:>7} words, judge {:>7.4} ms, {:.2} ns a word, close {:>7.4} ms, {:.2} ns a word",
+            terms.accounts,
+            terms.lag,
+            terms.horizon,
+            judge * 1e3,
+            judge * 1e9 / words as f64,
+            close * 1e3,
+            close * 1e9 / words as f64,
+        );
+    }
+}
+
+/// Robijan's times and those of the others, and the ratio of Robijan's times to each.
+fn print(times: &[Times], others: &[&str], bytes: usize) {
+    let ours = &times[0];
+    row("Robijan", ours, bytes);
+    println!();
+    for (name, times) in others.iter().zip(&times[1..]) {
+        row(name, times, bytes);
+        let ratio = ours.over(times);
+        let fastest = ours.fastest() / times.fastest();
+        println!(
+            "   {:.2} ({:.2} to {:.2}), {fastest:.2}",
+            ratio.median, ratio.low, ratio.high
+        );
+    }
+}
+
+/// A candidate's times, and its speed over the bytes that the call goes through.
+fn row(name: &str, times: &Times, bytes: usize) {
+    let (median, fastest) = (times.median() * 1e3, times.fastest() * 1e3);
+    print!("  {name:<12} {median:>9.4} ms {fastest:>9.4} ms");
+    if bytes > 0 {
+        print!(" {:>7.2} GB/s", bytes as f64 / times.median() / 1e9);
+    }
+}
