@@ -25,6 +25,11 @@ pub fn lists(rng: &mut Rng, cases: usize, tally: &mut Tally) -> Result<(), Strin
 /// A list on a book of some size, the small ones most often.
 pub fn random_list(rng: &mut Rng) -> List {
     let steps = 10 + rng.below(60);
+    if rng.below(400) == 0 {
+        // The largest book, and calls enough to close some days.
+        let opening = opening(rng, &[32], &[75], &[92]);
+        return list_on(rng, opening, 12);
+    }
     match rng.below(20) {
         0 => {
             let opening = opening(rng, &[4, 8, 12], &[1, 5, 9], &[1, 4, 11]);

@@ -23,14 +23,24 @@ impl Tally {
         }
     }
 
-    /// One case of this kind was answered so by both.
+    /// Without a progress line.
+    pub fn quiet(name: &'static str) -> Tally {
+        Tally::new(name, 0)
+    }
+
+    /// The calls made so far.
+    pub fn calls(&self) -> usize {
+        self.done
+    }
+
+    /// One call of this kind was answered so by both.
     pub fn add(&mut self, kind: &'static str, number: u64, position: u64) {
         let (count, positions) = self.answers.entry(number).or_default();
         *count += 1;
         positions.insert(position);
         self.kinds.entry(kind).or_default()[usize::from(number != 0)] += 1;
         self.done += 1;
-        if self.done % 10_000 == 0 {
+        if self.cases > 0 && self.done.is_multiple_of(10_000) {
             eprint!("\r{}: {} of {}", self.name, self.done, self.cases);
         }
     }
