@@ -13,6 +13,7 @@ pub mod calendar;
 pub mod checker;
 pub mod close;
 pub mod day_amount;
+pub mod frames;
 pub mod generate;
 pub mod history;
 pub mod numbers;

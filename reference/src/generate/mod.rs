@@ -1,6 +1,7 @@
 //! Cases from a fixed seed.
 
 pub mod books;
+pub mod cases;
 pub mod files;
 pub mod inputs;
 pub mod lists;

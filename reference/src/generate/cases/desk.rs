@@ -1,0 +1,150 @@
+//! A book kept through frames, with its history.
+
+use super::Script;
+use crate::book::size;
+use crate::frames::Frame;
+use crate::generate::files::{Draft, DraftRow, Style};
+use crate::history::{History, Key, Opening, METER, VESTING};
+use crate::numbers::ACCEPTED;
+
+pub(super) struct Desk<'a> {
+    pub script: &'a mut Script,
+    pub history: History,
+    pub style: Style,
+    /// Words lent, the book's size and some beyond.
+    pub lent: usize,
+    pub size: usize,
+}
+
+pub(super) fn opening(accounts: u64, lag: u64, horizon: u64, first_day: u64) -> Opening {
+    Opening {
+        accounts,
+        lag,
+        horizon,
+        first_day,
+    }
+}
+
+/// A row with the same values in each interval.
+pub(super) fn even_row(key: Key, count: u8, interval: &[i64]) -> DraftRow {
+    DraftRow {
+        key,
+        count,
+        values: interval.repeat(48),
+    }
+}
+
+/// The row without tender tranches, or with one facility only.
+pub(super) fn slim(row: DraftRow) -> DraftRow {
+    let (kept, width) = match row.key.0 {
+        VESTING => (0, 2 + 2 * usize::from(row.count)),
+        METER => (1, 2 * usize::from(row.count)),
+        _ => return row,
+    };
+    let pairs = row.values.chunks_exact(width).flat_map(|pairs| &pairs[..2]);
+    DraftRow {
+        key: row.key,
+        count: kept,
+        values: pairs.copied().collect(),
+    }
+}
+
+impl<'a> Desk<'a> {
+    pub fn open(script: &'a mut Script, style: Style, opening: Opening) -> Desk<'a> {
+        let Opening {
+            accounts,
+            lag,
+            horizon,
+            first_day,
+        } = opening;
+        let size = size(accounts, lag, horizon).unwrap_or(0) as usize;
+        let lent = size + script.rng.below(4);
+        script.push(Frame::Open {
+            lent,
+            parameters: [accounts, lag, horizon, first_day],
+        });
+        Desk {
+            script,
+            history: History::new(opening),
+            style,
+            lent,
+            size,
+        }
+    }
+
+    pub fn book(&self) -> &[i64] {
+        &self.script.player.book()[..self.size]
+    }
+
+    pub fn submit(&mut self, file: &[u8]) {
+        let figures = self.script.push(Frame::Submit {
+            lent: self.lent,
+            file: file.to_vec(),
+        });
+        self.history.submitted(file, figures[0] as u8);
+    }
+
+    pub fn submit_rows(&mut self, rows: Vec<DraftRow>) {
+        self.submit(&Draft { rows }.bytes());
+    }
+
+    /// A random row for each key; so many in a hundred have all their pairs.
+    pub fn rows(&mut self, keys: &[Key], full: u64) -> Vec<DraftRow> {
+        let accounts = self.history.accounts();
+        let draft = Draft::of(&mut self.script.rng, self.style, accounts, keys);
+        let rows = draft.rows.into_iter();
+        rows.map(|row| {
+            if self.script.rng.percent(full) {
+                row
+            } else {
+                slim(row)
+            }
+        })
+        .collect()
+    }
+
+    /// The keys that the next close needs and the book lacks.
+    pub fn missing(&self) -> Vec<Key> {
+        if self.history.finished() {
+            return Vec::new();
+        }
+        let needed = self.history.needed().into_iter();
+        needed
+            .filter(|key| !self.history.is_in_force(key))
+            .collect()
+    }
+
+    /// Submits what the next close still needs.
+    pub fn feed(&mut self, full: u64) {
+        let keys = self.missing();
+        let rows = self.rows(&keys, full);
+        self.submit_rows(rows);
+    }
+
+    pub fn close(&mut self) {
+        let words = self.history.accounts() + 1 + self.script.rng.below(3);
+        self.close_with(words);
+    }
+
+    /// Closes, the answer being what the history tells.
+    pub fn close_with(&mut self, words: usize) {
+        let (answer, cents) = self.history.expected_close(words);
+        let fill = self.script.rng.word();
+        let figures = self.script.push(Frame::Close {
+            lent: self.lent,
+            fill,
+            statement: words,
+        });
+        let told = [
+            i64::from(answer.number),
+            answer.position as i64,
+            answer.day,
+            answer.residual_count,
+        ];
+        assert_eq!(figures[..4], told);
+        if answer.number == ACCEPTED {
+            assert_eq!(figures[5..][..cents.len()], cents);
+            self.history.closed(words, &answer);
+        }
+    }
+}

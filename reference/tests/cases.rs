@@ -1,0 +1,95 @@
+//! The cases of the test program `replay` show what they are for.
+
+use reference::frames::{Frame, Player, BOOK_WORDS, LIST_WORDS, LONGEST_FILE, MOST_HOLIDAYS};
+use reference::generate::cases::cases;
+use reference::variant::{Context, WRONG};
+use std::collections::{BTreeMap, BTreeSet};
+
+fn lines(context: Context, frames: &[Frame]) -> Vec<String> {
+    let mut player = Player::new(context);
+    frames
+        .iter()
+        .filter_map(|frame| player.play(frame))
+        .collect()
+}
+
+#[test]
+fn every_call_gives_every_number_it_can() {
+    let mut positions: BTreeMap<(String, u8), BTreeSet<u64>> = BTreeMap::new();
+    for line in lines(Context::RIGHT, &cases()) {
+        let mut parts = line.split(' ');
+        let name = parts.next().unwrap().to_owned();
+        let number = parts.next().unwrap().parse().unwrap();
+        let position = parts.next().unwrap().parse().unwrap_or(0);
+        positions
+            .entry((name, number))
+            .or_default()
+            .insert(position);
+    }
+    let expected: [(&str, &[u8]); 13] = [
+        ("open", &[0, 1, 2]),
+        ("submit", &[0, 3, 4, 5, 6, 7, 8]),
+        ("close", &[0, 3, 9, 10, 11]),
+        ("price", &[0, 1]),
+        ("share", &[0, 1, 10]),
+        ("tranche", &[0, 1]),
+        ("date", &[0, 12]),
+        ("day", &[0, 12]),
+        ("weekday", &[0, 12]),
+        ("statement", &[0, 12, 14]),
+        ("business", &[0, 12, 13]),
+        ("final", &[0, 12, 13, 14]),
+        ("due", &[0, 12, 13, 14]),
+    ];
+    let expected: BTreeSet<(String, u8)> = expected
+        .iter()
+        .flat_map(|(name, numbers)| numbers.iter().map(|&number| (name.to_string(), number)))
+        .collect();
+    assert!(positions.keys().eq(expected.iter()));
+    for (name, number, least) in [
+        ("submit", 4, 100),
+        ("submit", 5, 100),
+        ("submit", 6, 10),
+        ("submit", 7, 10),
+        ("submit", 8, 10),
+        ("close", 11, 100),
+    ] {
+        let found = positions[&(name.to_owned(), number)].len();
+        assert!(found >= least, "{name} {number}: {found} positions");
+    }
+}
+
+#[test]
+fn frames_fit_the_program() {
+    for frame in cases() {
+        match frame {
+            Frame::Poke { index, .. } => assert!(index < BOOK_WORDS),
+            Frame::Open { lent, .. } => assert!(lent <= BOOK_WORDS),
+            Frame::Submit { lent, file } => {
+                assert!(lent <= BOOK_WORDS && file.len() <= LONGEST_FILE);
+            }
+            Frame::Close {
+                lent, statement, ..
+            } => assert!(lent <= BOOK_WORDS && statement <= LIST_WORDS),
+            Frame::Price { meps, ieqs } => {
+                assert!(meps.len() <= LIST_WORDS && ieqs.len() <= LIST_WORDS);
+            }
+            Frame::Share { uegqs, output, .. } => {
+                assert!(uegqs.len() <= LIST_WORDS && output <= LIST_WORDS);
+            }
+            Frame::BusinessDay(_, holidays)
+            | Frame::FinalStatement(_, holidays)
+            | Frame::ResidualDue(_, holidays) => assert!(holidays.len() <= MOST_HOLIDAYS),
+            _ => {}
+        }
+    }
+}
+
+#[test]
+fn every_wrong_variant_changes_a_line() {
+    let frames = cases();
+    let right = lines(Context::RIGHT, &frames);
+    for variant in WRONG {
+        assert_ne!(lines(Context::of(variant), &frames), right, "{variant:?}");
+    }
+}
