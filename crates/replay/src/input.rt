@@ -1,0 +1,87 @@
+// Standard input, field by field, little-endian. What is cut off reads as zeros.
+use integer::put_word;
+ghost use mathlib.Core.Path.{_≡_};
+ghost use Prim.Native.Nat.{_≤_, _<_};
+ghost use Rattle.io.specs.Counts.{Counts as Counts·bytes};
+ghost use Rattle.replay.specs.Counts.{Counts};
+
+// The byte that starts a frame; 0 at the end of the input.
+pub fn command() -> u8 {
+    let mut field = [0u8; 1];
+    io::read_full(0, &mut field);
+    field[0]
+}
+
+fn wide(b: u8) -> u64
+    ensures { λ r. ⌜ r < 256 ⌝ }
+{
+    b as u64
+}
+
+// A number of 4 bytes.
+pub fn number() -> u64
+    ensures { λ r. ⌜ r < 4294967296 ⌝ }
+{
+    let mut field = [0u8; 4];
+    io::read_full(0, &mut field);
+    wide(field[0]) + 256 * wide(field[1]) + 65536 * wide(field[2]) + 16777216 * wide(field[3])
+}
+
+// A number of 8 bytes.
+pub fn long() -> usize {
+    let low = number();
+    let high = number();
+    (low + 4294967296 * high) as usize
+}
+
+// A word: 8 bytes, two's complement.
+pub fn word() -> i64 {
+    let low = number();
+    let high = number();
+    if high < 2147483648 {
+        (low + 4294967296 * high) as i64
+    } else {
+        let rest = low + 4294967296 * (high - 2147483648);
+        i64::MIN + rest as i64
+    }
+}
+
+// A number of 4 bytes, or `most` where it is more.
+fn at_most(most: usize) -> usize
+    ensures { λ r. ⌜ r ≤ most ⌝ }
+{
+    let n = number() as usize;
+    if n < most { n } else { most }
+}
+
+// How many words of `space` are meant, from the first on.
+pub fn count(space: &[i64]) -> usize
+    ensures { λ r. ⌜ Counts r (now (space .entry)) ⌝ }
+{
+    at_most(space.len())
+}
+
+// Words, as many as there is room for.
+fn fill(list: &mut [i64]) {
+    for i in 0..list.len() {
+        put_word(list, i, word());
+    }
+}
+
+// A list of words after its count; it stands at the start of `space`.
+pub fn list(space: &mut [i64]) -> usize
+    ensures { λ r. ⌜ Counts r (now (space .exit)) ⌝ }
+{
+    let n = count(space);
+    fill(&mut space[..n]);
+    n
+}
+
+// A file after its length; it stands at the start of `space`.
+pub fn file(space: &mut [u8]) -> usize
+    ensures { λ r. ⌜ Counts·bytes r (now (space .exit)) ⌝ }
+{
+    let n = at_most(space.len());
+    io::read_full(0, &mut space[..n]);
+    n
+}

@@ -1,0 +1,58 @@
+// A test program: calls framed on standard input, a line for what each answers, and a digest or the words of all that was lent to it. Its
+// files stdin and stdout are what the second implementation, reference/, generated.
+mod input; // input.rt: fields of standard input
+mod output; // output.rt: lines of standard output, digests
+mod numbers; // numbers.rt: the number of each answer
+mod book_calls; // book_calls.rt: open, submit, close
+mod rules_calls; // rules_calls.rt: price, share, tranche
+mod calendar_calls; // calendar_calls.rt: the seven calendar calls
+
+use book_calls::close;
+use book_calls::open;
+use book_calls::poke;
+use book_calls::submit;
+use calendar_calls::calendar_call;
+use rules_calls::price;
+use rules_calls::share;
+use rules_calls::tranche;
+
+// The words of the one book: as many as N = 4, L = 75, H = 92 take, and some beyond. The largest book of all, 6,188,672 words, is more than
+// a stack of 8 MB has.
+const BOOK_WORDS: usize = 802000;
+
+// A call on no book; false for a byte that is none.
+fn call_without_book(command: u8) -> bool {
+    match command {
+        b'V' => price(),
+        b'R' => share(),
+        b'T' => tranche(),
+        _ => return calendar_call(command),
+    }
+    true
+}
+
+// One frame; false at the end of the input, or at a byte that starts none.
+fn step(book: &mut [i64]) -> bool {
+    let command = input::command();
+    match command {
+        b'P' => poke(book),
+        b'O' => open(book),
+        b'S' => submit(book),
+        b'C' => close(book),
+        _ => return call_without_book(command),
+    }
+    true
+}
+
+// The frames, one after another.
+fn run(book: &mut [i64]) {
+    let mut turns = u64::MAX;
+    while turns > 0 && step(book) {
+        turns -= 1;
+    }
+}
+
+fn main() {
+    let mut book = [0i64; BOOK_WORDS];
+    run(&mut book);
+}
