@@ -7,6 +7,8 @@
 //! `history` tells a list of calls from their arguments and answers alone,
 //! `generate` makes cases from a fixed seed, `checker` runs one against the
 //! other, and `variant` holds the wrong books which the cases have to show.
+//! `frames` and `player` are the form of the test program `replay`'s input and
+//! output.
 
 pub mod book;
 pub mod calendar;
@@ -17,6 +19,7 @@ pub mod frames;
 pub mod generate;
 pub mod history;
 pub mod numbers;
+pub mod player;
 pub mod reference_price;
 pub mod settle;
 pub mod share;

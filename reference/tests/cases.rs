@@ -1,7 +1,8 @@
 //! The cases of the test program `replay` show what they are for.
 
-use reference::frames::{Frame, Player, BOOK_WORDS, LIST_WORDS, LONGEST_FILE, MOST_HOLIDAYS};
+use reference::frames::{Frame, BOOK_WORDS, LIST_WORDS, LONGEST_FILE, MOST_HOLIDAYS};
 use reference::generate::cases::cases;
+use reference::player::Player;
 use reference::variant::{Context, WRONG};
 use std::collections::{BTreeMap, BTreeSet};
 

@@ -1,6 +1,5 @@
 // Standard input, field by field, little-endian. What is cut off reads as zeros.
 use integer::put_word;
-ghost use mathlib.Core.Path.{_≡_};
 ghost use Prim.Native.Nat.{_≤_, _<_};
 ghost use Rattle.io.specs.Counts.{Counts as Counts·bytes};
 ghost use Rattle.replay.specs.Counts.{Counts};
@@ -12,7 +11,7 @@ pub fn command() -> u8 {
     field[0]
 }
 
-fn wide(b: u8) -> u64
+pub fn wide(b: u8) -> u64
     ensures { λ r. ⌜ r < 256 ⌝ }
 {
     b as u64

@@ -1,5 +1,18 @@
 // A test program: calls framed on standard input, a line for what each answers, and a digest or the words of all that was lent to it. Its
 // files stdin and stdout are what the second implementation, reference/, generated.
+//
+// A frame is a byte and its fields, little-endian: counts of 4 bytes; N, L, H, F and words of 8; a list after its count, a file after its
+// length. `lent` counts the words lent of the book, which stays from frame to frame; `fill` is each word of a statement or output before.
+//
+//     P index, word               the book's word is written      V MEP, IEQ                  price
+//     O lent, N, L, H, F          open                            R R, fill, UEGQ, count      share
+//     S lent, file                submit                          T RVQ, BVQ, MQ              tranche
+//     C lent, fill, count         close                           d, w, s: day                date, weekday, statement day
+//     y year, month, day          day                             b, f: day, holidays         business day, final statement
+//                                                                 m year, month, holidays     residual due day
+//
+// A line has the call's name, number and figures, then what was lent: the digest of the book, a file or a list, the words of a statement or
+// an output.
 mod input; // input.rt: fields of standard input
 mod output; // output.rt: lines of standard output, digests
 mod numbers; // numbers.rt: the number of each answer

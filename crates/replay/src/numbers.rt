@@ -1,8 +1,4 @@
 // Document 01, "Numbers returned": the number of each answer.
-use calendar::BusinessAnswer;
-use calendar::DateAnswer;
-use calendar::DayAnswer;
-use calendar::WeekdayAnswer;
 use rulebook::OpenAnswer;
 use rulebook::ShareAnswer;
 use rulebook::Why;

@@ -1,9 +1,9 @@
 // Standard output: a line a call, its name and figures; and digests of what was lent.
+use crate::input::wide;
 use integer::word_at;
 ghost use mathlib.Core.Path.{_≡_};
-ghost use Prim.Native.Nat.{_+_, _*_, _≤_, _<_, _%_, _^_};
+ghost use Prim.Native.Nat.{_<_};
 ghost use lib.IntN.{natAbs};
-ghost use lib.ListN.{length};
 
 // A digest is below this prime, 2^31 − 1.
 const MODULUS: u64 = 2147483647;
@@ -83,12 +83,6 @@ fn digest_of(list: &[i64]) -> u64 {
         d = more_word(d, word_at(list, i));
     }
     d
-}
-
-fn wide(b: u8) -> u64
-    ensures { λ r. ⌜ r < 256 ⌝ }
-{
-    b as u64
 }
 
 fn file_digest_of(file: &[u8]) -> u64 {

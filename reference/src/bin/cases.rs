@@ -2,8 +2,8 @@
 //! writes DIR/stdin and DIR/stdout, the output being that of the right book or
 //! of a wrong variant. `cases --variants` prints the names of the wrong ones.
 
-use reference::frames::Player;
 use reference::generate::cases::cases;
+use reference::player::Player;
 use reference::variant::{Context, Variant, WRONG};
 use std::path::Path;
 use std::process::ExitCode;

@@ -1,4 +1,5 @@
-//! Closes that lack a datum, at every interval and account of the search.
+//! Closes that lack a datum, at every interval and account of the search, and
+//! books that lack a row of a closed day.
 
 use super::desk::{even_row, opening, Desk};
 use super::Script;
@@ -6,14 +7,20 @@ use crate::generate::files::{DraftRow, Style};
 use crate::history::{Key, METER, NCC, RESIDUAL, VESTING};
 
 pub(super) fn write(script: &mut Script) {
-    for (accounts, lag, horizon, closes) in [(1, 1, 1, 1), (2, 1, 1, 1), (3, 2, 1, 2), (2, 3, 2, 0)]
-    {
+    for (accounts, lag, horizon, closes) in [
+        (1, 1, 1, 1),
+        (2, 1, 1, 1),
+        (3, 2, 1, 2),
+        (2, 3, 2, 0),
+        (1, 3, 1, 5),
+    ] {
         let opening = opening(accounts, lag, horizon, 12_345);
         let mut desk = Desk::open(script, Style::Usual, opening);
         for _ in 0..closes {
             feed_zeros(&mut desk);
             desk.close();
         }
+        closed_flags_off(&mut desk);
         one_row_short(&mut desk);
         feed_zeros(&mut desk);
         flags_off(&mut desk);
@@ -46,6 +53,25 @@ fn one_row_short(desk: &mut Desk) {
         }
     }
     desk.close();
+}
+
+/// Flags of closed days taken away and given back: without a vesting or a meter
+/// row the book is not well formed.
+fn closed_flags_off(desk: &mut Desk) {
+    let closed = *desk.history.open_days(NCC).start()..desk.history.next_day();
+    for day in closed {
+        for account in 0..desk.history.accounts() {
+            for section in [VESTING, METER, RESIDUAL] {
+                for interval in [0, 30, 47] {
+                    let at = flag_at(desk, &(section, account, day), interval);
+                    let kept = desk.book()[at];
+                    desk.script.poke(at, 0);
+                    desk.script.submit(desk.lent, &[0; 8]);
+                    desk.script.poke(at, kept);
+                }
+            }
+        }
+    }
 }
 
 /// Flags of single intervals taken away and given back; words alone tell which

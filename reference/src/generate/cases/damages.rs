@@ -76,7 +76,9 @@ fn heads(desk: &mut Desk) {
 /// A row given twice in its section, rows of other keys before it and between;
 /// one of a closed day, one of no account; and bytes after the end.
 fn repeats(desk: &mut Desk) {
-    for turn in 0..16 {
+    // One account and one day have few files.
+    let turns = if desk.history.accounts() == 1 { 4 } else { 24 };
+    for turn in 0..turns {
         let section = turn % 4;
         let days = desk.history.open_days(section);
         let accounts = if section == NCC {
@@ -89,7 +91,7 @@ fn repeats(desk: &mut Desk) {
             .collect();
         let rng = &mut desk.script.rng;
         rng.shuffle(&mut keys);
-        keys.truncate(1 + rng.below(4));
+        keys.truncate(1 + rng.below(5));
         if keys.is_empty() {
             continue;
         }
@@ -101,7 +103,12 @@ fn repeats(desk: &mut Desk) {
         let late = rng.below(rows.len());
         closed[late].key.2 += rng.pick(&[-100, 100]);
         unknown[late].key.1 += 3;
-        rows.push(rows[rng.below(rows.len())].clone());
+        let mut twice = rows[rng.below(rows.len())].clone();
+        if rng.percent(50) {
+            // The day is judged before the values.
+            twice.values.fill(i64::from(i32::MAX));
+        }
+        rows.push(twice);
         let last = rows.len() - 1;
         let again = rng.below(rows.len());
         rows.swap(again, last);

@@ -12,6 +12,7 @@ pub(super) fn write(script: &mut Script) {
     dates(script);
     business_days(script);
     final_statements(script);
+    last_results(script);
     due_days(script);
     bad_lists(script);
     long_lists(script);
@@ -91,6 +92,21 @@ fn final_statements(script: &mut Script) {
         };
         let holidays = holidays(&mut script.rng, day + 80);
         script.push(Frame::FinalStatement(day, holidays));
+    }
+}
+
+/// Results on the calendar's last day, and just before and past it.
+fn last_results(script: &mut Script) {
+    for day in LAST_DAY - 95..=LAST_DAY - 84 {
+        script.push(Frame::FinalStatement(day, vec![]));
+        for holiday in [LAST_DAY - 1, LAST_DAY] {
+            script.push(Frame::FinalStatement(day, vec![holiday]));
+        }
+    }
+    // From 11 December 2099 to a day before the last.
+    for end in LAST_DAY - 4..=LAST_DAY {
+        let holidays = (LAST_DAY - 20..=end).collect();
+        script.push(Frame::ResidualDue([2099, 10], holidays));
     }
 }
 

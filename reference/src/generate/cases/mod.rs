@@ -13,7 +13,8 @@ mod openings;
 mod words;
 
 use super::Rng;
-use crate::frames::{Frame, Player};
+use crate::frames::Frame;
+use crate::player::Player;
 use crate::variant::Context;
 
 /// All frames, in the order of the program's input.

@@ -1,10 +1,11 @@
 //! Books with a single word off, and words that are no book.
 
-use super::desk::{opening, Desk};
+use super::desk::{even_row, opening, Desk};
 use super::Script;
 use crate::frames::Frame;
 use crate::generate::books::word_case;
 use crate::generate::files::{Draft, STYLES};
+use crate::history::{METER, NCC, RESIDUAL, VESTING};
 
 const EIGHT_ZEROS: [u8; 8] = [0; 8];
 
@@ -35,7 +36,36 @@ pub(super) fn write(script: &mut Script) {
         slot_words(&mut desk);
         lent_words(&mut desk);
     }
+    full_intervals(script);
     wild_headers(script);
+}
+
+/// Every word of an account with all its pairs in use, of a closed day and of
+/// an open one.
+fn full_intervals(script: &mut Script) {
+    let mut desk = Desk::open(script, STYLES[0], opening(2, 1, 1, 16_000));
+    for day in [16_000, 16_001] {
+        let mut rows = vec![even_row((NCC, 0, day), 0, &[9])];
+        for account in 0..2 {
+            let vesting = [5, 100, 6, -100, 7, 300, 8, -300];
+            rows.push(even_row((VESTING, account, day), 3, &vesting));
+            let meter = [10, 1, -20, 2, 30, -3, -40, 4];
+            rows.push(even_row((METER, account, day), 4, &meter));
+            let residual = [3, 4, 200, -200];
+            rows.push(even_row((RESIDUAL, account, day), 0, &residual));
+        }
+        desk.submit_rows(rows);
+        if day == 16_000 {
+            desk.close();
+        }
+    }
+    for slot in 0..2 {
+        let interval = 64 + 16 + 52 * (48 * slot + 5);
+        for index in (interval..interval + 4).chain(interval + 28..interval + 52) {
+            word(&mut desk, index, 100, 100);
+        }
+    }
+    desk.close();
 }
 
 /// Every word before the slots.
