@@ -1,10 +1,11 @@
 // Document 01, "Numbers returned": the table, and the figures of each answer.
 use rulebook::CloseAnswer;
 use rulebook::OpenAnswer;
+use rulebook::ShareAnswer;
 use rulebook::SubmitAnswer;
 use rulebook::Why;
 ghost use mathlib.Core.Path.{_≡_};
-ghost use Rattle.rulebook.specs.Numbers.{whyNumber, ofOpen, ofSubmit, ofClose};
+ghost use Rattle.rulebook.specs.Numbers.{whyNumber, ofOpen, ofSubmit, ofClose, shareNumber};
 
 pub const ACCEPTED: u64 = 0;
 
@@ -123,5 +124,15 @@ pub fn close_count(answer: CloseAnswer) -> usize
         CloseAnswer::Finished => 0,
         CloseAnswer::NoRoom => 0,
         CloseAnswer::DatumMissing(_) => 0,
+    }
+}
+
+pub fn share_number(answer: ShareAnswer) -> u64
+    ensures { λ r. ⌜ r ≡ shareNumber answer ⌝ }
+{
+    match answer {
+        ShareAnswer::Shared => ACCEPTED,
+        ShareAnswer::ShareRefused => OUTSIDE_RANGE,
+        ShareAnswer::OutputTooShort => OUTPUT_TOO_SHORT,
     }
 }

@@ -1,8 +1,8 @@
 // Numbers as text, put into lent bytes from an index on; each call answers the index past its text.
+use integer::any_magnitude;
 ghost use mathlib.Core.Path.{_≡_};
 ghost use mathlib.Core.List.{[], _∷_};
 ghost use Prim.Native.Nat.{_+_, _≤_, _<_};
-ghost use lib.IntN.{natAbs};
 ghost use lib.ListN.{length};
 ghost use Rattle.console.specs.Decimal.{decimal as Decimal·decimal, signedDecimal};
 ghost use Rattle.console.specs.Decimal.{digit as Decimal·digit};
@@ -37,24 +37,12 @@ pub fn put_decimal(line: &mut [u8], at: usize, n: u64) -> usize
     put_byte(line, end, digit(n % 10))
 }
 
-// The magnitude of z. That of the lowest is no i64: one more than the magnitude of its successor.
-fn magnitude(z: i64) -> u64
-    ensures { λ r. ⌜ r ≡ natAbs z ⌝ }
-{
-    if z < 0 {
-        let next = z + 1;
-        integer::magnitude(next) + 1
-    } else {
-        z as u64
-    }
-}
-
 // A signed number.
 pub fn put_signed(line: &mut [u8], at: usize, z: i64) -> usize
     requires { ⌜ at + length (signedDecimal z) ≤ length (now line) ⌝ }
     ensures { λ next. ⌜ Put (now (line .entry)) at (signedDecimal z) (now (line .exit)) next ⌝ }
 {
-    let size = magnitude(z);
+    let size = any_magnitude(z);
     if z < 0 {
         let next = put_byte(line, at, b'-');
         return put_decimal(line, next, size);

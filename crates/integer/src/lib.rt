@@ -78,6 +78,18 @@ pub fn magnitude(z: i64) -> u64
     if z < 0 { (0 - z) as u64 } else { z as u64 }
 }
 
+// The magnitude of any z: that of the lowest is no i64, but one more than the magnitude of its successor.
+pub fn any_magnitude(z: i64) -> u64
+    ensures { λ r. ⌜ r ≡ natAbs z ⌝ }
+{
+    if z < 0 {
+        let next = z + 1;
+        magnitude(next) + 1
+    } else {
+        z as u64
+    }
+}
+
 // m with the sign of z.
 pub fn with_sign(z: i64, m: u64) -> i64
     requires { ⌜ m < 2 ^ 63 ⌝ }

@@ -1,6 +1,5 @@
 // The calls on the book. Each frame says how many of the book's words are lent, from the first on.
 use crate::input;
-use crate::numbers;
 use crate::output;
 use book::open::open_book;
 use closing::close::close as close_book;
@@ -31,7 +30,7 @@ fn open_lent(lent: &mut [i64]) {
     let first = input::long();
     let answer = open_book(lent, accounts, lag, horizon, first);
     output::name(b"open");
-    output::figure(numbers::of_open(answer));
+    output::figure(answers::open_number(answer));
     output::figure(0);
     output::digest(lent);
     output::end();
@@ -45,15 +44,15 @@ pub fn open(book: &mut [i64]) {
 fn print_submitted(answer: SubmitAnswer) {
     match answer {
         SubmitAnswer::Taken => {
-            output::figure(numbers::ACCEPTED);
+            output::figure(answers::ACCEPTED);
             output::figure(0);
         }
         SubmitAnswer::IllFormed => {
-            output::figure(numbers::NOT_WELL_FORMED);
+            output::figure(answers::NOT_WELL_FORMED);
             output::figure(0);
         }
         SubmitAnswer::FileRefused(why, at) => {
-            output::figure(numbers::of_why(why));
+            output::figure(answers::why_number(why));
             output::figure(at as u64);
         }
     }
@@ -89,15 +88,15 @@ fn print_refused(number: u64, position: u64) {
 fn print_closed(answer: CloseAnswer) {
     match answer {
         CloseAnswer::Closed(day, count) => {
-            output::figure(numbers::ACCEPTED);
+            output::figure(answers::ACCEPTED);
             output::figure(0);
             output::figure(day as u64);
             output::figure(count as u64);
         }
-        CloseAnswer::BookIllFormed => print_refused(numbers::NOT_WELL_FORMED, 0),
-        CloseAnswer::Finished => print_refused(numbers::BOOK_FINISHED, 0),
-        CloseAnswer::NoRoom => print_refused(numbers::OUTPUT_TOO_SHORT, 0),
-        CloseAnswer::DatumMissing(flag) => print_refused(numbers::DATUM_ABSENT, flag as u64),
+        CloseAnswer::BookIllFormed => print_refused(answers::NOT_WELL_FORMED, 0),
+        CloseAnswer::Finished => print_refused(answers::BOOK_FINISHED, 0),
+        CloseAnswer::NoRoom => print_refused(answers::OUTPUT_TOO_SHORT, 0),
+        CloseAnswer::DatumMissing(flag) => print_refused(answers::DATUM_ABSENT, flag as u64),
     }
 }
 

@@ -1,6 +1,5 @@
 // The calls of the trading calendar.
 use crate::input;
-use crate::numbers;
 use crate::output;
 use calendar::BusinessAnswer;
 use calendar::DateAnswer;
@@ -19,13 +18,13 @@ const HOLIDAYS: usize = 1200;
 fn print_date(answer: DateAnswer) {
     match answer {
         DateAnswer::On(year, month, day) => {
-            output::figure(numbers::ACCEPTED);
+            output::figure(answers::ACCEPTED);
             output::figure(year as u64);
             output::figure(month as u64);
             output::figure(day as u64);
         }
         DateAnswer::NoSuchDate => {
-            output::figure(numbers::NO_SUCH_DATE);
+            output::figure(answers::NO_SUCH_DATE);
             output::figure(0);
             output::figure(0);
             output::figure(0);
@@ -40,26 +39,26 @@ fn print_numbered(number: u64, figure: u64) {
 
 fn print_day(answer: DayAnswer) {
     match answer {
-        DayAnswer::On(day) => print_numbered(numbers::ACCEPTED, day as u64),
-        DayAnswer::NoSuchDate => print_numbered(numbers::NO_SUCH_DATE, 0),
-        DayAnswer::BadHolidays => print_numbered(numbers::BAD_HOLIDAYS, 0),
-        DayAnswer::PastLastDay => print_numbered(numbers::PAST_LAST_DAY, 0),
+        DayAnswer::On(day) => print_numbered(answers::ACCEPTED, day as u64),
+        DayAnswer::NoSuchDate => print_numbered(answers::NO_SUCH_DATE, 0),
+        DayAnswer::BadHolidays => print_numbered(answers::BAD_HOLIDAYS, 0),
+        DayAnswer::PastLastDay => print_numbered(answers::PAST_LAST_DAY, 0),
     }
 }
 
 fn print_weekday(answer: WeekdayAnswer) {
     match answer {
-        WeekdayAnswer::On(weekday) => print_numbered(numbers::ACCEPTED, weekday as u64),
-        WeekdayAnswer::NoSuchDate => print_numbered(numbers::NO_SUCH_DATE, 0),
+        WeekdayAnswer::On(weekday) => print_numbered(answers::ACCEPTED, weekday as u64),
+        WeekdayAnswer::NoSuchDate => print_numbered(answers::NO_SUCH_DATE, 0),
     }
 }
 
 // 1 is a business day.
 fn print_business(answer: BusinessAnswer) {
     match answer {
-        BusinessAnswer::Judged(business) => print_numbered(numbers::ACCEPTED, business as u64),
-        BusinessAnswer::NoSuchDate => print_numbered(numbers::NO_SUCH_DATE, 0),
-        BusinessAnswer::BadHolidays => print_numbered(numbers::BAD_HOLIDAYS, 0),
+        BusinessAnswer::Judged(business) => print_numbered(answers::ACCEPTED, business as u64),
+        BusinessAnswer::NoSuchDate => print_numbered(answers::NO_SUCH_DATE, 0),
+        BusinessAnswer::BadHolidays => print_numbered(answers::BAD_HOLIDAYS, 0),
     }
 }
 

@@ -15,7 +15,6 @@
 // an output.
 mod input; // input.rt: fields of standard input
 mod output; // output.rt: lines of standard output, digests
-mod numbers; // numbers.rt: the number of each answer
 mod book_calls; // book_calls.rt: open, submit, close
 mod rules_calls; // rules_calls.rt: price, share, tranche
 mod calendar_calls; // calendar_calls.rt: the seven calendar calls

@@ -1,9 +1,9 @@
 // Standard output: a line a call, its name and figures; and digests of what was lent.
 use crate::input::wide;
+use integer::any_magnitude;
 use integer::word_at;
 ghost use mathlib.Core.Path.{_≡_};
 ghost use Prim.Native.Nat.{_<_};
-ghost use lib.IntN.{natAbs};
 
 // A digest is below this prime, 2^31 − 1.
 const MODULUS: u64 = 2147483647;
@@ -25,25 +25,13 @@ pub fn end() {
     io::write_all(1, b"\n");
 }
 
-// The magnitude of any word: that of the lowest is no i64.
-fn magnitude(z: i64) -> u64
-    ensures { λ r. ⌜ r ≡ natAbs z ⌝ }
-{
-    if z < 0 {
-        let next = z + 1;
-        integer::magnitude(next) + 1
-    } else {
-        z as u64
-    }
-}
-
 // A signed figure, after a space.
 pub fn word(z: i64) {
     io::write_all(1, b" ");
     if z < 0 {
         io::write_all(1, b"-");
     }
-    io::print_decimal(1, magnitude(z));
+    io::print_decimal(1, any_magnitude(z));
 }
 
 // Each word of a list.
@@ -72,7 +60,7 @@ fn more_word(d: u64, z: i64) -> u64
     requires { ⌜ d < 2147483647 ⌝ }
     ensures { λ r. ⌜ r < 2147483647 ⌝ }
 {
-    let size = magnitude(z);
+    let size = any_magnitude(z);
     let upper = 2 * (size / 4294967296) + sign(z);
     more(more(d, upper), size % 4294967296)
 }

@@ -1,6 +1,5 @@
 // The calls that hold no book: reference price, shares, tranches.
 use crate::input;
-use crate::numbers;
 use crate::output;
 use rulebook::PriceAnswer;
 use rulebook::TrancheAnswer;
@@ -13,11 +12,11 @@ const LIST_WORDS: usize = 40;
 fn print_priced(answer: PriceAnswer) {
     match answer {
         PriceAnswer::Priced(v) => {
-            output::figure(numbers::ACCEPTED);
+            output::figure(answers::ACCEPTED);
             output::word(v);
         }
         PriceAnswer::PriceRefused => {
-            output::figure(numbers::OUTSIDE_RANGE);
+            output::figure(answers::OUTSIDE_RANGE);
             output::word(0);
         }
     }
@@ -47,7 +46,7 @@ pub fn price() {
 fn share_to(r: i64, uegq: &[i64], lent: &mut [i64]) {
     let answer = shares(r, uegq, lent);
     output::name(b"share");
-    output::figure(numbers::of_share(answer));
+    output::figure(answers::share_number(answer));
     output::digest(uegq);
     output::words(lent);
     output::end();
@@ -70,12 +69,12 @@ pub fn share() {
 fn print_split(answer: TrancheAnswer) {
     match answer {
         TrancheAnswer::Split(first, second) => {
-            output::figure(numbers::ACCEPTED);
+            output::figure(answers::ACCEPTED);
             output::word(first);
             output::word(second);
         }
         TrancheAnswer::TrancheRefused => {
-            output::figure(numbers::OUTSIDE_RANGE);
+            output::figure(answers::OUTSIDE_RANGE);
             output::word(0);
             output::word(0);
         }

@@ -1,12 +1,11 @@
 // The calls that hold no book: reference price, shares, tranches.
 use rulebook::PriceAnswer;
-use rulebook::ShareAnswer;
 use rulebook::TrancheAnswer;
 use rules::price::reference_price;
 use rules::share::shares;
 use rules::tranche::tranches;
 ghost use mathlib.Core.Path.{_≡_};
-ghost use Rattle.rulebook.specs.Numbers.{priceReturned, shareNumber, trancheReturned};
+ghost use Rattle.rulebook.specs.Numbers.{priceReturned, trancheReturned};
 ghost use Rattle.rulebook.specs.Calls.{priceCall, shareCall, trancheCall};
 
 // The number of a call, and the reference price V, in cents per MWh.
@@ -36,16 +35,6 @@ fn of_price(answer: PriceAnswer) -> ReferencePrice
             number: answers::OUTSIDE_RANGE,
             price: 0,
         },
-    }
-}
-
-fn of_share(answer: ShareAnswer) -> u64
-    ensures { λ r. ⌜ r ≡ shareNumber answer ⌝ }
-{
-    match answer {
-        ShareAnswer::Shared => answers::ACCEPTED,
-        ShareAnswer::ShareRefused => answers::OUTSIDE_RANGE,
-        ShareAnswer::OutputTooShort => answers::OUTPUT_TOO_SHORT,
     }
 }
 
@@ -79,7 +68,7 @@ pub extern "C" fn robijan_price(mep: &[i64], ieq: &[i64]) -> ReferencePrice
 pub extern "C" fn robijan_share(residual: i64, uegq: &[i64], output: &mut [i64]) -> u64
     ensures { λ r. ⌜ record { number = r; output = now (output .exit) } ≡ shareCall residual (now (uegq .entry)) (now (output .entry)) ⌝ }
 {
-    of_share(shares(residual, uegq, output))
+    answers::share_number(shares(residual, uegq, output))
 }
 
 // Both tranches of a share.

@@ -9,8 +9,8 @@ use Rattle.robijan.proofs.rules_calls.robijan_share.Tie as tie
 shares-requires : tie.Need-shares-requires
 shares-requires c κs = search needs
 
-of-share-requires : tie.Need-of-share-requires
-of-share-requires c κs = search needs
+share-number-requires : tie.Need-share-number-requires
+share-number-requires c κs = search needs
 
 same-length : tie.Need-same-length
 same-length c = search needs
@@ -19,7 +19,7 @@ returns : tie.Need-returns
 returns c =
     let a = c .before .before .before .before .args in
     let x : toZ w64 (ofZ w64 (a .residual)) ≡ a .residual = search needs in
-    rw (c .of-share .ensures) (rw x at (c .before .before .shares .ensures))
+    rw (c .share-number .ensures) (rw x at (c .before .before .shares .ensures))
 
 pub robijan-share-spec : {M : Type 1} → statement M
-robijan-share-spec = tie.close (tie.spec shares-requires of-share-requires same-length returns)
+robijan-share-spec = tie.close (tie.spec shares-requires share-number-requires same-length returns)

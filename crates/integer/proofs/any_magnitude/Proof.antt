@@ -1,4 +1,4 @@
--- `magnitude` meets its contract: the parts of z and of its successor, read by omega.
+-- `any_magnitude` meets its contract: the parts of z and of its successor, read by omega.
 use borrow.Author.Needs.{needs}
 use mathlib.Core.Path.{_≡_}
 use Prim.Native.Nat.{_+_, _^_, _<_}
@@ -6,11 +6,11 @@ use lib.IntN.{ℤ, pos, natAbs, _+ℤ_}
 use mir.Syntax.{w64}
 use mir.Val.{SFits, toZ, ofZ}
 use mir.Facts.{toZ-ofZ}
 use Rattle.integer.specs.Integer.{negative}
 use Rattle.integer.specs.IntegerLaws.{int, parts, add-parts, fits-abs}
 use Rattle.integer.specs.Bits.{known}
-use Rattle.console.proofs.decimal.magnitude.Statement.{statement}
-use Rattle.console.proofs.decimal.magnitude.Tie as tie
+use Rattle.integer.proofs.any_magnitude.Statement.{statement}
+use Rattle.integer.proofs.any_magnitude.Tie as tie
 
 module _ (z : ℤ) (f : SFits w64 z) (h : 0 < negative z) where
   next-abs : natAbs (z +ℤ pos 1) + 1 ≡ natAbs z
@@ -51,6 +51,6 @@ returns c =
 returns-2 : tie.Need-returns-2
 returns-2 c = search needs
 
-pub magnitude-spec : {M : Type 1} → statement M
-magnitude-spec =
+pub any-magnitude-spec : {M : Type 1} → statement M
+any-magnitude-spec =
     tie.close (tie.spec add-next magnitude-requires add-result cast-result returns returns-2)
