@@ -1,14 +1,12 @@
 // The calls on the book. Each frame says how many of the book's words are lent, from the first on.
 use crate::input;
 use crate::output;
-use book::open::open_book;
-use closing::close::close as close_book;
 use integer::put_word;
-use rulebook::CloseAnswer;
-use rulebook::SubmitAnswer;
-use submission::submit::submit as submit_file;
+use robijan::book_calls::robijan_close;
+use robijan::book_calls::robijan_open;
+use robijan::book_calls::robijan_submit;
 
-// The longest file: three tranches, four facilities, residual and NCC rows of a day of 32 accounts.
+// Three tranches, four facilities, residual and NCC rows of a day of 32 accounts are fewer.
 const FILE_BYTES: usize = 131072;
 
 const STATEMENT_WORDS: usize = 40;
@@ -22,16 +20,15 @@ pub fn poke(book: &mut [i64]) {
     }
 }
 
-// Opens the lent words.
 fn open_lent(lent: &mut [i64]) {
     let accounts = input::long();
     let lag = input::long();
     let horizon = input::long();
     let first = input::long();
-    let answer = open_book(lent, accounts, lag, horizon, first);
+    let answer = robijan_open(lent, accounts, lag, horizon, first);
     output::name(b"open");
-    output::figure(answers::open_number(answer));
-    output::figure(0);
+    output::figure(answer.number);
+    output::figure(answer.position);
     output::digest(lent);
     output::end();
 }
@@ -41,27 +38,11 @@ pub fn open(book: &mut [i64]) {
     open_lent(&mut book[..n]);
 }
 
-fn print_submitted(answer: SubmitAnswer) {
-    match answer {
-        SubmitAnswer::Taken => {
-            output::figure(answers::ACCEPTED);
-            output::figure(0);
-        }
-        SubmitAnswer::IllFormed => {
-            output::figure(answers::NOT_WELL_FORMED);
-            output::figure(0);
-        }
-        SubmitAnswer::FileRefused(why, at) => {
-            output::figure(answers::why_number(why));
-            output::figure(at as u64);
-        }
-    }
-}
-
 fn submit_lent(lent: &mut [i64], file: &[u8]) {
-    let answer = submit_file(lent, file);
+    let answer = robijan_submit(lent, file);
     output::name(b"submit");
-    print_submitted(answer);
+    output::figure(answer.number);
+    output::figure(answer.position);
     output::digest(lent);
     output::file_digest(file);
     output::end();
@@ -78,32 +59,13 @@ pub fn submit(book: &mut [i64]) {
     submit_from(&mut book[..n], &mut space);
 }
 
-fn print_refused(number: u64, position: u64) {
-    output::figure(number);
-    output::figure(position);
-    output::figure(0);
-    output::figure(0);
-}
-
-fn print_closed(answer: CloseAnswer) {
-    match answer {
-        CloseAnswer::Closed(day, count) => {
-            output::figure(answers::ACCEPTED);
-            output::figure(0);
-            output::figure(day as u64);
-            output::figure(count as u64);
-        }
-        CloseAnswer::BookIllFormed => print_refused(answers::NOT_WELL_FORMED, 0),
-        CloseAnswer::Finished => print_refused(answers::BOOK_FINISHED, 0),
-        CloseAnswer::NoRoom => print_refused(answers::OUTPUT_TOO_SHORT, 0),
-        CloseAnswer::DatumMissing(flag) => print_refused(answers::DATUM_ABSENT, flag as u64),
-    }
-}
-
 fn close_lent(lent: &mut [i64], statement: &mut [i64]) {
-    let answer = close_book(lent, statement);
+    let answer = robijan_close(lent, statement);
     output::name(b"close");
-    print_closed(answer);
+    output::figure(answer.number);
+    output::figure(answer.position);
+    output::figure(answer.day);
+    output::figure(answer.count);
     output::digest(lent);
     output::words(statement);
     output::end();

@@ -1,71 +1,30 @@
 // The calls of the trading calendar.
 use crate::input;
 use crate::output;
-use calendar::BusinessAnswer;
-use calendar::DateAnswer;
-use calendar::DayAnswer;
-use calendar::WeekdayAnswer;
-use calendar::business_day;
-use calendar::date_of;
-use calendar::day_of;
-use calendar::final_statement;
-use calendar::residual_due;
-use calendar::statement_day;
-use calendar::weekday;
+use robijan::calendar_calls::Day;
+use robijan::calendar_calls::robijan_business_day;
+use robijan::calendar_calls::robijan_date;
+use robijan::calendar_calls::robijan_day;
+use robijan::calendar_calls::robijan_final_statement;
+use robijan::calendar_calls::robijan_residual_due;
+use robijan::calendar_calls::robijan_statement_day;
+use robijan::calendar_calls::robijan_weekday;
 
 const HOLIDAYS: usize = 1200;
 
-fn print_date(answer: DateAnswer) {
-    match answer {
-        DateAnswer::On(year, month, day) => {
-            output::figure(answers::ACCEPTED);
-            output::figure(year as u64);
-            output::figure(month as u64);
-            output::figure(day as u64);
-        }
-        DateAnswer::NoSuchDate => {
-            output::figure(answers::NO_SUCH_DATE);
-            output::figure(0);
-            output::figure(0);
-            output::figure(0);
-        }
-    }
-}
-
-fn print_numbered(number: u64, figure: u64) {
-    output::figure(number);
-    output::figure(figure);
-}
-
-fn print_day(answer: DayAnswer) {
-    match answer {
-        DayAnswer::On(day) => print_numbered(answers::ACCEPTED, day as u64),
-        DayAnswer::NoSuchDate => print_numbered(answers::NO_SUCH_DATE, 0),
-        DayAnswer::BadHolidays => print_numbered(answers::BAD_HOLIDAYS, 0),
-        DayAnswer::PastLastDay => print_numbered(answers::PAST_LAST_DAY, 0),
-    }
-}
-
-fn print_weekday(answer: WeekdayAnswer) {
-    match answer {
-        WeekdayAnswer::On(weekday) => print_numbered(answers::ACCEPTED, weekday as u64),
-        WeekdayAnswer::NoSuchDate => print_numbered(answers::NO_SUCH_DATE, 0),
-    }
-}
-
-// 1 is a business day.
-fn print_business(answer: BusinessAnswer) {
-    match answer {
-        BusinessAnswer::Judged(business) => print_numbered(answers::ACCEPTED, business as u64),
-        BusinessAnswer::NoSuchDate => print_numbered(answers::NO_SUCH_DATE, 0),
-        BusinessAnswer::BadHolidays => print_numbered(answers::BAD_HOLIDAYS, 0),
-    }
+fn print_day(answer: Day) {
+    output::figure(answer.number);
+    output::figure(answer.day);
 }
 
 fn day_to_date() {
     let day = input::word();
+    let date = robijan_date(day);
     output::name(b"date");
-    print_date(date_of(day));
+    output::figure(date.number);
+    output::figure(date.year);
+    output::figure(date.month);
+    output::figure(date.day);
     output::end();
 }
 
@@ -74,27 +33,31 @@ fn date_to_day() {
     let month = input::word();
     let day = input::word();
     output::name(b"day");
-    print_day(day_of(year, month, day));
+    print_day(robijan_day(year, month, day));
     output::end();
 }
 
 fn day_to_weekday() {
     let day = input::word();
+    let answer = robijan_weekday(day);
     output::name(b"weekday");
-    print_weekday(weekday(day));
+    output::figure(answer.number);
+    output::figure(answer.weekday);
     output::end();
 }
 
 fn day_to_statement() {
     let day = input::word();
     output::name(b"statement");
-    print_day(statement_day(day));
+    print_day(robijan_statement_day(day));
     output::end();
 }
 
 fn business_with(day: i64, holidays: &[i64]) {
+    let answer = robijan_business_day(day, holidays);
     output::name(b"business");
-    print_business(business_day(day, holidays));
+    output::figure(answer.number);
+    output::figure(answer.business);
     output::digest(holidays);
     output::end();
 }
@@ -112,7 +75,7 @@ fn business() {
 
 fn final_with(day: i64, holidays: &[i64]) {
     output::name(b"final");
-    print_day(final_statement(day, holidays));
+    print_day(robijan_final_statement(day, holidays));
     output::digest(holidays);
     output::end();
 }
@@ -130,7 +93,7 @@ fn day_to_final() {
 
 fn due_with(year: i64, month: i64, holidays: &[i64]) {
     output::name(b"due");
-    print_day(residual_due(year, month, holidays));
+    print_day(robijan_residual_due(year, month, holidays));
     output::digest(holidays);
     output::end();
 }

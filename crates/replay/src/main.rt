@@ -1,5 +1,5 @@
-// A test program: calls framed on standard input, a line for what each answers, and a digest or the words of all that was lent to it. Its
-// files stdin and stdout are what the second implementation, reference/, generated.
+// A test program: calls of the library `robijan` framed on standard input, a line for what each answers, and a digest or the words of all
+// that was lent to it. Its files stdin and stdout are what the second implementation, reference/, generated.
 //
 // A frame is a byte and its fields, little-endian: counts of 4 bytes; N, L, H, F and words of 8; a list after its count, a file after its
 // length. `lent` counts the words lent of the book, which stays from frame to frame; `fill` is each word of a statement or output before.

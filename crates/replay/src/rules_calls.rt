@@ -1,31 +1,17 @@
 // The calls that hold no book: reference price, shares, tranches.
 use crate::input;
 use crate::output;
-use rulebook::PriceAnswer;
-use rulebook::TrancheAnswer;
-use rules::price::reference_price;
-use rules::share::shares;
-use rules::tranche::tranches;
+use robijan::rules_calls::robijan_price;
+use robijan::rules_calls::robijan_share;
+use robijan::rules_calls::robijan_tranche;
 
 const LIST_WORDS: usize = 40;
 
-fn print_priced(answer: PriceAnswer) {
-    match answer {
-        PriceAnswer::Priced(v) => {
-            output::figure(answers::ACCEPTED);
-            output::word(v);
-        }
-        PriceAnswer::PriceRefused => {
-            output::figure(answers::OUTSIDE_RANGE);
-            output::word(0);
-        }
-    }
-}
-
 fn price_of(mep: &[i64], ieq: &[i64]) {
-    let answer = reference_price(mep, ieq);
+    let answer = robijan_price(mep, ieq);
     output::name(b"price");
-    print_priced(answer);
+    output::figure(answer.number);
+    output::word(answer.price);
     output::digest(mep);
     output::digest(ieq);
     output::end();
@@ -44,9 +30,9 @@ pub fn price() {
 }
 
 fn share_to(r: i64, uegq: &[i64], lent: &mut [i64]) {
-    let answer = shares(r, uegq, lent);
+    let number = robijan_share(r, uegq, lent);
     output::name(b"share");
-    output::figure(answers::share_number(answer));
+    output::figure(number);
     output::digest(uegq);
     output::words(lent);
     output::end();
@@ -66,27 +52,14 @@ pub fn share() {
     share_from(r, &mut uegqs, &mut space);
 }
 
-fn print_split(answer: TrancheAnswer) {
-    match answer {
-        TrancheAnswer::Split(first, second) => {
-            output::figure(answers::ACCEPTED);
-            output::word(first);
-            output::word(second);
-        }
-        TrancheAnswer::TrancheRefused => {
-            output::figure(answers::OUTSIDE_RANGE);
-            output::word(0);
-            output::word(0);
-        }
-    }
-}
-
 pub fn tranche() {
     let rvq = input::word();
     let bvq = input::word();
     let mq = input::word();
-    let answer = tranches(rvq, bvq, mq);
+    let answer = robijan_tranche(rvq, bvq, mq);
     output::name(b"tranche");
-    print_split(answer);
+    output::figure(answer.number);
+    output::word(answer.first);
+    output::word(answer.second);
     output::end();
 }
