@@ -1,5 +1,7 @@
-//! Interleaved timing: each round times every candidate once, beginning with another one each round.
+//! Interleaved timing: each round times every candidate once, in an order that chance gives, so that none always finds the memory as the
+//! same other one left it.
 
+use reference::generate::Rng;
 use std::time::{Duration, Instant};
 
 /// The times of one candidate, in seconds, by round.
@@ -10,9 +12,11 @@ pub struct Times(Vec<f64>);
 pub fn interleaved(rounds: usize, candidates: &mut [&mut dyn FnMut() -> Duration]) -> Vec<Times> {
     let count = candidates.len();
     let mut times: Vec<Times> = (0..count).map(|_| Times(Vec::new())).collect();
+    let mut rng = Rng::new(395);
+    let mut order: Vec<usize> = (0..count).collect();
     for round in 0..=rounds {
-        for turn in 0..count {
-            let which = (turn + round) % count;
+        rng.shuffle(&mut order);
+        for &which in &order {
             let taken = candidates[which]().as_secs_f64();
             if round > 0 {
                 times[which].0.push(taken);
