@@ -1,35 +1,55 @@
 //! The benchmark. Times are those of interleaved rounds in milliseconds, the median and the fastest; a ratio is that of the times of one
 //! round, told by its median and its 10th and 90th percentile, beside the ratio of the fastest. A first round, not counted, warms every
-//! buffer.
+//! buffer. Words: which parts to run, of `books`, `small`, `none` and `growth`; all without a word.
 
 use bench::large::{self, Rows, Sections, Terms};
 use bench::measures;
 use reference::generate::Rng;
 
 fn main() {
+    let parts: [(&str, fn(&mut Rng)); 4] = [
+        ("books", books),
+        ("small", small),
+        ("none", no_book),
+        ("growth", growth),
+    ];
+    let wanted: Vec<String> = std::env::args().skip(1).collect();
     println!("median and fastest of interleaved rounds, buffers warmed; GB/s at the median; Robijan / other: median (10th to 90th percentile), fastest / fastest");
-    let mut rng = Rng::new(395);
+    for (name, part) in parts {
+        if wanted.is_empty() || wanted.iter().any(|word| word == name) {
+            part(&mut Rng::new(395));
+        }
+    }
+}
+
+/// Every call on books of the longest lag and horizon.
+fn books(rng: &mut Rng) {
     for accounts in [1, 8, 32] {
         println!("\n{accounts} accounts, lag 75, horizon 92");
-        calls(&mut rng, Terms::longest(accounts));
+        calls(rng, Terms::longest(accounts));
     }
-    println!("\nsmall books");
-    small(&mut rng);
+}
+
+/// Calls that hold no book.
+fn no_book(rng: &mut Rng) {
     println!("\nno book");
     for accounts in [1, 8, 32] {
-        measures::sharing(&mut rng, accounts);
+        measures::sharing(rng, accounts);
     }
-    measures::days(&mut rng, 500);
-    println!("\ngrowth, by accounts and by horizon, every row, mixed counts");
+    measures::days(rng, 500);
+}
+
+fn growth(rng: &mut Rng) {
+    println!("\ngrowth, by accounts and by horizon, every row, mixed counts, fastest rounds");
     let terms = |accounts, horizon| Terms {
         accounts,
         lag: 75,
         horizon,
     };
     let accounts = [1, 2, 4, 8, 16, 32].map(|accounts| terms(accounts, 92));
-    measures::growth(&mut rng, &accounts);
+    measures::growth(rng, &accounts);
     let horizons = [1, 12, 23, 46, 92].map(|horizon| terms(32, horizon));
-    measures::growth(&mut rng, &horizons);
+    measures::growth(rng, &horizons);
 }
 
 /// Every call on books of these terms.
@@ -66,6 +86,7 @@ fn calls(rng: &mut Rng, terms: Terms) {
 
 /// Calls in which the judge's pass over the book counts for less.
 fn small(rng: &mut Rng) {
+    println!("\nsmall books");
     let terms = |accounts| Terms {
         accounts,
         lag: 1,

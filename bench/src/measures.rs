@@ -252,7 +252,7 @@ pub fn days(rng: &mut Rng, listed: usize) {
     print(&times, &["reference"], 0);
 }
 
-/// How the judge and the close grow: the time by word of books of these terms.
+/// How the judge and the close grow: the fastest round, and its time by word, of books of these terms.
 pub fn growth(rng: &mut Rng, all: &[Terms]) {
     for &terms in all {
         let book = &large::book(rng, terms, Rows::Mixed)[..];
@@ -261,7 +261,7 @@ pub fn growth(rng: &mut Rng, all: &[Terms]) {
         let mut lent = book.to_vec();
         let mut statement = vec![0; accounts + 1];
         let times = interleaved(
-            rounds(words) / 3,
+            rounds(words),
             &mut [
                 &mut || timed(|| assert_eq!(robijan::judge(black_box(book)), 0)),
                 &mut || {
@@ -273,7 +273,7 @@ pub fn growth(rng: &mut Rng, all: &[Terms]) {
                 },
             ],
         );
-        let [judge, close] = [&times[0], &times[1]].map(Times::median);
+        let [judge, close] = [&times[0], &times[1]].map(Times::fastest);
         println!(
             "  {:>2} accounts, lag {}, horizon {:>2}: {words:>7} words, judge {:>7.4} ms, {:.2} ns a word, close {:>7.4} ms, {:.2} ns a word",
             terms.accounts,
