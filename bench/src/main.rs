@@ -6,16 +6,20 @@ use bench::large::{self, Rows, Sections, Terms};
 use bench::measures;
 use reference::generate::Rng;
 
+/// A part of the benchmark.
+type Part = fn(&mut Rng);
+
+const PARTS: [(&str, Part); 4] = [
+    ("books", books),
+    ("small", small),
+    ("none", no_book),
+    ("growth", growth),
+];
+
 fn main() {
-    let parts: [(&str, fn(&mut Rng)); 4] = [
-        ("books", books),
-        ("small", small),
-        ("none", no_book),
-        ("growth", growth),
-    ];
     let wanted: Vec<String> = std::env::args().skip(1).collect();
     println!("median and fastest of interleaved rounds, buffers warmed; GB/s at the median; Robijan / other: median (10th to 90th percentile), fastest / fastest");
-    for (name, part) in parts {
+    for (name, part) in PARTS {
         if wanted.is_empty() || wanted.iter().any(|word| word == name) {
             part(&mut Rng::new(395));
         }
