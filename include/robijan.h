@@ -7,10 +7,12 @@
  * The library needs memcpy and memset of the C library and nothing else.
  *
  * WHAT IT KEEPS. Accounts hold vesting contracts, which fix the price of a quantity for each of a day's 48 half-hours. A book is opened for
- * some accounts, takes submission files with the data of each account and day, and is closed day by day. A close posts to each account, in
- * whole cents, what its contracts come to against the reference price V of that day, and, once `lag` days have passed since the book's first
- * day, its share of the load that no contract covered `lag` days earlier. The MSSL (the buyer for small consumers) is posted minus the sum,
- * so that all balances always total zero.
+ * some accounts, takes submission files with the data of each account and day, and is closed day by day. A close posts to each account one
+ * amount, in whole cents. Summed over the day's intervals it is what the contracts come to, (contract price - V) * quantity, with V the
+ * account's own reference price at that interval; and from day first + lag on, what its share of the load that no contract covered `lag` days
+ * earlier comes to, (RVP1 - V) * first part + (RVP2 - V) * second part, with the V, prices and quantities of that earlier day. The day's sum is
+ * rounded once, to the nearest cent, a tie away from zero. The MSSL (the buyer for small consumers) is posted minus the sum of these amounts,
+ * so that the balances of a book that only these calls have changed total zero.
  *
  * UNITS
  *   day              days since 1 January 2000, 0 to 36,524 (31 December 2099); 1 January 2026 is 9,497
@@ -50,8 +52,8 @@ enum {
     ROBIJAN_ACCEPTED = 0,
     ROBIJAN_OUTSIDE_RANGE = 1,       /* a parameter, or a list's length, outside its range; MEP and IEQ lists of unequal length */
     ROBIJAN_WORDS_TOO_FEW = 2,       /* an opening got fewer words than the book takes */
-    ROBIJAN_NOT_WELL_FORMED = 3,     /* the words lent are no book as the calls leave one */
-    ROBIJAN_FIELD_NOT_WHOLE = 4,     /* the file ends within the field at byte `position` */
+    ROBIJAN_NOT_WELL_FORMED = 3,     /* the words lent are not a well-formed book */
+    ROBIJAN_FIELD_NOT_WHOLE = 4,     /* the file ends before or within the field at byte `position` */
     ROBIJAN_FIELD_OUT_OF_RANGE = 5,  /* the account, count or value at byte `position` is out of range */
     ROBIJAN_DAY_NOT_OPEN = 6,        /* the day at byte `position` takes no such row, or none any more */
     ROBIJAN_ROW_REPEATED = 7,        /* the row whose day is at byte `position` was given earlier in the same section */
@@ -83,9 +85,11 @@ typedef struct { uint64_t number, business; } robijan_business_answer;
  *
  * A book takes 64 + 8 * accounts + 48 * (lag + horizon) * (4 + 24 * accounts) words: 5,072 for 2 accounts, lag 1 and horizon 1, and
  * 6,188,672 (49.5 MB) for the largest. More words may be lent; those beyond are neither read nor written. These words may be read at any
- * time; all others are the library's. A book that another hand has changed is refused, unless it could be one that calls left. */
+ * time; all others are the library's. A book that another hand has changed is refused only where its form shows it: ranges, zeros, rows of
+ * closed days, bounds of balances. A price or a balance changed within its range is not noticed. */
 enum {
-    ROBIJAN_WORD_NEXT_DAY = 5,       /* the next day to close */
+    ROBIJAN_WORD_ACCOUNTS = 1,
+    ROBIJAN_WORD_NEXT_DAY = 5,       /* the next day to close; 36,525 when all are closed */
     ROBIJAN_WORD_MSSL_BALANCE = 6
 };
 #define ROBIJAN_WORD_BALANCE(account) (64 + 8 * (account))
@@ -98,8 +102,8 @@ robijan_answer robijan_open(int64_t *book, size_t book_words, size_t accounts, s
 
 /* Takes a whole submission file, or refuses it and stores nothing of it. Refused: 3, then 4 to 8 at the first faulty field, in file order.
  *
- * A file has four sections, each a count of rows (2 bytes) and then its rows, in any order. All is little-endian; a value is 4 bytes in
- * two's complement, and a row has its values interval by interval. With C the next day to close:
+ * A file has four sections in this order, each a count of rows (2 bytes) and then that many rows in any order. All is little-endian; a value
+ * is 4 bytes in two's complement, and a row has the values of interval 0, then of 1, to 47. With C the next day to close:
  *
  *   section       a row                                                                           days
  *   1 vesting     account (1 byte), day (2), tender contracts 0 to 3 (1); BVQ, BVP, and for each   C to C + horizon - 1
@@ -107,7 +111,7 @@ robijan_answer robijan_open(int64_t *book, size_t book_words, size_t accounts, s
  *   2 meter       account, day, facilities 1 to 4 (1); for each facility MEP, IEQ: its price       C to C + horizon - 1
  *                 and metered injection
  *   3 residual    account, day; UEGQ (spare generation), MQ (the most that the base contract       C - lag to C + horizon - 1,
- *                 could have given), RVP1, RVP2 (prices of the share's two parts)                  from the first day on
+ *                 could have given; 0 without one), RVP1, RVP2 (prices of the share's two parts)   from the first day on
  *   4 NCC         day; NCC load                                                                    as in section 3
  *
  * No day is past 36,524. A row given again in a later file replaces the one before. Eight zero bytes are a file without rows. */
@@ -119,7 +123,7 @@ robijan_answer robijan_submit(int64_t *book, size_t book_words, const uint8_t *f
  * Refused: 3, 9, 10, 11. */
 robijan_close_answer robijan_close(int64_t *book, size_t book_words, int64_t *statement, size_t statement_words);
 
-/* 0 for a book as calls leave one, else 3. The other calls ask this themselves. */
+/* 0 for a well-formed book, as every call leaves it; else 3. The other calls ask this themselves. */
 uint64_t robijan_judge(const int64_t *book, size_t book_words);
 
 /* ---- Reference price, shares, tranches: no book */
@@ -129,10 +133,12 @@ uint64_t robijan_judge(const int64_t *book, size_t book_words);
 robijan_price_answer robijan_price(const int64_t *mep, size_t meps, const int64_t *ieq, size_t ieqs);
 
 /* Shares the residual load (-1,280,000,000 to 1,000,000,000 kWh) among 1 to 32 accounts in proportion to their spare generation, each at
- * most that, rounded down; one word an account is written, words beyond are kept. Returns the number. Refused: 1, 10. */
+ * most that, rounded down, and zeros where the residual is 0 or less or there is none to spare; one word an account is written, words beyond
+ * are kept. Returns the number. Refused: 1, 10. */
 uint64_t robijan_share(int64_t residual, const int64_t *uegq, size_t uegqs, int64_t *output, size_t output_words);
 
-/* The parts of a share: `first` is at most what the base contract (BVQ) left of MQ, `second` the rest. Refused: 1. */
+/* The parts of a share, all three being quantities: `first` is at most what the base contract (BVQ) left of MQ, 0 where BVQ is MQ or more;
+ * `second` is the rest. Refused: 1. */
 robijan_tranche_answer robijan_tranche(int64_t rvq, int64_t bvq, int64_t mq);
 
 /* ---- The trading calendar: no book. Holidays are days, strictly ascending. */
@@ -152,7 +158,7 @@ robijan_day_answer robijan_statement_day(int64_t day);
 /* 1 for Monday to Friday and no holiday, else 0. Refused: 12, 13. */
 robijan_business_answer robijan_business_day(int64_t day, const int64_t *holidays, size_t listed);
 
-/* The tenth business day after the statement day. Refused: 12, 13, 14. */
+/* The tenth business day after the statement day of `day`, which is 75 days later. Refused: 12, 13, 14. */
 robijan_day_answer robijan_final_statement(int64_t day, const int64_t *holidays, size_t listed);
 
 /* When a month's residual data fall due: the first business day after the 10th of the second month following. Refused: 12, 13, 14. */

@@ -154,7 +154,7 @@ pub fn close(book: &mut [i64], statement: &mut [i64]) -> Result<Closed, Refusal>
     told(answer.number, answer.position, closed)
 }
 
-/// Are these words a book as calls leave one? The other calls ask this themselves.
+/// Are these words a well-formed book, as every call leaves one? The other calls ask this themselves.
 ///
 /// ```
 /// let mut book = vec![0; 5_072];
@@ -167,7 +167,7 @@ pub fn judge(book: &[i64]) -> Result<(), Refusal> {
     told(raw::judge(book), 0, ())
 }
 
-/// The next day that an opened book will close.
+/// The next day that an opened book will close; 36,525 when all are closed.
 ///
 /// ```
 /// let mut book = vec![0; 5_072];

@@ -5,9 +5,9 @@ pub const ACCEPTED: u64 = 0;
 pub const OUTSIDE_RANGE: u64 = 1;
 /// An opening got fewer words than the book takes.
 pub const WORDS_TOO_FEW: u64 = 2;
-/// The words lent are no book as the calls leave one.
+/// The words lent are not a well-formed book.
 pub const NOT_WELL_FORMED: u64 = 3;
-/// The file ends within a field; its first byte.
+/// The file ends before or within a field; its first byte.
 pub const FIELD_NOT_WHOLE: u64 = 4;
 /// An account, count or value of a file is out of range; its first byte.
 pub const FIELD_OUT_OF_RANGE: u64 = 5;

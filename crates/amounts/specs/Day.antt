@@ -32,10 +32,6 @@ pub record SlotRanged (n : ℕ) (x : List ℤ) : Type 0 where
 unfoldable pub residualsOf : ℕ → List ℤ → Residuals
 residualsOf n x = record { loads = tabulate 48 (λ i. residualOf n (intervalOf n x i)); spares = tabulate 48 (λ i. spareOf n (intervalOf n x i)) }
 
--- what an account has at an interval: vesting of today's cell and, where due, the residual of then's
-abbrev pub amountAt : List ℤ → List ℤ → Bool → Residual → ℤ
-amountAt today then due r = vestingAmount (cellData today) +ℤ cond due (cellResidual then (r .load) (r .spare)) (pos 0)
-
 -- none, where no residual is due
 abbrev pub noResiduals : Residuals
 noResiduals = record { loads = replicate 48 (pos 0); spares = replicate 48 0 }
@@ -50,6 +46,10 @@ pub record DaysRanged (n : ℕ) (today then : List ℤ) (due : Bool) (rs : Resid
   pub long : length then ≡ length today
   pub settled : due ≡ true → SlotRanged n then
   pub loads : (i : ℕ) → i < 48 → natAbs (word (rs .loads) i) ≤ leastResidual
+
+-- what an account has at an interval: vesting of today's cell and, where due, the residual of then's
+abbrev pub amountAt : List ℤ → List ℤ → Bool → Residual → ℤ
+amountAt today then due r = vestingAmount (cellData today) +ℤ cond due (cellResidual then (r .load) (r .spare)) (pos 0)
 
 -- account a's amount at interval i of two slots
 unfoldable pub slotAmount : ℕ → List ℤ → List ℤ → Bool → Residuals → ℕ → ℕ → ℤ

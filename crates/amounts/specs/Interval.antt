@@ -1,4 +1,4 @@
--- An interval of a slot, and a slot, as the code reads them part by part. Assumes nothing.
+-- An interval of a slot, as the code reads it cell by cell. Assumes nothing.
 use mathlib.Core.Path.{_≡_}
 use mathlib.Core.Bool.{true}
 use mathlib.Core.List.{List}

@@ -34,6 +34,7 @@ fn with_cell(totals: Totals, c: &[i64]) -> Totals
     }
 }
 
+// Those of all accounts.
 fn totals_of(x: &[i64], n: usize) -> Totals
     requires { ⌜ IntervalRanged n (now x) × (n ≤ 32) ⌝ }
     ensures { λ r. ⌜ r ≡ totalsOf n (now (x .entry)) ⌝ }

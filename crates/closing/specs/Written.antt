@@ -10,13 +10,14 @@ use Rattle.integer.specs.Words.{word}
 use Rattle.rulebook.specs.declared.Terms.{Terms}
 use Rattle.rulebook.specs.Units.{lastDay}
 use Rattle.rulebook.specs.Layout.{balanceWord}
+use Rattle.rulebook.specs.WellFormed.{dayBound}
 use Rattle.rulebook.specs.Close.{firstMissing, posted, postedToMssl}
 use Rattle.book.specs.JudgedLaws.{Formed}
 
--- the statement's n amounts are those of a day
+-- each of the statement's n amounts is at most a day's
 pub record Small (n : ℕ) (st : List ℤ) : Type 0 where
   pub room : n ≤ length st
-  pub each : (a : ℕ) → a < n → natAbs (word st a) ≤ 4800000000000
+  pub each : (a : ℕ) → a < n → natAbs (word st a) ≤ dayBound
 
 -- the first n accounts' balances grown by the statement's amounts
 unfoldable pub grown : List ℤ → List ℤ → ℕ → List ℤ
@@ -41,6 +42,6 @@ pub record StatementOf (w : List ℤ) (o : Terms) (D : ℕ) (st : List ℤ) : Ty
   pub accounts : (a : ℕ) → a < o .accounts → word st a ≡ posted o w D a
   pub mssl : word st (o .accounts) ≡ postedToMssl o w D
 
--- the amounts of all accounts posted, then the MSSL's
+-- word n is minus the sum of the n before it
 unfoldable pub withMssl : ℕ → List ℤ → List ℤ
 withMssl n st = set st n (negℤ (sumℤ n (word st)))

@@ -36,7 +36,7 @@ fn first_missing(book: &[i64], terms: Terms, day: usize) -> Found
 
 // The residuals of a day: 48N.
 fn day_residuals(n: usize) -> usize
-    requires { ⌜ n ≤ 32 ⌝ }
+    requires { ⌜ (1 ≤ n) × (n ≤ 32) ⌝ }
     ensures { λ r. ⌜ r ≡ 48 * n ⌝ }
 {
     layout::INTERVALS * n

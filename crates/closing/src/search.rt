@@ -1,4 +1,5 @@
-// Document 01, "Close": the search for an absent datum. An interval is 4 words and 24 an account; a slot has 48.
+// Document 01, "Close": the search for an absent datum. An interval is 4 words and 24 an account; a slot has 48 intervals.
+use book::layout;
 use book::words::zero_at;
 use integer::Found;
 use integer::is_found;
@@ -8,16 +9,18 @@ ghost use Prim.Native.Nat.{_+_, _*_, _≤_, _<_};
 ghost use lib.ListN.{length};
 ghost use Rattle.closing.specs.Search.{absentPair, absentResidual, absentSettled, firstAbsent};
 
-// The flags of a vesting row and of a meter row, in a cell.
-const METER_FLAG: usize = 9;
+// Where the flags of a vesting row and of a meter row stand in a cell.
+const VESTING_FLAG: usize = layout::VESTING;
+
+const METER_FLAG: usize = layout::METER;
 
 // The absent flag of vesting, then meter, of the cell at an index.
 fn absent_pair(book: &[i64], at: usize) -> Found
     requires { ⌜ at + 9 < length (now book) ⌝ }
     ensures { λ r. ⌜ r ≡ absentPair (now (book .entry)) at ⌝ }
 {
-    if zero_at(book, at) {
-        return Found::At(at);
+    if zero_at(book, at + VESTING_FLAG) {
+        return Found::At(at + VESTING_FLAG);
     }
     if zero_at(book, at + METER_FLAG) {
         return Found::At(at + METER_FLAG);
@@ -25,7 +28,7 @@ fn absent_pair(book: &[i64], at: usize) -> Found
     Found::Nothing
 }
 
-// The first account's absent residual flag, of the interval at an index.
+// The first absent residual flag, by account, of the interval at an index.
 fn absent_residual(book: &[i64], n: usize, at: usize) -> Found
     requires { ⌜ at + (4 + n * 24) ≤ length (now book) ⌝ }
     ensures { λ r. ⌜ r ≡ absentResidual (now (book .entry)) n at ⌝ }
@@ -44,8 +47,8 @@ fn absent_settled(book: &[i64], n: usize, at: usize) -> Found
     requires { ⌜ at + (4 + n * 24) ≤ length (now book) ⌝ }
     ensures { λ r. ⌜ r ≡ absentSettled (now (book .entry)) n at ⌝ }
 {
-    if zero_at(book, at + 1) {
-        return Found::At(at + 1);
+    if zero_at(book, at + layout::NCC) {
+        return Found::At(at + layout::NCC);
     }
     absent_residual(book, n, at)
 }

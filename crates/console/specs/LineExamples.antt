@@ -18,8 +18,8 @@ close-line : closeLine (ofClose (DatumMissing 76)) [] ≡ 99 ∷ 108 ∷ 111 ∷
 unfolding digitsWithin decimal spaced lineOf answerLine closeLine
 close-line = refl
 
--- `close 0 9497 48 -2000 2000`
-closed-line : closeLine (ofClose (Closed 9497 48)) (negsuc 1999 ∷ pos 2000 ∷ []) ≡ 99 ∷ 108 ∷ 111 ∷ 115 ∷ 101 ∷ 32 ∷ 48 ∷ 32 ∷ 57 ∷ 52 ∷ 57 ∷ 55 ∷ 32 ∷ 52 ∷ 56 ∷ 32 ∷ 45 ∷ 50 ∷ 48 ∷ 48 ∷ 48 ∷ 32 ∷ 50 ∷ 48 ∷ 48 ∷ 48 ∷ 10 ∷ []
+-- `close 0 9498 48 -2000 2000`
+closed-line : closeLine (ofClose (Closed 9498 48)) (negsuc 1999 ∷ pos 2000 ∷ []) ≡ 99 ∷ 108 ∷ 111 ∷ 115 ∷ 101 ∷ 32 ∷ 48 ∷ 32 ∷ 57 ∷ 52 ∷ 57 ∷ 56 ∷ 32 ∷ 52 ∷ 56 ∷ 32 ∷ 45 ∷ 50 ∷ 48 ∷ 48 ∷ 48 ∷ 32 ∷ 50 ∷ 48 ∷ 48 ∷ 48 ∷ 10 ∷ []
 unfolding digitsWithin decimal signedDecimal spaced lineOf closedLine closeLine
 closed-line = refl
 

@@ -12,6 +12,7 @@ use crate::sections::most_count;
 use crate::sections::open_from;
 use crate::sections::per_interval;
 use book::layout::INTERVALS;
+use book::layout::MOST_ACCOUNTS;
 use integer::least;
 use rulebook::Limits;
 use rulebook::Section;
@@ -29,8 +30,6 @@ ghost use Rattle.files.specs.Fields.{outcome};
 ghost use Rattle.files.specs.Values.{valueIn};
 ghost use Rattle.files.specs.BookLimits.{BookLimits};
 ghost use Rattle.files.specs.Marks.{markOf, marked, marksAfter, mostMarks};
-
-const MOST_ACCOUNTS: usize = 32;
 
 // The account and the day of the row at a position: the place of their mark.
 fn judge_key(limits: Limits, sec: Section, file: &[u8], at: usize) -> Outcome

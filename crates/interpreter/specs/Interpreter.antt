@@ -85,11 +85,11 @@ printed s =
 
 pub record Begins (book : List ℤ) (s line : List ℕ) (r : Begun) (bookAfter : List ℤ) (lineAfter : List ℕ) : Type 0 where
   pub printed : Put line 0 (beginning book s .line) lineAfter (r .end)
-  pub kept : bookAfter ≡ beginning book s .book
+  pub bookLeft : bookAfter ≡ beginning book s .book
   pub counted : r .accounts ≡ beginning book s .accounts
   pub few : r .accounts ≤ 32
 
 pub record Performs (accounts position : ℕ) (book : List ℤ) (s line : List ℕ) (r : Performed) (bookAfter : List ℤ) (lineAfter : List ℕ) : Type 0 where
   pub printed : Put line 0 (turn accounts position book s .line) lineAfter (r .end)
-  pub kept : bookAfter ≡ turn accounts position book s .book
+  pub bookLeft : bookAfter ≡ turn accounts position book s .book
   pub goesOn : r .more ≡ turn accounts position book s .more

@@ -36,7 +36,7 @@ module _ (book : List ℤ) (s line : List ℕ) where
   unfolding beginning
   begins-cut h p =
       let e = lt-leb openingBytes (length s) h in
-      record { printed = rw e p; kept = rw e; counted = rw e; few = omega arith }
+      record { printed = rw e p; bookLeft = rw e; counted = rw e; few = omega arith }
 
   module _ {book′ : List ℤ} {line′ : List ℕ} {end : ℕ} (h : openingBytes ≤ length s) {answer : OpenAnswer} (o : OpenPromise (openingTerms s) book answer book′) (p : Put line 0 (openLine (ofOpen answer)) line′ end) where
     told : leb openingBytes (length s) ≡ true
@@ -48,7 +48,7 @@ module _ (book : List ℤ) (s line : List ℕ) where
     begins-opened e =
         record {
           printed = rw (told, ← o .answered) p;
-          kept = rw told (o .bookAfter);
+          bookLeft = rw told (o .bookAfter);
           counted = rw (told, ← o .answered, eq-eqb (ofOpen answer .number) accepted e);
           few = opening-told (openingTerms s) book book′ answer o .taken .0 (opened-answer answer e) .0 .accountsTo;
         }
@@ -58,7 +58,7 @@ module _ (book : List ℤ) (s line : List ℕ) where
     begins-refused e =
         record {
           printed = rw (told, ← o .answered) p;
-          kept = rw told (o .bookAfter);
+          bookLeft = rw told (o .bookAfter);
           counted = rw (told, ← o .answered, ne-eqb (ofOpen answer .number) accepted e);
           few = omega arith;
         }
@@ -69,17 +69,17 @@ module _ (book : List ℤ) (s line : List ℕ) where
     pub performs-close : {book′ : List ℤ} {line′ : List ℕ} {end : ℕ} → itemOf s ≡ Close → book′ ≡ closed book newStatement .words → Put line 0 (closeLine (ofClose (closed book newStatement .answer)) (take (accounts + 1) (closed book newStatement .statement))) line′ end
         → Performs accounts position book s line (record { end = end; more = true }) book′ line′
     unfolding turn turnOf
-    performs-close i b p = record { printed = rw i p; kept = rw i b; goesOn = rw i }
+    performs-close i b p = record { printed = rw i p; bookLeft = rw i b; goesOn = rw i }
 
     pub performs-submit : {book′ : List ℤ} {line′ : List ℕ} {end : ℕ} (n : ℕ) → itemOf s ≡ Submit n → book′ ≡ submitted book (part s 3 n) .words → Put line 0 (submitLine (ofSubmit (submitted book (part s 3 n) .answer))) line′ end
         → Performs accounts position book s line (record { end = end; more = true }) book′ line′
     unfolding turn turnOf
-    performs-submit n i b p = record { printed = rw i p; kept = rw i b; goesOn = rw i }
+    performs-submit n i b p = record { printed = rw i p; bookLeft = rw i b; goesOn = rw i }
 
     pub performs-bad : {line′ : List ℕ} {end : ℕ} (k : ℕ) → itemOf s ≡ Bad k → Put line 0 (badLine (position + k)) line′ end → Performs accounts position book s line (record { end = end; more = false }) book line′
     unfolding turn turnOf
-    performs-bad k i p = record { printed = rw i p; kept = rw i; goesOn = rw i }
+    performs-bad k i p = record { printed = rw i p; bookLeft = rw i; goesOn = rw i }
 
     pub performs-end : itemOf s ≡ End → Performs accounts position book s line (record { end = 0; more = false }) book line
     unfolding turn turnOf
-    performs-end i = record { printed = rw i (put-none line 0 (omega arith)); kept = rw i; goesOn = rw i }
+    performs-end i = record { printed = rw i (put-none line 0 (omega arith)); bookLeft = rw i; goesOn = rw i }

@@ -42,63 +42,38 @@ pub struct BookSize {
     pub words: u64,
 }
 
-fn numbered(number: u64) -> Answer
-    ensures { λ r. ⌜ numbered (r .number) (r .position) ≡ numbered number 0 ⌝ }
-{
-    Answer {
-        number: number,
-        position: 0,
-    }
-}
-
 fn of_open(answer: OpenAnswer) -> Answer
     ensures { λ r. ⌜ numbered (r .number) (r .position) ≡ ofOpen answer ⌝ }
 {
-    match answer {
-        OpenAnswer::Opened => numbered(answers::ACCEPTED),
-        OpenAnswer::BadTerms => numbered(answers::OUTSIDE_RANGE),
-        OpenAnswer::TooShort => numbered(answers::WORDS_TOO_FEW),
+    Answer {
+        number: answers::open_number(answer),
+        position: 0,
     }
 }
 
 fn of_submit(answer: SubmitAnswer) -> Answer
     ensures { λ r. ⌜ numbered (r .number) (r .position) ≡ ofSubmit answer ⌝ }
 {
-    match answer {
-        SubmitAnswer::Taken => numbered(answers::ACCEPTED),
-        SubmitAnswer::IllFormed => numbered(answers::NOT_WELL_FORMED),
-        SubmitAnswer::FileRefused(why, at) => Answer {
-            number: answers::why_number(why),
-            position: at as u64,
-        },
-    }
-}
-
-fn close_refused(number: u64, position: u64) -> Closed
-    ensures { λ r. ⌜ record { number = r .number; position = r .position; day = r .day; count = r .count } ≡ numbered number position ⌝ }
-{
-    Closed {
-        number: number,
-        position: position,
-        day: 0,
-        count: 0,
+    let why = answers::submit_number(answer);
+    let at = answers::submit_position(answer);
+    Answer {
+        number: why,
+        position: at as u64,
     }
 }
 
 fn of_close(answer: CloseAnswer) -> Closed
     ensures { λ r. ⌜ record { number = r .number; position = r .position; day = r .day; count = r .count } ≡ ofClose answer ⌝ }
 {
-    match answer {
-        CloseAnswer::Closed(day, count) => Closed {
-            number: answers::ACCEPTED,
-            position: 0,
-            day: day as u64,
-            count: count as u64,
-        },
-        CloseAnswer::BookIllFormed => close_refused(answers::NOT_WELL_FORMED, 0),
-        CloseAnswer::Finished => close_refused(answers::BOOK_FINISHED, 0),
-        CloseAnswer::NoRoom => close_refused(answers::OUTPUT_TOO_SHORT, 0),
-        CloseAnswer::DatumMissing(at) => close_refused(answers::DATUM_ABSENT, at as u64),
+    let number = answers::close_number(answer);
+    let position = answers::close_position(answer);
+    let day = answers::close_day(answer);
+    let count = answers::close_count(answer);
+    Closed {
+        number: number,
+        position: position as u64,
+        day: day as u64,
+        count: count as u64,
     }
 }
 

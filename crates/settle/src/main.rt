@@ -29,7 +29,13 @@ fn read_item(bytes: &mut [u8]) -> usize
     ensures { λ r. ⌜ r ≤ 16387 ⌝ }
 {
     let command = read_on(bytes, 0);
+    if command == 0 {
+        return 0;
+    }
     let length = read_on(bytes, command);
+    if length < 3 {
+        return length;
+    }
     read_on(bytes, length)
 }
 

@@ -1,67 +1,34 @@
--- `of_close` meets its contract: an arm for each case of `ofClose`.
-use mathlib.Core.Path.{sym, ap, _∙_}
+-- `of_close` meets its contract: the figures of the answer, one by one.
+use Rattle.robijan.specs.ReturnedLaws.{close-told}
 use borrow.Author.Needs.{needs}
-use Rattle.rulebook.specs.Numbers.{ofClose}
 use Rattle.robijan.proofs.book_calls.of_close.Statement.{statement}
 use Rattle.robijan.proofs.book_calls.of_close.Tie as tie
 
-enum-known-answer : tie.Need-enum-known-answer
-enum-known-answer c = search needs
+close-number-requires : tie.Need-close-number-requires
+close-number-requires c κs = search needs
 
-enum-told : tie.Need-enum-told
-enum-told c = search needs
+close-position-requires : tie.Need-close-position-requires
+close-position-requires c κs = search needs
 
-close-refused-requires : tie.Need-close-refused-requires
-close-refused-requires c κs = search needs
+close-day-requires : tie.Need-close-day-requires
+close-day-requires c κs = search needs
 
-enum-told-2 : tie.Need-enum-told-2
-enum-told-2 c = search needs
-
-close-refused-requires-2 : tie.Need-close-refused-requires-2
-close-refused-requires-2 c κs = search needs
-
-enum-told-3 : tie.Need-enum-told-3
-enum-told-3 c = search needs
-
-close-refused-requires-3 : tie.Need-close-refused-requires-3
-close-refused-requires-3 c κs = search needs
-
-enum-known-answer-2 : tie.Need-enum-known-answer-2
-enum-known-answer-2 c = search needs
-
-close-refused-requires-4 : tie.Need-close-refused-requires-4
-close-refused-requires-4 c κs = search needs
+close-count-requires : tie.Need-close-count-requires
+close-count-requires c κs = search needs
 
 returns : tie.Need-returns
-returns c = sym (ap ofClose (c .before .answer .given .1))
-
-returns-2 : tie.Need-returns-2
-returns-2 c = c .close-refused .ensures ∙ sym (ap ofClose (c .before .enum-told .given .1))
-
-returns-3 : tie.Need-returns-3
-returns-3 c = c .close-refused2 .ensures ∙ sym (ap ofClose (c .before .enum-told2 .given .1))
-
-returns-4 : tie.Need-returns-4
-returns-4 c = c .close-refused3 .ensures ∙ sym (ap ofClose (c .before .enum-told3 .given .1))
-
-returns-5 : tie.Need-returns-5
-returns-5 c = c .close-refused4 .ensures ∙ sym (ap ofClose (c .before .before .answer2 .given .1))
+returns c =
+    let d = c .before in
+    let p = d .before in
+    let n = p .before in
+    close-told (n .before .args .answer) (n .close-number .ensures) (p .close-position .ensures) (d .close-day .ensures) (c .close-count .ensures)
 
 pub of-close-spec : {M : Type 1} → statement M
 of-close-spec =
     tie.close
     (tie.spec
-    enum-known-answer
-    enum-told
-    close-refused-requires
-    enum-told-2
-    close-refused-requires-2
-    enum-told-3
-    close-refused-requires-3
-    enum-known-answer-2
-    close-refused-requires-4
-    returns
-    returns-2
-    returns-3
-    returns-4
-    returns-5)
+    close-number-requires
+    close-position-requires
+    close-day-requires
+    close-count-requires
+    returns)

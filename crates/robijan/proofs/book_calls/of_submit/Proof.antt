@@ -1,48 +1,17 @@
--- `of_submit` meets its contract: an arm for each case of `ofSubmit`.
-use mathlib.Core.Path.{sym, ap, _∙_}
-use Prim.Native.Nat.{ℕ}
+-- `of_submit` meets its contract: the figures of the answer, one by one.
+use Rattle.robijan.specs.ReturnedLaws.{submit-told}
 use borrow.Author.Needs.{needs}
-use Rattle.rulebook.specs.Numbers.{numbered, ofSubmit}
 use Rattle.robijan.proofs.book_calls.of_submit.Statement.{statement}
 use Rattle.robijan.proofs.book_calls.of_submit.Tie as tie
 
-enum-told : tie.Need-enum-told
-enum-told c = search needs
+submit-number-requires : tie.Need-submit-number-requires
+submit-number-requires c κs = search needs
 
-numbered-requires : tie.Need-numbered-requires
-numbered-requires c κs = search needs
-
-enum-told-2 : tie.Need-enum-told-2
-enum-told-2 c = search needs
-
-numbered-requires-2 : tie.Need-numbered-requires-2
-numbered-requires-2 c κs = search needs
-
-enum-known-answer : tie.Need-enum-known-answer
-enum-known-answer c = search needs
-
-why-number-requires : tie.Need-why-number-requires
-why-number-requires c κs = search needs
+submit-position-requires : tie.Need-submit-position-requires
+submit-position-requires c κs = search needs
 
 returns : tie.Need-returns
-returns c = c .numbered .ensures ∙ sym (ap ofSubmit (c .before .enum-told .given .1))
-
-returns-2 : tie.Need-returns-2
-returns-2 c = c .numbered2 .ensures ∙ sym (ap ofSubmit (c .before .enum-told2 .given .1))
-
-returns-3 : tie.Need-returns-3
-returns-3 c = rw (c .why-number .ensures) (sym (ap ofSubmit (c .before .before .answer .given .1)))
+returns c = submit-told (c .before .before .args .answer) (c .before .submit-number .ensures) (c .submit-position .ensures)
 
 pub of-submit-spec : {M : Type 1} → statement M
-of-submit-spec =
-    tie.close
-    (tie.spec
-    enum-told
-    numbered-requires
-    enum-told-2
-    numbered-requires-2
-    enum-known-answer
-    why-number-requires
-    returns
-    returns-2
-    returns-3)
+of-submit-spec = tie.close (tie.spec submit-number-requires submit-position-requires returns)
