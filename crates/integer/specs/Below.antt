@@ -33,10 +33,6 @@ unfoldable pub orElse : Found → Found → Found
 orElse (At i) y = At i
 orElse Nothing y = y
 
-abbrev pub isFound : Found → Bool
-isFound (At i) = true
-isFound Nothing = false
-
 -- what the first number below n that finds something finds
 abbrev pub first : ℕ → (ℕ → Found) → Found
 first n f = fold orElse Nothing n f

@@ -15,7 +15,7 @@ use lib.ListN.{length, getD}
 use lib.Seq.{ext-getD}
 use Rattle.integer.specs.declared.Found.{Found}
 use Rattle.integer.specs.declared.Found.the-variants.{At, Nothing}
-use Rattle.integer.specs.Below.{fold, sumℕ, sumℤ, all, orElse, isFound, first, turns, tabulate, Each}
+use Rattle.integer.specs.Below.{fold, sumℕ, sumℤ, all, orElse, first, turns, tabulate, Each}
 use Rattle.integer.specs.IntegerLaws.{abs-add, parts-le, le-parts, add-parts}
 use Rattle.integer.specs.Ring.{as-diff, diffs, ring}
 
@@ -159,24 +159,6 @@ first-stops (suc n) f i x l h t =
     ⊎-elim (λ b. rw (first-stops n f i x b h t))
     (λ b. let e : i ≡ n = omega arith in rw (← e, h, t))
     (lt-or-le i n)
-
-pub not-found : (o : Found) → isFound o ≡ false → o ≡ Nothing
-not-found (At i) e = absurd (let z : _≡_ {A = ℕ} 0 1 = cc in omega arith)
-not-found Nothing e = refl
-
--- the same, of what the turn found
-pub first-found : (n : ℕ) (f : ℕ → Found) (i : ℕ) → i < n → first i f ≡ Nothing → isFound (f i) ≡ true → first n f ≡ f i
-first-found n f i l h t = go (f i) refl t
-  where
-    go : (o : Found) → f i ≡ o → isFound o ≡ true → first n f ≡ f i
-    go (At x) e t = first-stops n f i x l h e ∙ sym e
-    go Nothing e t = absurd (let z : _≡_ {A = ℕ} 0 1 = cc in omega arith)
-
--- the first of two, where it finds something
-pub orElse-found : (o y : Found) → isFound o ≡ true → orElse o y ≡ o
-unfolding orElse
-orElse-found (At i) y e = refl
-orElse-found Nothing y e = absurd (let z : _≡_ {A = ℕ} 0 1 = cc in omega arith)
 
 -- what one search after another found
 pub orElse-at : (o y : Found) (x : ℕ) → orElse o y ≡ At x → (o ≡ At x) ⊎ ((o ≡ Nothing) × (y ≡ At x))

@@ -4,7 +4,6 @@ ghost use mathlib.Core.Path.{_≡_};
 ghost use Prim.Native.Nat.{_+_, _*_, _/_, _^_, _≤_, _<_, min, max};
 ghost use lib.IntN.{pos, natAbs, _+ℤ_};
 ghost use lib.ListN.{length, set};
-ghost use Rattle.integer.specs.Below.{isFound};
 ghost use Rattle.integer.specs.Integer.{withSign};
 ghost use Rattle.integer.specs.Nearest.{nearest};
 ghost use Rattle.integer.specs.Words.{word};
@@ -13,15 +12,6 @@ ghost use Rattle.integer.specs.Words.{word};
 pub enum Found {
     At(usize),
     Nothing,
-}
-
-pub fn is_found(found: Found) -> bool
-    ensures { λ r. ⌜ r ≡ isFound found ⌝ }
-{
-    match found {
-        Found::At(_) => true,
-        Found::Nothing => false,
-    }
 }
 
 // One lent word, read.

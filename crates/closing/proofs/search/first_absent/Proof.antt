@@ -1,187 +1,285 @@
--- `first_absent` meets its contract: each turn of either walk that finds nothing is one more of `first`; a turn that finds leaves both.
-use mathlib.Core.Path.{_≡_, refl, sym, ap, _∙_}
-use mathlib.Core.Bool.{Bool, true, false, cond}
-use mathlib.Core.List.{List}
+-- `first_absent` meets its contract: each turn of either walk that finds nothing is one more of `first`; a turn that finds leaves all walks.
+use mathlib.Core.Path.{_≡_, sym, _∙_}
 use mathlib.Core.Logic.{⊎-elim}
-use Prim.Native.Nat.{ℕ, _+_, _*_, _-_, _≤_, _<_}
+use Prim.Native.Nat.{_+_, _*_, _-_, _≤_, _<_}
 use native.Mathlib.Omega.{arith}
 use borrow.Author.Needs.{needs}
-use lib.IntN.{ℤ}
 use lib.ListN.{length}
 use Rattle.integer.specs.declared.Found.{Found}
-use Rattle.integer.specs.Below.{fold, first, isFound}
-use Rattle.integer.specs.BelowLaws.{first-more, first-found, not-found, orElse-found}
+use Rattle.integer.specs.Below.{fold, first}
+use Rattle.integer.specs.BelowLaws.{first-more, first-stops}
 use Rattle.integer.specs.WordsLaws.{row-fits}
-use Rattle.closing.specs.Search.{absentPair, absentSettled, absentIn, firstAbsent}
-use Rattle.closing.specs.SearchLaws.{or-second}
+use Rattle.closing.specs.Search.{absentAt, absentPair, absentIn, firstAbsent}
+use Rattle.closing.specs.SearchLaws.{absent-here, absent-not, pair-vesting, pair-meter, pair-there, settled-ncc, settled-residual, passed, passed-due, stops-pair, stops-settled}
 use Rattle.closing.proofs.search.first_absent.Statement.{statement}
 use Rattle.closing.proofs.search.first_absent.Tie as tie
 
-abbrev pairAt : List ℤ → ℕ → ℕ → ℕ → ℕ → Found
-pairAt book n today i a = absentPair book (today + i * (4 + n * 24) + (4 + a * 24))
-
 abbrev Inv-loop : tie.InvT-loop
-Inv-loop book n today then due size found₀ i a₀ found a = (a ≤ n) × (first a (pairAt book n today i) ≡ Found.Nothing) × (found ≡ Found.Nothing)
+Inv-loop book n today then due size i a₀ a = (a ≤ n) × (first a (λ a. absentPair book (today + i * (4 + n * 24) + (4 + a * 24))) ≡ Found.Nothing)
 
 abbrev μ-loop : tie.MeasureT-loop
-μ-loop book n today then due size found₀ i a₀ found a = n - a
+μ-loop book n today then due size i a₀ a = n - a
+
+abbrev Inv-loop2 : tie.InvT-loop2
+Inv-loop2 book n today then due size i at a₀ a = (a ≤ n) × (first a (λ a. absentAt book (at + (22 + a * 24))) ≡ Found.Nothing)
+
+abbrev μ-loop2 : tie.MeasureT-loop2
+μ-loop2 book n today then due size i at a₀ a = n - a
 
 abbrev Inv-search : tie.InvT-search
-Inv-search book n today then due size found₀ i₀ found i = (size ≡ 4 + n * 24) × (i ≤ 48) × (first i (absentIn book n today then due) ≡ Found.Nothing) × (found ≡ Found.Nothing)
+Inv-search book n today then due size i₀ i = (i ≤ 48) × (first i (absentIn book n today then due) ≡ Found.Nothing)
 
 abbrev μ-search : tie.MeasureT-search
-μ-search book n today then due size found₀ i₀ found i = 48 - i
+μ-search book n today then due size i₀ i = 48 - i
 
-mul-size : tie.Need-mul-size Inv-loop μ-loop Inv-search μ-search
+mul-size : tie.Need-mul-size Inv-loop μ-loop Inv-loop2 μ-loop2 Inv-search μ-search
 mul-size c = search needs
 
-add-size : tie.Need-add-size Inv-loop μ-loop Inv-search μ-search
+add-size : tie.Need-add-size Inv-loop μ-loop Inv-loop2 μ-loop2 Inv-search μ-search
 add-size c = search needs
 
-search-holds : tie.Need-search-holds Inv-loop μ-loop Inv-search μ-search
+search-holds : tie.Need-search-holds Inv-loop μ-loop Inv-loop2 μ-loop2 Inv-search μ-search
 unfolding fold
 search-holds c = search needs
 
-loop-holds : tie.Need-loop-holds Inv-loop μ-loop Inv-search μ-search
+loop-holds : tie.Need-loop-holds Inv-loop μ-loop Inv-loop2 μ-loop2 Inv-search μ-search
 unfolding fold
 loop-holds c = search needs
 
 -- the cell of a turn lies within today's slot
-fits : (c : tie.In-loop Inv-loop μ-loop Inv-search μ-search)
+fits : (c : tie.In-loop Inv-loop μ-loop Inv-loop2 μ-loop2 Inv-search μ-search)
     → c .before .before .before .before .args .today + c .before .before .before .search .i * (4 + c .before .before .before .before .args .n * 24) + (4 + c .before .loop .a * 24) + 24
     ≤ length (c .before .before .before .before .args .book .now)
 fits c =
     let o = c .before .before .before in
     let s = o .before in
-    omega (arith, row-fits (c .before .loop .a) (s .args .n) 24 (c .loop-test .taken), row-fits (o .search .i) 48 (4 + s .args .n * 24) (c .before .before .search-test .taken), s .pre .0)
+    let k : o .search .i < 48 = omega arith in
+    omega (arith, row-fits (c .before .loop .a) (s .args .n) 24 (c .loop-test .taken), row-fits (o .search .i) 48 (4 + s .args .n * 24) k, s .pre .0)
 
-mul-absent-pair : tie.Need-mul-absent-pair Inv-loop μ-loop Inv-search μ-search
-mul-absent-pair c = omega (arith, fits c)
+mul-at : tie.Need-mul-at Inv-loop μ-loop Inv-loop2 μ-loop2 Inv-search μ-search
+mul-at c = omega (arith, fits c)
 
-add-absent-pair : tie.Need-add-absent-pair Inv-loop μ-loop Inv-search μ-search
-add-absent-pair c = omega (arith, fits c)
+add-at : tie.Need-add-at Inv-loop μ-loop Inv-loop2 μ-loop2 Inv-search μ-search
+add-at c = omega (arith, fits c)
 
-mul-absent-pair-2 : tie.Need-mul-absent-pair-2 Inv-loop μ-loop Inv-search μ-search
-mul-absent-pair-2 c = omega (arith, fits c)
+mul-at-2 : tie.Need-mul-at-2 Inv-loop μ-loop Inv-loop2 μ-loop2 Inv-search μ-search
+mul-at-2 c = omega (arith, fits c)
 
-add-absent-pair-2 : tie.Need-add-absent-pair-2 Inv-loop μ-loop Inv-search μ-search
-add-absent-pair-2 c = omega (arith, fits c)
+add-at-2 : tie.Need-add-at-2 Inv-loop μ-loop Inv-loop2 μ-loop2 Inv-search μ-search
+add-at-2 c = omega (arith, fits c)
 
-add-absent-pair-3 : tie.Need-add-absent-pair-3 Inv-loop μ-loop Inv-search μ-search
-add-absent-pair-3 c = omega (arith, fits c)
+add-at-3 : tie.Need-add-at-3 Inv-loop μ-loop Inv-loop2 μ-loop2 Inv-search μ-search
+add-at-3 c = omega (arith, fits c)
 
-absent-pair-requires : tie.Need-absent-pair-requires Inv-loop μ-loop Inv-search μ-search
-absent-pair-requires c κs = omega (arith, fits c)
+add-zero-at : tie.Need-add-zero-at Inv-loop μ-loop Inv-loop2 μ-loop2 Inv-search μ-search
+add-zero-at c = omega (arith, fits c)
 
-is-found-requires : tie.Need-is-found-requires Inv-loop μ-loop Inv-search μ-search
-is-found-requires c κs = search needs
+zero-at-requires : tie.Need-zero-at-requires Inv-loop μ-loop Inv-loop2 μ-loop2 Inv-search μ-search
+zero-at-requires c κs = omega (arith, fits c)
 
-add-a : tie.Need-add-a Inv-loop μ-loop Inv-search μ-search
+add-t22 : tie.Need-add-t22 Inv-loop μ-loop Inv-loop2 μ-loop2 Inv-search μ-search
+add-t22 c = omega (arith, fits (c .before .before))
+
+add-zero-at-2 : tie.Need-add-zero-at-2 Inv-loop μ-loop Inv-loop2 μ-loop2 Inv-search μ-search
+add-zero-at-2 c = omega (arith, fits (c .before .before))
+
+zero-at-requires-2 : tie.Need-zero-at-requires-2 Inv-loop μ-loop Inv-loop2 μ-loop2 Inv-search μ-search
+zero-at-requires-2 c κs = omega (arith, fits (c .before .before))
+
+add-t24 : tie.Need-add-t24 Inv-loop μ-loop Inv-loop2 μ-loop2 Inv-search μ-search
+add-t24 c = omega (arith, fits (c .before .before .before .before))
+
+add-a : tie.Need-add-a Inv-loop μ-loop Inv-loop2 μ-loop2 Inv-search μ-search
 add-a c = omega arith
 
-loop-less : tie.Need-loop-less Inv-loop μ-loop Inv-search μ-search
+loop-less : tie.Need-loop-less Inv-loop μ-loop Inv-loop2 μ-loop2 Inv-search μ-search
 loop-less c = omega arith
 
-loop-again : tie.Need-loop-again Inv-loop μ-loop Inv-search μ-search
+loop-again : tie.Need-loop-again Inv-loop μ-loop Inv-loop2 μ-loop2 Inv-search μ-search
 loop-again c =
-    let l = c .before .before .before .before .loop in
-    let p = c .before .before .absent-pair in
-    (omega arith, first-more (l .a) _ (l .inv .1) (sym (p .ensures) ∙ not-found (p .result) (sym (c .before .is-found .ensures) ∙ c .if1 .left)), l .inv .2)
+    let v = c .before .before in
+    let l = v .before .before .before .loop in
+    (omega arith, first-more (l .a) _ (l .inv .1) (pair-there _ _ (sym (v .before .zero-at .ensures) ∙ v .if2 .left) (sym (c .before .zero-at2 .ensures) ∙ c .if3 .left)))
 
 -- the interval of a turn lies within then's slot
-settled-fits : (c : tie.Then2 Inv-loop μ-loop Inv-search μ-search)
+settled-fits : (c : tie.Then4 Inv-loop μ-loop Inv-loop2 μ-loop2 Inv-search μ-search)
     → c .before .before .before .before .before .args .then + c .before .before .before .before .search .i * (4 + c .before .before .before .before .before .args .n * 24) + (4 + c .before .before .before .before .before .args .n * 24)
     ≤ length (c .before .before .before .before .before .args .book .now)
 settled-fits c =
     let o = c .before .before .before .before in
     let s = o .before in
-    omega (arith, row-fits (o .search .i) 48 (4 + s .args .n * 24) (c .before .before .before .search-test .taken), s .pre .1 (c .if2 .taken))
+    let k : o .search .i < 48 = omega arith in
+    omega (arith, row-fits (o .search .i) 48 (4 + s .args .n * 24) k, s .pre .1 (c .if4 .taken))
 
-mul-absent-settled : tie.Need-mul-absent-settled Inv-loop μ-loop Inv-search μ-search
-mul-absent-settled c = omega (arith, settled-fits c)
+mul-at-3 : tie.Need-mul-at-3 Inv-loop μ-loop Inv-loop2 μ-loop2 Inv-search μ-search
+mul-at-3 c = omega (arith, settled-fits c)
 
-add-absent-settled : tie.Need-add-absent-settled Inv-loop μ-loop Inv-search μ-search
-add-absent-settled c = omega (arith, settled-fits c)
+add-at-4 : tie.Need-add-at-4 Inv-loop μ-loop Inv-loop2 μ-loop2 Inv-search μ-search
+add-at-4 c = omega (arith, settled-fits c)
 
-absent-settled-requires : tie.Need-absent-settled-requires Inv-loop μ-loop Inv-search μ-search
-absent-settled-requires c κs = settled-fits c
+add-zero-at-3 : tie.Need-add-zero-at-3 Inv-loop μ-loop Inv-loop2 μ-loop2 Inv-search μ-search
+add-zero-at-3 c = omega (arith, settled-fits c)
 
-is-found-requires-2 : tie.Need-is-found-requires-2 Inv-loop μ-loop Inv-search μ-search
-is-found-requires-2 c κs = search needs
+zero-at-requires-3 : tie.Need-zero-at-requires-3 Inv-loop μ-loop Inv-loop2 μ-loop2 Inv-search μ-search
+zero-at-requires-3 c κs = omega (arith, settled-fits c)
 
-add-i : tie.Need-add-i Inv-loop μ-loop Inv-search μ-search
+add-t27 : tie.Need-add-t27 Inv-loop μ-loop Inv-loop2 μ-loop2 Inv-search μ-search
+add-t27 c = omega (arith, settled-fits (c .before .before))
+
+loop2-holds : tie.Need-loop2-holds Inv-loop μ-loop Inv-loop2 μ-loop2 Inv-search μ-search
+unfolding fold
+loop2-holds c = search needs
+
+-- the residual flag of a turn lies within it
+flag-fits : (c : tie.In-loop2 Inv-loop μ-loop Inv-loop2 μ-loop2 Inv-search μ-search)
+    → c .before .before .before .before .before .before .before .before .before .args .then + c .before .before .before .before .before .before .before .before .search .i * (4 + c .before .before .before .before .before .before .before .before .before .args .n * 24) + (22 + c .before .loop2 .a * 24)
+    < length (c .before .before .before .before .before .before .before .before .before .args .book .now)
+flag-fits c =
+    let t = c .before .before .before .before in
+    omega (arith, settled-fits t, row-fits (c .before .loop2 .a) (t .before .before .before .before .before .args .n) 24 (c .loop2-test .taken))
+
+mul-flag : tie.Need-mul-flag Inv-loop μ-loop Inv-loop2 μ-loop2 Inv-search μ-search
+mul-flag c = omega (arith, flag-fits c)
+
+add-flag : tie.Need-add-flag Inv-loop μ-loop Inv-loop2 μ-loop2 Inv-search μ-search
+add-flag c = omega (arith, flag-fits c)
+
+add-flag-2 : tie.Need-add-flag-2 Inv-loop μ-loop Inv-loop2 μ-loop2 Inv-search μ-search
+add-flag-2 c = omega (arith, flag-fits c)
+
+zero-at-requires-4 : tie.Need-zero-at-requires-4 Inv-loop μ-loop Inv-loop2 μ-loop2 Inv-search μ-search
+zero-at-requires-4 c κs = omega (arith, flag-fits c)
+
+add-a-2 : tie.Need-add-a-2 Inv-loop μ-loop Inv-loop2 μ-loop2 Inv-search μ-search
+add-a-2 c = omega arith
+
+loop2-less : tie.Need-loop2-less Inv-loop μ-loop Inv-loop2 μ-loop2 Inv-search μ-search
+loop2-less c = omega arith
+
+loop2-again : tie.Need-loop2-again Inv-loop μ-loop Inv-loop2 μ-loop2 Inv-search μ-search
+loop2-again c =
+    let l = c .before .before .before .loop2 in
+    (omega arith, first-more (l .a) _ (l .inv .1) (absent-not _ _ (sym (c .before .zero-at4 .ensures) ∙ c .if6 .left)))
+
+add-i : tie.Need-add-i Inv-loop μ-loop Inv-loop2 μ-loop2 Inv-search μ-search
 add-i c = omega arith
 
-search-less : tie.Need-search-less Inv-loop μ-loop Inv-search μ-search
+search-less : tie.Need-search-less Inv-loop μ-loop Inv-loop2 μ-loop2 Inv-search μ-search
 search-less c = omega arith
 
--- an interval in which nothing is found
-passed : (book : List ℤ) (n today then : ℕ) (due : Bool) (i : ℕ) → first i (absentIn book n today then due) ≡ Found.Nothing → first n (pairAt book n today i) ≡ Found.Nothing
-    → cond due (absentSettled book n (then + i * (4 + n * 24))) Found.Nothing ≡ Found.Nothing → first (i + 1) (absentIn book n today then due) ≡ Found.Nothing
-unfolding absentIn
-passed book n today then due i h e d = first-more i (absentIn book n today then due) h (or-second e d)
-
-cond-true : {due : Bool} (x y : Found) → due ≡ true → x ≡ Found.Nothing → cond due x y ≡ Found.Nothing
-cond-true x y e f = rw (e, f)
-
-cond-false : {due : Bool} (x : Found) → due ≡ false → cond due x Found.Nothing ≡ Found.Nothing
-cond-false x e = rw e
-
-search-again : tie.Need-search-again Inv-loop μ-loop Inv-search μ-search
+search-again : tie.Need-search-again Inv-loop μ-loop Inv-loop2 μ-loop2 Inv-search μ-search
 search-again c =
     let l = c .before .before .loop in
     let o = c .before .before .before .before in
     let s = o .before .args in
-    let e : l .a ≡ s .n = omega arith in (
-      refl,
+    let e : l .a ≡ s .n = omega arith in
+    let p = rw e at (l .inv .1) in (
       omega arith,
-      passed (s .book .now) (s .n) (s .today) (s .then) (s .due) (o .search .i) (o .search .inv .2) (rw e at (l .inv .1))
-          (⊎-elim (λ w. cond-true _ _ (w .0 .taken) (sym (w .1 .ensures) ∙ not-found (w .1 .result) (sym (w .2 .ensures) ∙ w .3 .left))) (λ w. cond-false _ (w .left)) (c .if2 .came)),
-      l .inv .2,
+      ⊎-elim
+          (λ w.
+          let q : w .3 .a ≡ s .n = omega (arith, w .4 .left, w .3 .inv .0) in
+          passed-due (s .book .now) (s .n) (s .today) (s .then) (s .due) (o .search .i) (o .search .inv .1) p (w .0 .taken)
+          (settled-residual (s .book .now) (s .n) _ (sym (w .1 .ensures) ∙ w .2 .left) (rw q at (w .3 .inv .1))))
+          (λ w. passed (s .book .now) (s .n) (s .today) (s .then) (s .due) (o .search .i) (o .search .inv .1) p (w .left))
+          (c .if4 .came),
     )
 
-returns : tie.Need-returns Inv-loop μ-loop Inv-search μ-search
+returns : tie.Need-returns Inv-loop μ-loop Inv-loop2 μ-loop2 Inv-search μ-search
 unfolding firstAbsent
-returns c =
-    let e : c .before .search .i ≡ 48 = omega arith in
-    c .before .search .inv .3 ∙ sym (rw e at (c .before .search .inv .2))
+returns c = sym (rw (c .if1 .taken) at (c .before .search .inv .1))
 
--- a pair found in interval i is what is found
-left : (book : List ℤ) (n today then : ℕ) (due : Bool) (i a : ℕ) (r : Found) → i < 48 → first i (absentIn book n today then due) ≡ Found.Nothing → r ≡ pairAt book n today i a
-    → first n (pairAt book n today i) ≡ pairAt book n today i a → isFound (pairAt book n today i a) ≡ true → r ≡ firstAbsent book n today then due
-unfolding firstAbsent absentIn
-left book n today then due i a r k h p e t =
-    let x : absentIn book n today then due i ≡ pairAt book n today i a = rw e (orElse-found (pairAt book n today i a) _ t) in
-    p ∙ sym (first-found 48 (absentIn book n today then due) i k h (ap isFound x ∙ t) ∙ x)
-
--- a settled datum found in interval i is what is found
-settled-left : (book : List ℤ) (n today then : ℕ) (due : Bool) (i : ℕ) (r : Found) → i < 48 → first i (absentIn book n today then due) ≡ Found.Nothing → r ≡ absentSettled book n (then + i * (4 + n * 24))
-    → first n (pairAt book n today i) ≡ Found.Nothing → due ≡ true → isFound r ≡ true → r ≡ firstAbsent book n today then due
-unfolding firstAbsent absentIn
-settled-left book n today then due i r k h p e d t =
-    let x : absentIn book n today then due i ≡ absentSettled book n (then + i * (4 + n * 24)) = or-second e (rw d) in
-    p ∙ sym (first-found 48 (absentIn book n today then due) i k h (ap isFound (x ∙ sym p) ∙ t) ∙ x)
-
-returns-2 : tie.Need-returns-2 Inv-loop μ-loop Inv-search μ-search
+returns-2 : tie.Need-returns-2 Inv-loop μ-loop Inv-loop2 μ-loop2 Inv-search μ-search
 returns-2 c =
-    let p = c .before .before .absent-pair in
-    let n = c .before .before .before in
-    let l = n .before .loop in
-    let o = n .before .before .before in
+    let t = c .before .before in
+    let l = t .before .loop in
+    let o = t .before .before .before in
     let s = o .before .args in
-    let t = ap isFound (sym (p .ensures)) ∙ (sym (c .before .is-found .ensures) ∙ c .if1 .taken) in
-    let e = first-found (s .n) (pairAt (s .book .now) (s .n) (s .today) (o .search .i)) (l .a) (n .loop-test .taken) (l .inv .1) t in
-    left (s .book .now) (s .n) (s .today) (s .then) (s .due) (o .search .i) (l .a) (p .result) (n .before .before .search-test .taken) (o .search .inv .2) (p .ensures) e t
+    let v = sym (c .before .zero-at .ensures) ∙ c .if2 .taken in
+    sym (stops-pair (s .book .now) (s .n) (s .today) (s .then) (s .due) (o .search .i) (o .search .inv .1) (l .a) (omega arith) (t .loop-test .taken) (l .inv .1) (pair-vesting (s .book .now) _ v))
 
-returns-3 : tie.Need-returns-3 Inv-loop μ-loop Inv-search μ-search
+returns-3 : tie.Need-returns-3 Inv-loop μ-loop Inv-loop2 μ-loop2 Inv-search μ-search
 returns-3 c =
-    let p = c .before .before .absent-settled in
-    let d = c .before .before .before in
+    let f = c .before .before in
+    let t = f .before .before in
+    let l = t .before .loop in
+    let o = t .before .before .before in
+    let s = o .before .args in
+    let v = sym (f .before .zero-at .ensures) ∙ f .if2 .left in
+    let m = sym (c .before .zero-at2 .ensures) ∙ c .if3 .taken in
+    sym (stops-pair (s .book .now) (s .n) (s .today) (s .then) (s .due) (o .search .i) (o .search .inv .1) (l .a) (omega arith) (t .loop-test .taken) (l .inv .1) (pair-meter (s .book .now) _ v m))
+
+returns-4 : tie.Need-returns-4 Inv-loop μ-loop Inv-loop2 μ-loop2 Inv-search μ-search
+returns-4 c =
+    let d = c .before .before in
     let l = d .before .before .loop in
     let o = d .before .before .before .before in
     let s = o .before .args in
     let e : l .a ≡ s .n = omega arith in
-    settled-left (s .book .now) (s .n) (s .today) (s .then) (s .due) (o .search .i) (p .result) (d .before .before .before .search-test .taken) (o .search .inv .2) (p .ensures) (rw e at (l .inv .1)) (d .if2 .taken) (sym (c .before .is-found2 .ensures) ∙ c .if3 .taken)
+    let v = sym (c .before .zero-at3 .ensures) ∙ c .if5 .taken in
+    sym (stops-settled (s .book .now) (s .n) (s .today) (s .then) (s .due) (o .search .i) (o .search .inv .1) (omega arith) (rw e at (l .inv .1)) (d .if4 .taken) (settled-ncc (s .book .now) (s .n) _ v))
+
+returns-5 : tie.Need-returns-5 Inv-loop μ-loop Inv-loop2 μ-loop2 Inv-search μ-search
+returns-5 c =
+    let t = c .before .before in
+    let l2 = t .before .loop2 in
+    let f = t .before .before in
+    let d = f .before .before in
+    let l = d .before .before .loop in
+    let o = d .before .before .before .before in
+    let s = o .before .args in
+    let e : l .a ≡ s .n = omega arith in
+    let v = sym (f .before .zero-at3 .ensures) ∙ f .if5 .left in
+    let r = absent-here (s .book .now) _ (sym (c .before .zero-at4 .ensures) ∙ c .if6 .taken) in
+    sym
+    (stops-settled (s .book .now) (s .n) (s .today) (s .then) (s .due) (o .search .i) (o .search .inv .1) (omega arith) (rw e at (l .inv .1)) (d .if4 .taken)
+    (settled-residual (s .book .now) (s .n) _ v (first-stops (s .n) _ (l2 .a) _ (t .loop2-test .taken) (l2 .inv .1) r)))
 
 pub first-absent-spec : {M : Type 1} → statement M
-first-absent-spec = tie.close (tie.spec Inv-loop μ-loop Inv-search μ-search mul-size add-size search-holds loop-holds mul-absent-pair add-absent-pair mul-absent-pair-2 add-absent-pair-2 add-absent-pair-3 absent-pair-requires is-found-requires add-a loop-less loop-again mul-absent-settled add-absent-settled absent-settled-requires is-found-requires-2 add-i search-less search-again returns returns-2 returns-3)
+first-absent-spec =
+    tie.close
+    (tie.spec
+    Inv-loop
+    μ-loop
+    Inv-loop2
+    μ-loop2
+    Inv-search
+    μ-search
+    mul-size
+    add-size
+    search-holds
+    loop-holds
+    mul-at
+    add-at
+    mul-at-2
+    add-at-2
+    add-at-3
+    add-zero-at
+    zero-at-requires
+    add-t22
+    add-zero-at-2
+    zero-at-requires-2
+    add-t24
+    add-a
+    loop-less
+    loop-again
+    mul-at-3
+    add-at-4
+    add-zero-at-3
+    zero-at-requires-3
+    add-t27
+    loop2-holds
+    mul-flag
+    add-flag
+    add-flag-2
+    zero-at-requires-4
+    add-a-2
+    loop2-less
+    loop2-again
+    add-i
+    search-less
+    search-again
+    returns
+    returns-2
+    returns-3
+    returns-4
+    returns-5)
