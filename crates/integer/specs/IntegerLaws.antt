@@ -207,6 +207,11 @@ unfolding withSign
 withSign-positive (pos n) m h = refl
 withSign-positive (negsuc n) m h = absurd (omega arith)
 
+pub withSign-abs : (z : ℤ) (m : ℕ) → natAbs (withSign z m) ≡ m
+unfolding withSign
+withSign-abs (pos n) m = refl
+withSign-abs (negsuc n) m = abs-neg (pos m)
+
 -- ---- The machine's 64 bits
 
 -- a number of magnitude below 2 ^ 63 fits

@@ -1,29 +1,24 @@
--- `nearest` has the property, and is the only number that has it. Assumes nothing.
+-- `nearest` has the property, and is the only number that has it; the signed quotient and remainder give it. Assumes nothing.
 use mathlib.Core.Path.{_≡_, refl, sym, ap, _∙_}
 use mathlib.Core.Logic.{_⊎_, inl, inr, ⊎-elim}
-use Prim.Native.Nat.{ℕ, zero, suc, _+_, _*_, _/_, _≤_, _<_, min}
-use native.Mathlib.Nat.{le-refl, mul-le-mul, mul-add, mul-zero, div-add-mod, mod-lt, div-le-of-le-mul}
+use Prim.Native.Nat.{ℕ, zero, suc, _+_, _*_, _/_, _%_, _≤_, _<_, min}
+use native.Mathlib.Nat.{le-refl, mul-le-mul, mul-add, mul-zero, div-add-mod, mod-lt, div-eq-of-lt-le}
 use native.Mathlib.Omega.{arith}
-use lib.IntN.{ℤ, pos, negsuc, natAbs, _-ℤ_, _*ℤ_}
+use lib.IntN.{ℤ, pos, negsuc, natAbs, _+ℤ_, _-ℤ_, _*ℤ_}
 use Rattle.integer.specs.Integer.{positive, negative, withSign, minus}
-use lib.Signed.{_≤ℤ_}
-use Rattle.integer.specs.IntegerLaws.{parts, parts-eq, parts-le, le-parts, sub-parts, neg-parts, abs-neg}
+use lib.Signed.{_≤ℤ_, quotZ, remZ}
+use Rattle.integer.specs.IntegerLaws.{parts, parts-eq, parts-le, le-parts, add-parts, sub-parts, neg-parts, abs-neg, withSign-abs}
 use Rattle.integer.specs.Nearest.{nearest, IsNearest}
 use Rattle.integer.specs.BelowLaws.{lt-or-le}
 
 -- ---- The rounded quotient of magnitudes
 
--- the magnitude is m rounded by d: not above m + 1
-pub rounded-le : (m d : ℕ) → 0 < d → (2 * m + d) / (2 * d) ≤ m + 1
-rounded-le m d h = div-le-of-le-mul (2 * d) (omega (arith, mul-le-mul h (le-refl m)))
-
 rounded : (m d : ℕ) → 0 < d → (2 * (d * ((2 * m + d) / (2 * d))) ≤ 2 * m + d) × (2 * m + d < 2 * (d * ((2 * m + d) / (2 * d))) + 2 * d)
 rounded m d h = let k : 0 < 2 * d = omega arith in omega (arith, div-add-mod (2 * m + d) (2 * d), mod-lt (2 * m + d) k)
 
 pub nearest-abs : (z : ℤ) (d : ℕ) → natAbs (nearest z d) ≡ (2 * natAbs z + d) / (2 * d)
-unfolding nearest withSign
-nearest-abs (pos n) d = refl
-nearest-abs (negsuc n) d = abs-neg (pos ((2 * suc n + d) / (2 * d)))
+unfolding nearest
+nearest-abs z d = withSign-abs z ((2 * natAbs z + d) / (2 * d))
 
 -- ---- The property
 
@@ -126,6 +121,38 @@ nearest-le z d u h k =
     let e = le-parts k in
     ⊎-elim (λ m. absurd (omega (arith, multiples-apart d u r m, sub-parts (pos d *ℤ r) z, parts (pos d *ℤ r -ℤ z) .abs))) (λ m. parts-le m)
     (lt-or-le (positive u + negative r) (positive r + negative u))
+
+-- ---- Signed division: the quotient cut toward zero, the remainder with the sign of z
+
+pub quotient-abs : (z : ℤ) (d : ℕ) → natAbs (quotZ z (pos d)) ≡ natAbs z / d
+quotient-abs (pos m) d = refl
+quotient-abs (negsuc n) d = abs-neg (pos (suc n / d))
+
+pub remainder-abs : (z : ℤ) (d : ℕ) → natAbs (remZ z (pos d)) ≡ natAbs z % d
+remainder-abs (pos m) d = refl
+remainder-abs (negsuc n) d = abs-neg (pos (suc n % d))
+
+-- a remainder below half of d: the quotient is nearest
+rounded-cut : (m d : ℕ) → 2 * (m % d) < d → (2 * m + d) / (2 * d) ≡ m / d
+rounded-cut m d h = div-eq-of-lt-le (2 * d) (omega (arith, div-add-mod m d)) (omega (arith, div-add-mod m d))
+
+-- else one further from zero is
+rounded-away : (m d : ℕ) → 0 < d → d ≤ 2 * (m % d) → (2 * m + d) / (2 * d) ≡ m / d + 1
+rounded-away m d k h =
+    div-eq-of-lt-le (2 * d) (omega (arith, div-add-mod m d)) (omega (arith, div-add-mod m d, mod-lt m k))
+
+minus-more : (q : ℕ) → minus (q + 1) ≡ minus q +ℤ minus 1
+minus-more q = parts-eq (minus (q + 1)) (minus q +ℤ minus 1) (omega (arith, neg-parts (pos (q + 1)), neg-parts (pos q), add-parts (minus q) (minus 1)))
+
+pub nearest-cut : (z : ℤ) (d : ℕ) → 2 * natAbs (remZ z (pos d)) < d → nearest z d ≡ quotZ z (pos d)
+unfolding nearest withSign
+nearest-cut (pos m) d h = ap pos (rounded-cut m d h)
+nearest-cut (negsuc n) d h = ap minus (rounded-cut (suc n) d (rw (remainder-abs (negsuc n) d) at h))
+
+pub nearest-away : (z : ℤ) (d : ℕ) → 0 < d → d ≤ 2 * natAbs (remZ z (pos d)) → nearest z d ≡ quotZ z (pos d) +ℤ withSign z 1
+unfolding nearest withSign
+nearest-away (pos m) d k h = ap pos (rounded-away m d k h)
+nearest-away (negsuc n) d k h = ap minus (rounded-away (suc n) d k (rw (remainder-abs (negsuc n) d) at h)) ∙ minus-more (suc n / d)
 
 -- ---- The sign cases at the tie
 

@@ -89,11 +89,18 @@ pub fn with_sign(z: i64, m: u64) -> i64
     if z < 0 { 0 - r } else { r }
 }
 
-// The nearest whole number to z / d, a tie going away from zero: the magnitude is divided, and the sign put back.
+// The nearest whole number to z / d, a tie going away from zero: the signed quotient, cut toward zero, and one further from zero where
+// the magnitude of the remainder is half of d or more.
 pub fn nearest_to(z: i64, d: u64) -> i64
     requires { ⌜ (natAbs z ≤ 2 ^ 62) × ((0 < d) × (d ≤ 2 ^ 62)) ⌝ }
     ensures { λ r. ⌜ r ≡ nearest z d ⌝ }
 {
-    let quotient = (2 * magnitude(z) + d) / (2 * d);
-    with_sign(z, quotient)
+    let divisor = d as i64;
+    let quotient = z / divisor;
+    let remainder = z % divisor;
+    if 2 * magnitude(remainder) < d {
+        quotient
+    } else {
+        quotient + with_sign(z, 1)
+    }
 }
