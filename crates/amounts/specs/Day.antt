@@ -57,7 +57,7 @@ slotAmount n today then due rs a i = amountAt (cellAt n today a i) (cellAt n the
 
 -- the total of the intervals below k
 unfoldable pub totalTo : ℕ → List ℤ → List ℤ → Bool → Residuals → ℕ → ℕ → DayTotal
-totalTo n today then due rs a k = record { thousandths = sumℤ k (slotAmount n today then due rs a); intervals = k }
+totalTo n today then due rs a k = record { thousandths = sumℤ k (slotAmount n today then due rs a) }
 
 -- the posted amount of two slots
 unfoldable pub slotPosted : ℕ → List ℤ → List ℤ → Bool → Residuals → ℕ → ℤ

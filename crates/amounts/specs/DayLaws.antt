@@ -2,7 +2,7 @@
 use mathlib.Core.Path.{_≡_, refl, subst}
 use mathlib.Core.Bool.{Bool, true, false}
 use mathlib.Core.List.{List}
-use Prim.Native.Nat.{ℕ, _+_, _*_, _≤_, _<_, _^_}
+use Prim.Native.Nat.{ℕ, _+_, _*_, _≤_, _<_}
 use native.Mathlib.Omega.{arith}
 use lib.IntN.{ℤ, pos, natAbs, _+ℤ_, _-ℤ_, _*ℤ_}
 use lib.ListN.{length}
@@ -80,7 +80,7 @@ pub cell-fits : (n : ℕ) (x : List ℤ) → SlotRanged n x → (a i : ℕ) → 
 cell-fits n x r a i h k = omega (arith, r .whole, row-fits a n 24 h, row-fits i 48 (4 + n * 24) k)
 
 module _ (n : ℕ) (today then : List ℤ) (due : Bool) (rs : Residuals) (a : ℕ) where
-  pub total-zero : record { thousandths = pos 0; intervals = 0 } ≡ totalTo n today then due rs a 0
+  pub total-zero : record { thousandths = pos 0 } ≡ totalTo n today then due rs a 0
   unfolding totalTo fold
   total-zero = refl
 
@@ -99,6 +99,6 @@ module _ (n : ℕ) (today then : List ℤ) (due : Bool) (rs : Residuals) (a : �
     total-le k m = abs-sumℤ k 120000000000000 (slotAmount n today then due rs a) (λ i j. slot-amount-le i (omega arith))
 
     -- the next interval's amount has room
-    pub total-room : (k : ℕ) → k < 48 → SFits w64 (totalTo n today then due rs a k .thousandths +ℤ slotAmount n today then due rs a k) × (totalTo n today then due rs a k .intervals + 1 < 2 ^ 64)
+    pub total-room : (k : ℕ) → k < 48 → SFits w64 (totalTo n today then due rs a k .thousandths +ℤ slotAmount n today then due rs a k)
     unfolding totalTo
-    total-room k m = (fits-add (sumℤ k (slotAmount n today then due rs a)) (slotAmount n today then due rs a k) (omega (arith, total-le k (omega arith), slot-amount-le k m)), omega arith)
+    total-room k m = fits-add (sumℤ k (slotAmount n today then due rs a)) (slotAmount n today then due rs a k) (omega (arith, total-le k (omega arith), slot-amount-le k m))

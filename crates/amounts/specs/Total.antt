@@ -1,8 +1,7 @@
 -- The running total of a day. Assumes nothing.
-use Prim.Native.Nat.{_+_}
 use lib.IntN.{ℤ, _+ℤ_}
 use Rattle.amounts.specs.declared.total.DayTotal.{DayTotal}
 
 -- with one interval's amount more
 abbrev pub absorbed : DayTotal → ℤ → DayTotal
-absorbed t amount = record { thousandths = t .thousandths +ℤ amount; intervals = t .intervals + 1 }
+absorbed t amount = record { thousandths = t .thousandths +ℤ amount }

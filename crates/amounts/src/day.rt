@@ -5,18 +5,16 @@ use crate::cell::vesting_amount;
 use crate::interval::Residual;
 use crate::interval::residual_of;
 use crate::total::DayTotal;
-use crate::total::after_interval;
+use crate::total::absorb;
 use integer::add;
 use integer::nearest_to;
 ghost use mathlib.Core.Path.{_≡_};
 ghost use mathlib.Core.Bool.{true, cond};
-ghost use Prim.Native.Nat.{_+_, _≤_, _<_};
+ghost use Prim.Native.Nat.{_≤_, _<_};
 ghost use lib.IntN.{natAbs};
-ghost use lib.ListN.{length};
-ghost use Rattle.integer.specs.Words.{part};
 ghost use Rattle.rulebook.specs.Shares.{leastResidual};
 ghost use Rattle.amounts.specs.Cell.{Ranged};
-ghost use Rattle.amounts.specs.Day.{SlotRanged, DaysRanged, residualsOf, noResiduals, residualIn, amountAt, totalTo, slotPosted};
+ghost use Rattle.amounts.specs.Day.{SlotRanged, DaysRanged, residualsOf, noResiduals, residualIn, amountAt, slotAmount, totalTo, slotPosted};
 
 // R and S of a day's 48 intervals.
 pub struct Residuals {
@@ -96,16 +94,26 @@ fn interval_amount(today: &[i64], then: &[i64], due: bool, r: Residual) -> i64
     }
 }
 
-// The same of the cells that stand at i in the slots of today and of then.
-fn amount_at(today: &[i64], then: &[i64], due: bool, r: Residual, i: usize) -> i64
-    requires { ⌜ (i + 24 ≤ length (now today)) × (length (now then) ≡ length (now today)) × Ranged (part (now today) i 24) × (due ≡ true → Ranged (part (now then) i 24)) × (natAbs (r .load) ≤ leastResidual) ⌝ }
-    ensures { λ z. ⌜ z ≡ amountAt (part (now (today .entry)) i 24) (part (now (then .entry)) i 24) due r ⌝ }
+// The account's amount at interval h of today's slot and, where a residual is due, of then's.
+fn amount_at(
+    today: &[i64],
+    then: &[i64],
+    due: bool,
+    residuals: Residuals,
+    n: usize,
+    a: usize,
+    h: usize,
+) -> i64
+    requires { ⌜ DaysRanged n (now today) (now then) due residuals × (n ≤ 32) × (a < n) × (h < 48) ⌝ }
+    ensures { λ r. ⌜ r ≡ slotAmount n (now (today .entry)) (now (then .entry)) due residuals a h ⌝ }
 {
+    let size = 4 + n * 24;
+    let i = h * size + (4 + a * 24);
     let e = i + 24;
-    interval_amount(&today[i..e], &then[i..e], due, r)
+    interval_amount(&today[i..e], &then[i..e], due, residual_at(residuals, h))
 }
 
-// The account's amount over the 48 intervals of today's slot and, where a residual is due, of then's.
+// The account's amount over the 48 intervals: the day's total is lent to take each.
 fn exact_amount(
     today: &[i64],
     then: &[i64],
@@ -117,17 +125,9 @@ fn exact_amount(
     requires { ⌜ DaysRanged n (now today) (now then) due residuals × (n ≤ 32) × (a < n) ⌝ }
     ensures { λ r. ⌜ r ≡ totalTo n (now (today .entry)) (now (then .entry)) due residuals a 48 ⌝ }
 {
-    let size = 4 + n * 24;
-    let mut total = DayTotal {
-        thousandths: 0,
-        intervals: 0,
-    };
+    let mut total = DayTotal { thousandths: 0 };
     for h in 0..48 {
-        let i = h * size + (4 + a * 24);
-        total = after_interval(
-            total,
-            amount_at(today, then, due, residual_at(residuals, h), i),
-        );
+        absorb(&mut total, amount_at(today, then, due, residuals, n, a, h));
     }
     total
 }

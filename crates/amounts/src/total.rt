@@ -1,42 +1,29 @@
 // Document 01, "Day amount": the running total, which takes one interval after another.
 ghost use mathlib.Core.Path.{_≡_};
-ghost use Prim.Native.Nat.{_<_, _+_, _^_};
 ghost use lib.IntN.{_+ℤ_};
 ghost use mir.Syntax.{w64};
 ghost use mir.Val.{SFits};
 ghost use Rattle.amounts.specs.Total.{absorbed};
 
-// An account's day so far: its amount in thousandths of a cent, and how many intervals it has.
+// An account's day so far: its amount in thousandths of a cent.
 pub struct DayTotal {
     pub thousandths: i64,
-    pub intervals: u64,
 }
 
 // The total with one interval's amount more.
 pub fn added(total: DayTotal, amount: i64) -> DayTotal
-    requires { ⌜ SFits w64 (total .thousandths +ℤ amount) × (total .intervals + 1 < 2 ^ 64) ⌝ }
+    requires { ⌜ SFits w64 (total .thousandths +ℤ amount) ⌝ }
     ensures { λ r. ⌜ r ≡ absorbed total amount ⌝ }
 {
     DayTotal {
         thousandths: total.thousandths + amount,
-        intervals: total.intervals + 1,
     }
 }
 
 // One interval's amount goes into the total that the caller lends.
 pub fn absorb(total: &mut DayTotal, amount: i64)
-    requires { ⌜ SFits w64 (now total .thousandths +ℤ amount) × (now total .intervals + 1 < 2 ^ 64) ⌝ }
+    requires { ⌜ SFits w64 (now total .thousandths +ℤ amount) ⌝ }
     ensures { λ _. ⌜ now (total .exit) ≡ absorbed (now (total .entry)) amount ⌝ }
 {
     *total = added(*total, amount);
-}
-
-// A total goes in by value, is lent to absorb the amount, and comes back: what the loop over the intervals calls.
-pub fn after_interval(total: DayTotal, amount: i64) -> DayTotal
-    requires { ⌜ SFits w64 (total .thousandths +ℤ amount) × (total .intervals + 1 < 2 ^ 64) ⌝ }
-    ensures { λ r. ⌜ r ≡ absorbed total amount ⌝ }
-{
-    let mut day = total;
-    absorb(&mut day, amount);
-    day
 }

@@ -1,21 +1,46 @@
--- `amount_at` meets its contract: what is lent are the two cells.
-use mathlib.Core.Path.{_≡_, _∙_}
+-- `amount_at` meets its contract: what is lent are the account's two cells at the interval.
+use mathlib.Core.Path.{_≡_, ap, _∙_}
 use mathlib.Core.Bool.{Bool}
 use mathlib.Core.List.{List}
+use Prim.Native.Nat.{_+_, _*_, _≤_}
+use native.Mathlib.Omega.{arith}
 use borrow.Author.Needs.{needs}
 use lib.IntN.{ℤ}
+use lib.ListN.{length}
 use Rattle.integer.specs.WordsLaws.{lent}
 use Rattle.integer.specs.Bits.{got}
 use Rattle.amounts.specs.declared.interval.Residual.{Residual}
-use Rattle.amounts.specs.Day.{amountAt}
+use Rattle.amounts.specs.Day.{amountAt, slotAmount}
+use Rattle.amounts.specs.DayLaws.{cell-ranged, cell-fits}
 use Rattle.amounts.proofs.day.amount_at.Statement.{statement}
 use Rattle.amounts.proofs.day.amount_at.Tie as tie
 
+fits : (c : tie.Start) → c .args .h * (4 + c .args .n * 24) + (4 + c .args .a * 24) + 24 ≤ length (c .args .today .now)
+fits c = cell-fits (c .args .n) (c .args .today .now) (c .pre .0 .closing) (c .args .a) (c .args .h) (c .pre .2) (c .pre .3)
+
+mul-size : tie.Need-mul-size
+mul-size c = search needs
+
+add-size : tie.Need-add-size
+add-size c = search needs
+
+mul-i : tie.Need-mul-i
+mul-i c = omega (arith, fits c)
+
+mul-i-2 : tie.Need-mul-i-2
+mul-i-2 c = search needs
+
+add-i : tie.Need-add-i
+add-i c = search needs
+
+add-i-2 : tie.Need-add-i-2
+add-i-2 c = omega (arith, fits c)
+
 add-e : tie.Need-add-e
-add-e c = search needs
+add-e c = omega (arith, fits c)
 
 mul-interval-amount : tie.Need-mul-interval-amount
-mul-interval-amount c = search needs
+mul-interval-amount c = omega (arith, fits c)
 
 sub-interval-amount : tie.Need-sub-interval-amount
 sub-interval-amount c = search needs
@@ -24,10 +49,10 @@ part-interval-amount-start : tie.Need-part-interval-amount-start
 part-interval-amount-start c = search needs
 
 part-interval-amount-end : tie.Need-part-interval-amount-end
-part-interval-amount-end c = search needs
+part-interval-amount-end c = let h = fits c in search needs
 
 mul-interval-amount-2 : tie.Need-mul-interval-amount-2
-mul-interval-amount-2 c = search needs
+mul-interval-amount-2 c = omega (arith, fits (c .before))
 
 sub-interval-amount-2 : tie.Need-sub-interval-amount-2
 sub-interval-amount-2 c = search needs
@@ -36,24 +61,36 @@ part-interval-amount-start-2 : tie.Need-part-interval-amount-start-2
 part-interval-amount-start-2 c = search needs
 
 part-interval-amount-end-2 : tie.Need-part-interval-amount-end-2
-part-interval-amount-end-2 c = search needs
+part-interval-amount-end-2 c = let h = fits (c .before) in let l = c .before .pre .0 .long in search needs
+
+residual-at-requires : tie.Need-residual-at-requires
+residual-at-requires c κs = search needs
 
 interval-amount-requires : tie.Need-interval-amount-requires
 interval-amount-requires c κs =
-    let s = c .before .before in (
-      rw (lent (s .args .today .now) (s .args .i) 24) (s .pre .2),
-      λ e. rw (lent (s .args .then .now) (s .args .i) 24) (s .pre .3 e),
-      s .pre .4,
+    let s = c .before .before .before in
+    let a = s .args in
+    let p = s .pre .0 in
+    let i = a .h * (4 + a .n * 24) + (4 + a .a * 24) in (
+      rw (lent (a .today .now) i 24) (cell-ranged (a .n) (a .today .now) (p .closing) (a .a) (a .h) (s .pre .2) (s .pre .3)),
+      λ e. rw (lent (a .then .now) i 24) (cell-ranged (a .n) (a .then .now) (p .settled e) (a .a) (a .h) (s .pre .2) (s .pre .3)),
+      rw (ap (λ (r : Residual). r .load) (c .residual-at .ensures)) (p .loads (a .h) (s .pre .3)),
     )
 
-amount-cong : {x x′ y y′ : List ℤ} (due : Bool) (r : Residual) → x ≡ x′ → y ≡ y′ → amountAt x y due r ≡ amountAt x′ y′ due r
-amount-cong due r e f = cc
+amount-cong : {x x′ y y′ : List ℤ} (due : Bool) {r r′ : Residual} → x ≡ x′ → y ≡ y′ → r ≡ r′ → amountAt x y due r ≡ amountAt x′ y′ due r′
+amount-cong due e f g = cc
 
 returns : tie.Need-returns
+unfolding slotAmount
 returns c =
-    let s = c .before .before .before in
+    let s = c .before .before .before .before in
+    let a = s .args in
+    let i = a .h * (4 + a .n * 24) + (4 + a .a * 24) in
     got (c .interval-amount .result) (c .interval-amount .ok) ∙ c .interval-amount .ensures
-    ∙ amount-cong (s .args .due) (s .args .r) (lent (s .args .today .now) (s .args .i) 24) (lent (s .args .then .now) (s .args .i) 24)
+    ∙ amount-cong (a .due) (lent (a .today .now) i 24) (lent (a .then .now) i 24) (c .before .residual-at .ensures)
 
 pub amount-at-spec : {M : Type 1} → statement M
-amount-at-spec = tie.close (tie.spec add-e mul-interval-amount sub-interval-amount part-interval-amount-start part-interval-amount-end mul-interval-amount-2 sub-interval-amount-2 part-interval-amount-start-2 part-interval-amount-end-2 interval-amount-requires returns)
+amount-at-spec =
+    tie.close
+    (tie.spec mul-size add-size mul-i mul-i-2 add-i add-i-2 add-e mul-interval-amount sub-interval-amount part-interval-amount-start part-interval-amount-end mul-interval-amount-2 sub-interval-amount-2 part-interval-amount-start-2 part-interval-amount-end-2
+    residual-at-requires interval-amount-requires returns)
