@@ -36,12 +36,16 @@ abbrev pub nextOf : Field → ℕ → ℕ
 nextOf (Whole v next) at = next
 nextOf Cut at = at
 
-abbrev pub headingOf : Field → Field → Heading
-headingOf account day = record { account = account; day = day }
+abbrev pub headingOf : Field → Field → Field → ℕ → Heading
+headingOf account day count next = record { account = account; day = day; count = count; next = next }
 
--- an account of n bytes at `at`, and the day after it
-abbrev pub headingAt : ℕ → List ℕ → ℕ → Heading
-headingAt n s at = headingOf (fieldAt n s at) (fieldAt 2 s (nextOf (fieldAt n s at) at))
+-- where reading goes on after the field of n bytes at `at`
+abbrev pub past : ℕ → List ℕ → ℕ → ℕ
+past n s at = nextOf (fieldAt n s at) at
+
+-- an account of n bytes at `at`, the day after it, and a count of m bytes after that
+abbrev pub headingAt : ℕ → ℕ → List ℕ → ℕ → Heading
+headingAt n m s at = headingOf (fieldAt n s at) (fieldAt 2 s (past n s at)) (fieldAt m s (past 2 s (past n s at))) (past m s (past 2 s (past n s at)))
 
 -- ---- Judged
 

@@ -16,7 +16,7 @@ use Rattle.rulebook.specs.declared.Why.the-variants.{NotWhole, OutOfRange, DayN
 use Rattle.rulebook.specs.declared.Verdict.{Verdict}
 use Rattle.rulebook.specs.declared.Verdict.the-variants.{Accepted, Refused}
 use Rattle.rulebook.specs.Sections.{leastCount, mostCount}
-use Rattle.rulebook.specs.File.{accountBytes, countBytes, accountAt, dayAt, dayPos, countPos, valuesPos, valuesIn, rowEnd, rowPos, rowsIn, sectionEnd}
+use Rattle.rulebook.specs.File.{accountBytes, countBytes, accountAt, dayAt, countAt, dayPos, countPos, valuesPos, valuesIn, rowEnd, rowPos, rowsIn, sectionEnd}
 use Rattle.rulebook.specs.Judging.{openFrom, require, _andThen_, upTo, fieldIn, key, rest, rowAfter, judgedRow, judgedSection}
 use Rattle.rulebook.specs.JudgingLaws.{then-both, checked, field-says, keyed}
 use Rattle.files.specs.declared.reader.Heading.{Heading}
@@ -28,20 +28,34 @@ use Rattle.files.specs.Marks.{markOf, marked, unmarked, marksAfter, Mark
 use Rattle.files.specs.MarksLaws.{length-unmarked, marked-none, marked-more}
 use Rattle.files.specs.ValuesLaws.{values-part, values-end}
 
--- ---- Account and day
+-- ---- A heading, read through: account, day, count
 
-module _ (l : Limits) (sec : Section) (s : List ℕ) (at : ℕ) {n : ℕ} {h : Heading} (en : n ≡ accountBytes sec) (eh : h ≡ headingAt n s at) where
+module _ (l : Limits) (sec : Section) (s : List ℕ) (at : ℕ) {h : Heading} (eh : h ≡ headingAt (accountBytes sec) (countBytes sec) s at) where
   pub heading-account : fieldOutcome (h .account) at 0 (l .accounts - 1) OutOfRange
       ≡ outcome (fieldIn (accountBytes sec) 0 (l .accounts - 1) OutOfRange s at) (accountAt sec s at)
-  heading-account = rw (eh, en) (field-judged (accountBytes sec) s at 0 (l .accounts - 1) OutOfRange)
+  heading-account = rw eh (field-judged (accountBytes sec) s at 0 (l .accounts - 1) OutOfRange)
 
   -- the day stands past the account where that is whole
-  pub heading-day : {low : ℕ} → low ≡ openFrom l sec → fieldIn (accountBytes sec) 0 (l .accounts - 1) OutOfRange s at ≡ Accepted
+  pub heading-day : {n low : ℕ} → n ≡ accountBytes sec → low ≡ openFrom l sec → fieldIn (accountBytes sec) 0 (l .accounts - 1) OutOfRange s at ≡ Accepted
       → fieldOutcome (h .day) (at + n) low (l .last) DayNotOpen
       ≡ outcome (fieldIn 2 (openFrom l sec) (l .last) DayNotOpen s (dayPos sec at)) (dayAt sec s at)
-  heading-day el e =
-      rw (el, eh, en, field-whole (accountBytes sec) s at (field-says _ _ _ _ _ _ e .whole))
+  heading-day en el e =
+      rw (en, el, eh, field-whole (accountBytes sec) s at (field-says _ _ _ _ _ _ e .whole))
       (field-judged 2 s (dayPos sec at) (openFrom l sec) (l .last) DayNotOpen)
+
+module _ (sec : Section) (s : List ℕ) (at : ℕ) {h : Heading} (eh : h ≡ headingAt (accountBytes sec) (countBytes sec) s at) (whole : countPos sec at ≤ length s) where
+  -- the count stands past the day where account and day are whole
+  pub heading-count : {n : ℕ} → n ≡ accountBytes sec
+      → fieldOutcome (h .count) (at + n + 2) (leastCount sec) (mostCount sec) OutOfRange
+      ≡ outcome (fieldIn (countBytes sec) (leastCount sec) (mostCount sec) OutOfRange s (countPos sec at)) (countAt sec s at)
+  heading-count en =
+      rw (en, eh, field-whole (accountBytes sec) s at (omega arith), field-whole 2 s (dayPos sec at) whole)
+      (field-judged (countBytes sec) s (countPos sec at) (leastCount sec) (mostCount sec) OutOfRange)
+
+  -- and the values past the count where that is whole
+  pub heading-next : fieldIn (countBytes sec) (leastCount sec) (mostCount sec) OutOfRange s (countPos sec at) ≡ Accepted → h .next ≡ valuesPos sec at
+  heading-next e =
+      rw (eh, field-whole (accountBytes sec) s at (omega arith), field-whole 2 s (dayPos sec at) whole, field-whole (countBytes sec) s (countPos sec at) (field-says _ _ _ _ _ _ e .whole))
 
 -- ---- Count and values
 

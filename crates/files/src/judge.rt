@@ -1,7 +1,7 @@
 // Document 01, "A submission file": the rows of a section, the four sections, and the end of the file.
 use crate::fields::Field;
 use crate::fields::Outcome;
-use crate::fields::field_at;
+use crate::reader::read_count;
 use crate::rows::judge_row;
 use rulebook::Limits;
 use rulebook::Section;
@@ -50,7 +50,7 @@ fn judge_section(limits: Limits, sec: Section, file: &[u8], at: usize) -> Outcom
     requires { ⌜ (BookLimits limits) × (at ≤ length (now file)) ⌝ }
     ensures { λ r. ⌜ r ≡ outcome (judgedSection limits sec (now (file .entry)) at) (sectionEnd sec (now (file .entry)) at) ⌝ }
 {
-    match field_at(file, at, 2) {
+    match read_count(file, at) {
         Field::Cut => Outcome::Stopped(Why::NotWhole, at),
         Field::Whole(count, first) => {
             let mut marks = [0u8; MARKS];

@@ -1,4 +1,4 @@
-// Document 01: a reader over the submission moves on only past a whole field. Here it reads a row's account and day.
+// Document 01: a reader over the submission moves on only past a whole field. Here it reads the heading of a row, and a section's count of rows.
 use crate::fields::Field;
 use crate::fields::field_at;
 use crate::fields::next_of;
@@ -12,28 +12,35 @@ pub struct Reader<'a> {
     pub at: usize,
 }
 
-// A row's first two fields, as they were read.
+// What stands before a row's values, as it was read: account, day and tranche or facility count, and the position past the last whole one.
 pub struct Heading {
     pub account: Field,
     pub day: Field,
+    pub count: Field,
+    pub next: usize,
 }
 
-// The two fields together.
-fn heading_of(account: Field, day: Field) -> Heading
-    ensures { λ r. ⌜ r ≡ headingOf account day ⌝ }
+// The three fields and the position together.
+fn heading_of(account: Field, day: Field, count: Field, next: usize) -> Heading
+    ensures { λ r. ⌜ r ≡ headingOf account day count next ⌝ }
 {
-    Heading { account, day }
+    Heading {
+        account,
+        day,
+        count,
+        next,
+    }
 }
 
 // A reader at a position.
-fn reader_at<'a>(file: &'a [u8], at: usize) -> Reader<'a>
+pub fn reader_at<'a>(file: &'a [u8], at: usize) -> Reader<'a>
     ensures { λ r. ⌜ (r .file ≡ file .entry) × (r .at ≡ at) ⌝ }
 {
     Reader { file, at }
 }
 
 // The field of n bytes that comes next. The reader moves on only past a whole field.
-fn take<'s, 'a>(r: &'s mut Reader<'a>, n: usize) -> Field
+pub fn take<'s, 'a>(r: &'s mut Reader<'a>, n: usize) -> Field
     requires { ⌜ n ≤ 2 ⌝ }
     ensures { λ f. ⌜ (f ≡ fieldAt n (now (now (r .entry) .file)) (now (r .entry) .at)) × ((now (r .exit) .file ≡ now (r .entry) .file) × (now (r .exit) .at ≡ nextOf f (now (r .entry) .at))) ⌝ }
 {
@@ -43,13 +50,22 @@ fn take<'s, 'a>(r: &'s mut Reader<'a>, n: usize) -> Field
     f
 }
 
-// The account and the day of the row at a position, the account of n bytes.
-pub fn read_heading(file: &[u8], at: usize, n: usize) -> Heading
-    requires { ⌜ n ≤ 2 ⌝ }
-    ensures { λ r. ⌜ r ≡ headingAt n (now (file .entry)) at ⌝ }
+// The heading of the row at a position, its account of n bytes and its count of m.
+pub fn read_heading(file: &[u8], at: usize, n: usize, m: usize) -> Heading
+    requires { ⌜ (n ≤ 2) × (m ≤ 2) ⌝ }
+    ensures { λ r. ⌜ r ≡ headingAt n m (now (file .entry)) at ⌝ }
 {
     let mut r = reader_at(file, at);
     let account = take(&mut r, n);
     let day = take(&mut r, 2);
-    heading_of(account, day)
+    let count = take(&mut r, m);
+    heading_of(account, day, count, r.at)
+}
+
+// The count of rows of the section at a position.
+pub fn read_count(file: &[u8], at: usize) -> Field
+    ensures { λ f. ⌜ f ≡ fieldAt 2 (now (file .entry)) at ⌝ }
+{
+    let mut r = reader_at(file, at);
+    take(&mut r, 2)
 }

@@ -1,8 +1,9 @@
 // Document 01, "A submission file": one row, its fields judged in file order.
+use crate::fields::Field;
 use crate::fields::Outcome;
-use crate::fields::field_at;
 use crate::fields::judge_field;
 use crate::fields::value_at;
+use crate::reader::Heading;
 use crate::reader::read_heading;
 use crate::sections::account_bytes;
 use crate::sections::count_bytes;
@@ -24,20 +25,26 @@ ghost use Prim.Native.Nat.{_+_, _*_, _≤_, _<_, _^_};
 ghost use lib.ListN.{length, set};
 ghost use Rattle.rulebook.specs.declared.Why.the-variants.{OutOfRange};
 ghost use Rattle.rulebook.specs.Sections.{leastCount, mostCount};
-ghost use Rattle.rulebook.specs.File.{num, accountBytes, countBytes, rowEnd};
-ghost use Rattle.rulebook.specs.Judging.{upTo, fieldIn, key, rest, rowAfter};
-ghost use Rattle.files.specs.Fields.{outcome};
+ghost use Rattle.rulebook.specs.File.{accountBytes, countBytes, rowEnd};
+ghost use Rattle.rulebook.specs.Judging.{upTo, key, rest, rowAfter};
+ghost use Rattle.files.specs.Fields.{outcome, headingAt, fieldOutcome};
 ghost use Rattle.files.specs.Values.{valueIn};
 ghost use Rattle.files.specs.BookLimits.{BookLimits};
 ghost use Rattle.files.specs.Marks.{markOf, marked, marksAfter, mostMarks};
 
-// The account and the day of the row at a position: the place of their mark.
-fn judge_key(limits: Limits, sec: Section, file: &[u8], at: usize) -> Outcome
-    requires { ⌜ (BookLimits limits) × (at ≤ length (now file)) ⌝ }
+// The heading of the row at a position.
+fn row_heading(sec: Section, file: &[u8], at: usize) -> Heading
+    ensures { λ r. ⌜ r ≡ headingAt (accountBytes sec) (countBytes sec) (now (file .entry)) at ⌝ }
+{
+    read_heading(file, at, account_bytes(sec), count_bytes(sec))
+}
+
+// The account and the day of the row at a position, whose heading was read: the place of their mark.
+fn judge_key(limits: Limits, sec: Section, file: &[u8], heading: Heading, at: usize) -> Outcome
+    requires { ⌜ (BookLimits limits) × (at ≤ length (now file)) × (heading ≡ headingAt (accountBytes sec) (countBytes sec) (now file) at) ⌝ }
     ensures { λ r. ⌜ r ≡ outcome (key limits sec (now (file .entry)) at) (markOf limits sec (now (file .entry)) at) ⌝ }
 {
     let n = account_bytes(sec);
-    let heading = read_heading(file, at, n);
     let account_field = heading.account;
     let day_field = heading.day;
     let account = match judge_field(account_field, at, 0, limits.accounts - 1, Why::OutOfRange) {
@@ -89,25 +96,24 @@ fn outcome_of(v: Verdict, next: usize) -> Outcome
     }
 }
 
-// The tranche or facility count at a position.
-fn judge_count(sec: Section, file: &[u8], at: usize) -> Outcome
-    ensures { λ r. ⌜ r ≡ outcome (fieldIn (countBytes sec) (leastCount sec) (mostCount sec) OutOfRange (now (file .entry)) at) (num (countBytes sec) (now (file .entry)) at) ⌝ }
+// The tranche or facility count that was read at a position.
+fn judge_count(sec: Section, f: Field, at: usize) -> Outcome
+    ensures { λ r. ⌜ r ≡ fieldOutcome f at (leastCount sec) (mostCount sec) OutOfRange ⌝ }
 {
-    let f = field_at(file, at, count_bytes(sec));
     judge_field(f, at, least_count(sec), most_count(sec), Why::OutOfRange)
 }
 
 // What follows the day of the row at a position, count and values; the position past the row.
-fn judge_rest(sec: Section, file: &[u8], at: usize) -> Outcome
-    requires { ⌜ at + accountBytes sec + 2 ≤ length (now file) ⌝ }
+fn judge_rest(sec: Section, file: &[u8], heading: Heading, at: usize) -> Outcome
+    requires { ⌜ (at + accountBytes sec + 2 ≤ length (now file)) × (heading ≡ headingAt (accountBytes sec) (countBytes sec) (now file) at) ⌝ }
     ensures { λ r. ⌜ r ≡ outcome (rest sec (now (file .entry)) at) (rowEnd sec (now (file .entry)) at) ⌝ }
 {
-    let count_at = at + account_bytes(sec) + 2;
-    let count = match judge_count(sec, file, count_at) {
+    let count_field = heading.count;
+    let count = match judge_count(sec, count_field, at + account_bytes(sec) + 2) {
         Outcome::Passed(v) => v,
         Outcome::Stopped(w, p) => return Outcome::Stopped(w, p),
     };
-    let from = count_at + count_bytes(sec);
+    let from = heading.next;
     let n = INTERVALS * per_interval(sec, count);
     let end = from + 4 * n;
     let cut = least(end, file.len());
@@ -119,12 +125,13 @@ pub fn judge_row(limits: Limits, sec: Section, file: &[u8], at: usize, marks: &m
     requires { ⌜ (BookLimits limits) × (at ≤ length (now file)) × (length (now marks) ≡ mostMarks) ⌝ }
     ensures { λ r. ⌜ (r ≡ outcome (rowAfter limits sec (now (file .entry)) at (marked (now (marks .entry)) (markOf limits sec (now (file .entry)) at))) (rowEnd sec (now (file .entry)) at)) × (now (marks .exit) ≡ marksAfter (key limits sec (now (file .entry)) at) (markOf limits sec (now (file .entry)) at) (now (marks .entry))) ⌝ }
 {
-    let k = match judge_key(limits, sec, file, at) {
+    let heading = row_heading(sec, file, at);
+    let k = match judge_key(limits, sec, file, heading, at) {
         Outcome::Passed(v) => v,
         Outcome::Stopped(w, p) => return Outcome::Stopped(w, p),
     };
     if mark_given(marks, k) {
         return Outcome::Stopped(Why::Repeated, at + account_bytes(sec));
     }
-    judge_rest(sec, file, at)
+    judge_rest(sec, file, heading, at)
 }

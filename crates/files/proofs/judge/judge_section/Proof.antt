@@ -11,8 +11,8 @@ use Rattle.files.specs.RowsLaws.{section-cut, section-judged}
 use Rattle.files.proofs.judge.judge_section.Statement.{statement}
 use Rattle.files.proofs.judge.judge_section.Tie as tie
 
-field-at-requires : tie.Need-field-at-requires
-field-at-requires c κs = search needs
+read-count-requires : tie.Need-read-count-requires
+read-count-requires c κs = search needs
 
 enum-told : tie.Need-enum-told
 enum-told c = search needs
@@ -25,7 +25,7 @@ module _ (c : tie.After-known-told) where
   start = c .before .before .before .before .before
 
   says : (start .args .at + 2 ≤ length (start .args .file .now)) × (rowsIn (start .args .file .now) (start .args .at) ≡ c .before .count .given .0 .0) × (start .args .at + 2 ≡ c .before .count .given .0 .1 .0)
-  says = whole-says 2 (start .args .file .now) (start .args .at) _ _ (sym (c .before .before .before .field-at .ensures) ∙ c .before .count .given .1)
+  says = whole-says 2 (start .args .file .now) (start .args .at) _ _ (sym (c .before .before .before .read-count .ensures) ∙ c .before .count .given .1)
 
 slice-aggregate-judge-rows : tie.Need-slice-aggregate-judge-rows
 slice-aggregate-judge-rows c = search needs
@@ -40,7 +40,7 @@ returns : tie.Need-returns
 returns c =
     let b = c .before .before in
     let g = b .before .before .args in
-    rw (section-cut (g .limits) (g .sec) (g .file .now) (g .at) (cut-says 2 (g .file .now) (g .at) (sym (b .field-at .ensures) ∙ c .enum-told .given .1)))
+    rw (section-cut (g .limits) (g .sec) (g .file .now) (g .at) (cut-says 2 (g .file .now) (g .at) (sym (b .read-count .ensures) ∙ c .enum-told .given .1)))
 
 returns-2 : tie.Need-returns-2
 returns-2 c =
@@ -52,7 +52,7 @@ pub judge-section-spec : {M : Type 1} → statement M
 judge-section-spec =
     tie.close
     (tie.spec
-    field-at-requires
+    read-count-requires
     enum-told
     enum-known-count
     slice-aggregate-judge-rows

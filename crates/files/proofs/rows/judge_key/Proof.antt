@@ -20,9 +20,6 @@ use Rattle.files.proofs.rows.judge_key.Tie as tie
 account-bytes-requires : tie.Need-account-bytes-requires
 account-bytes-requires c κs = search needs
 
-read-heading-requires : tie.Need-read-heading-requires
-read-heading-requires c κs = search needs
-
 sub-judge-field : tie.Need-sub-judge-field
 sub-judge-field c = search needs
 
@@ -52,12 +49,12 @@ module _ (s : tie.Start) where
 -- what the first call says
 module _ (c : tie.After-judge-field) where
   abbrev start : tie.Start
-  start = c .before .before .before .before .before
+  start = c .before .before .before .before
 
   account : outcome (accountJudged start) (accountNumber start) ≡ c .judge-field .result
   account =
       sym (c .judge-field .ensures
-      ∙ heading-account (start .args .limits) (start .args .sec) (start .args .file .now) (start .args .at) (c .before .before .before .account-bytes .ensures .0) (c .before .before .read-heading .ensures))
+      ∙ heading-account (start .args .limits) (start .args .sec) (start .args .file .now) (start .args .at) (start .pre .2))
 
 module _ (c : tie.After-known-told) where
   abbrev start-day : tie.Start
@@ -75,8 +72,8 @@ module _ (c : tie.After-judge-field2) where
   day =
       let g = start first .args in
       sym (c .judge-field2 .ensures
-      ∙ heading-day (g .limits) (g .sec) (g .file .now) (g .at) (first .before .before .before .account-bytes .ensures .0) (first .before .before .read-heading .ensures)
-      (c .before .open-from .ensures) (account-on (c .before .before) .0))
+      ∙ heading-day (g .limits) (g .sec) (g .file .now) (g .at) (start first .pre .2)
+      (first .before .before .account-bytes .ensures .0) (c .before .open-from .ensures) (account-on (c .before .before) .0))
 
 module _ (c : tie.After-known-told3) where
   abbrev second : tie.After-judge-field2
@@ -149,7 +146,6 @@ judge-key-spec =
     tie.close
     (tie.spec
     account-bytes-requires
-    read-heading-requires
     sub-judge-field
     judge-field-requires
     enum-known-v

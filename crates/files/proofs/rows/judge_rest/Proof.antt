@@ -1,4 +1,4 @@
--- `judge_rest` meets its contract: the values stand past the count, and judging their part of the file is judging the file.
+-- `judge_rest` meets its contract: the count comes from the heading, the values stand past it, and judging their part of the file is judging the file.
 use mathlib.Core.Path.{_≡_, sym, ap, _∙_}
 use Prim.Native.Nat.{_+_, _*_}
 use native.Mathlib.Omega.{arith}
@@ -13,18 +13,18 @@ use Rattle.rulebook.specs.Judging.{fieldIn, rest}
 use Rattle.rulebook.specs.JudgingLaws.{Field, field-says}
 use Rattle.files.specs.Fields.{outcome}
 use Rattle.files.specs.FieldsLaws.{outcome-passed, outcome-stopped}
-use Rattle.files.specs.RowsLaws.{count-le, rest-values}
+use Rattle.files.specs.RowsLaws.{heading-count, heading-next, count-le, rest-values}
 use Rattle.files.proofs.rows.judge_rest.Statement.{statement}
 use Rattle.files.proofs.rows.judge_rest.Tie as tie
 
 account-bytes-requires : tie.Need-account-bytes-requires
 account-bytes-requires c κs = search needs
 
-add-count-at : tie.Need-add-count-at
-add-count-at c = search needs
+add-judge-count : tie.Need-add-judge-count
+add-judge-count c = search needs
 
-add-count-at-2 : tie.Need-add-count-at-2
-add-count-at-2 c = search needs
+add-judge-count-2 : tie.Need-add-judge-count-2
+add-judge-count-2 c = search needs
 
 judge-count-requires : tie.Need-judge-count-requires
 judge-count-requires c κs = search needs
@@ -45,7 +45,7 @@ module _ (c : tie.After-judge-count) where
   start = c .before .before .before
 
   count : outcome (countJudged start) (countAt (start .args .sec) (start .args .file .now) (start .args .at)) ≡ c .judge-count .result
-  count = sym (rw (c .before .account-bytes .ensures .0) at (c .judge-count .ensures))
+  count = sym (c .judge-count .ensures ∙ heading-count (start .args .sec) (start .args .file .now) (start .args .at) (start .pre .1) (start .pre .0) (c .before .account-bytes .ensures .0))
 
 module _ (c : tie.After-known-told) where
   abbrev counted : tie.After-judge-count
@@ -57,23 +57,20 @@ module _ (c : tie.After-known-told) where
   says : Field (countBytes (start counted .args .sec)) (leastCount (start counted .args .sec)) (mostCount (start counted .args .sec)) OutOfRange (start counted .args .file .now) (countPos (start counted .args .sec) (start counted .args .at))
   says = field-says _ _ _ _ _ _ (count-on .0)
 
+  from : start counted .args .heading .next ≡ valuesPos (start counted .args .sec) (start counted .args .at)
+  from = heading-next (start counted .args .sec) (start counted .args .file .now) (start counted .args .at) (start counted .pre .1) (start counted .pre .0) (count-on .0)
+
 returns : tie.Need-returns
 unfolding rest
 returns c =
     let x : countJudged (start (c .before .before .before)) ≡ Refused _ _ = outcome-stopped _ _ _ _ (count (c .before .before .before) ∙ c .before .w .given .1) in
     rw x
 
-count-bytes-requires : tie.Need-count-bytes-requires
-count-bytes-requires c κs = search needs
-
-add-from : tie.Need-add-from
-add-from c = search needs
-
 per-interval-requires : tie.Need-per-interval-requires
 per-interval-requires c κs =
-    let x = says (c .before) in
-    let v = count-on (c .before) .1 in
-    let l = count-le (start (counted (c .before)) .args .sec) in
+    let x = says c in
+    let v = count-on c .1 in
+    let l = count-le (start (counted c) .args .sec) in
     omega arith
 
 mul-n : tie.Need-mul-n
@@ -83,22 +80,22 @@ mul-end : tie.Need-mul-end
 mul-end c = search needs
 
 add-end : tie.Need-add-end
-add-end c = search needs
+add-end c = let x = says (c .before) in let y = from (c .before) in omega arith
 
 least-requires : tie.Need-least-requires
 least-requires c κs = search needs
 
 sub-judge-values : tie.Need-sub-judge-values
-sub-judge-values c = let x = says (c .before .before .before) in omega arith
+sub-judge-values c = let x = says (c .before .before) in let y = from (c .before .before) in omega arith
 
 part-judge-values-start : tie.Need-part-judge-values-start
-part-judge-values-start c = let x = says (c .before .before .before) in omega arith
+part-judge-values-start c = let x = says (c .before .before) in let y = from (c .before .before) in omega arith
 
 part-judge-values-end : tie.Need-part-judge-values-end
 part-judge-values-end c = search needs
 
 judge-values-requires : tie.Need-judge-values-requires
-judge-values-requires c κs = let x = says (c .before .before .before .before) in (omega arith, simp (length-take, length-drop) (omega arith))
+judge-values-requires c κs = let x = says (c .before .before .before) in let y = from (c .before .before .before) in (omega arith, simp (length-take, length-drop) (omega arith))
 
 outcome-of-requires : tie.Need-outcome-of-requires
 outcome-of-requires c κs = search needs
@@ -106,30 +103,25 @@ outcome-of-requires c κs = search needs
 returns-2 : tie.Need-returns-2
 returns-2 c =
     let p = c .before .before .before .before in
-    let b = p .before in
-    let k = b .before in
+    let k = p .before in
     let g = start (counted k) .args in
-    let ab = counted k .before .account-bytes in
-    let ea : g .at + ab .result + 2 + b .count-bytes .result ≡ valuesPos (g .sec) (g .at) = omega arith in
     let en : 48 * p .per-interval .result ≡ valuesIn (g .sec) (g .file .now) (g .at) =
     let x = p .per-interval .ensures .0 in let y = count-on k .1 in cc in
     c .outcome-of .ensures
-    ∙ (ap (λ (v : Verdict). outcome v (g .at + ab .result + 2 + b .count-bytes .result + 4 * (48 * p .per-interval .result))) (c .before .judge-values .ensures)
-    ∙ rest-values (g .sec) (g .file .now) (g .at) (count-on k .0) ea en (c .before .before .before .least .ensures))
+    ∙ (ap (λ (v : Verdict). outcome v (g .heading .next + 4 * (48 * p .per-interval .result))) (c .before .judge-values .ensures)
+    ∙ rest-values (g .sec) (g .file .now) (g .at) (count-on k .0) (from k) en (c .before .before .before .least .ensures))
 
 pub judge-rest-spec : {M : Type 1} → statement M
 judge-rest-spec =
     tie.close
     (tie.spec
     account-bytes-requires
-    add-count-at
-    add-count-at-2
+    add-judge-count
+    add-judge-count-2
     judge-count-requires
     enum-known-v
     enum-known-w
     returns
-    count-bytes-requires
-    add-from
     per-interval-requires
     mul-n
     mul-end

@@ -14,6 +14,9 @@ use Rattle.files.specs.RowsLaws.{row-refused, row-again, row-rest}
 use Rattle.files.proofs.rows.judge_row.Statement.{statement}
 use Rattle.files.proofs.rows.judge_row.Tie as tie
 
+row-heading-requires : tie.Need-row-heading-requires
+row-heading-requires c κs = search needs
+
 judge-key-requires : tie.Need-judge-key-requires
 judge-key-requires c κs = search needs
 
@@ -25,7 +28,7 @@ enum-known-w c = search needs
 
 module _ (c : tie.After-known-told) where
   abbrev start : tie.Start
-  start = c .before .before .before .before .before .before
+  start = c .before .before .before .before .before .before .before
 
   -- account and day are accepted, and k is the place of their mark
   key-on : (key (start .args .limits) (start .args .sec) (start .args .file .now) (start .args .at) ≡ Accepted)
@@ -40,7 +43,7 @@ module _ (c : tie.After-known-told) where
 
 returns : tie.Need-returns
 returns c =
-    let g = c .before .before .before .before .before .before .args in
+    let g = c .before .before .before .before .before .before .before .args in
     let e : key (g .limits) (g .sec) (g .file .now) (g .at) ≡ Refused _ _ = outcome-stopped _ _ _ _ (sym (c .before .before .before .judge-key .ensures) ∙ c .before .w .given .1) in
     (rw (row-refused (g .limits) (g .sec) (g .file .now) (g .at) _ _ _ e), rw e)
 
@@ -50,8 +53,8 @@ mark-given-requires c κs = let k = key-on (c .before) .1 in let s = small (c .b
 account-bytes-requires : tie.Need-account-bytes-requires
 account-bytes-requires c κs = search needs
 
-add-t17 : tie.Need-add-t17
-add-t17 c = search needs
+add-t18 : tie.Need-add-t18
+add-t18 c = search needs
 
 same-length : tie.Need-same-length
 same-length c = search needs
@@ -66,7 +69,7 @@ returns-2 c =
     (rw (row-again (g .limits) (g .sec) (g .file .now) (g .at) _ (k .0) m, c .account-bytes .ensures .0), rw (k .0, k .1) (b .mark-given .ensures .1))
 
 judge-rest-requires : tie.Need-judge-rest-requires
-judge-rest-requires c κs = let k = known (c .before .before .before .before .before) in omega arith
+judge-rest-requires c κs = let b = c .before .before .before .before .before in let k = known b in (omega arith, b .before .before .before .before .row-heading .ensures)
 
 same-length-2 : tie.Need-same-length-2
 same-length-2 c = search needs
@@ -84,13 +87,14 @@ pub judge-row-spec : {M : Type 1} → statement M
 judge-row-spec =
     tie.close
     (tie.spec
+    row-heading-requires
     judge-key-requires
     enum-known-v
     enum-known-w
     returns
     mark-given-requires
     account-bytes-requires
-    add-t17
+    add-t18
     same-length
     returns-2
     judge-rest-requires
