@@ -27,15 +27,16 @@ pub fn in_range(kind: Kind, z: i64) -> bool
     }
 }
 
-// Every word of the list is in the range of its kind.
+// Every word of the list is in the range of its kind. Left at the first that is not: lists are short, and 64-bit comparisons of vectors dear.
 pub fn all_in_range(kind: Kind, xs: &[i64]) -> bool
     ensures { λ r. ⌜ r ≡ allInRange kind (now (xs .entry)) ⌝ }
 {
-    let mut ok = true;
     for i in 0..xs.len() {
-        ok = ok & in_range(kind, word_at(xs, i));
+        if !in_range(kind, word_at(xs, i)) {
+            return false;
+        }
     }
-    ok
+    true
 }
 
 // A word that is in the range of a quantity, as an unsigned number.
