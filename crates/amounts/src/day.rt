@@ -71,13 +71,9 @@ fn residual_at(residuals: Residuals, h: usize) -> Residual
     requires { ⌜ h < 48 ⌝ }
     ensures { λ r. ⌜ r ≡ residualIn residuals h ⌝ }
 {
-    let loads = residuals.loads;
-    let spares = residuals.spares;
-    let load = loads[h];
-    Residual {
-        load: load,
-        spare: spares[h],
-    }
+    let load = residuals.loads[h];
+    let spare = residuals.spares[h];
+    Residual { load, spare }
 }
 
 // One account at one interval: vesting of today's cell and, where a residual is due, that of then's with V of then.
