@@ -1,8 +1,12 @@
-/* A small settlement through Robijan: two accounts, a lag of 75 days, and the first day's uncovered load settled 75 days later.
- * examples/rust has the same in Rust; examples/run builds and runs both and compares what they print with examples/expected.txt. */
+/* A small settlement through Robijan: two accounts, a lag of 75 days, and the first day's uncovered load settled 75 days later. The book is
+ * kept in the file that the program's one word names. examples/rust has the same in Rust; tests/run builds and runs both and compares what
+ * they print with examples/expected.txt. */
+#define _POSIX_C_SOURCE 200809L
 #include <inttypes.h>
 #include <stdio.h>
 #include <stdlib.h>
+#include <string.h>
+#include <unistd.h>
 
 #include "robijan.h"
 
@@ -79,13 +83,33 @@ static void print_date(const char *what, uint64_t day)
     printf("%s %04" PRIu64 "-%02" PRIu64 "-%02" PRIu64 "\n", what, date.year, date.month, date.day);
 }
 
-static void print_close(robijan_close_answer answer, const int64_t *statement)
+/* What a close lacks, told from the flag at this position of the book. */
+static void print_missing(const int64_t *book, uint64_t position)
+{
+    uint64_t accounts = (uint64_t)book[ROBIJAN_WORD_ACCOUNTS];
+    uint64_t next = (uint64_t)book[ROBIJAN_WORD_NEXT_DAY], settled = next - (uint64_t)book[ROBIJAN_WORD_LAG];
+    uint64_t word = (position - ROBIJAN_WORD_FIRST_INTERVAL(accounts)) % ROBIJAN_INTERVAL_WORDS(accounts);
+    if (word == ROBIJAN_INTERVAL_NCC_FLAG) {
+        print_date("  missing: the NCC row of", settled);
+        return;
+    }
+    uint64_t account = (word - ROBIJAN_INTERVAL_ACCOUNTS) / ROBIJAN_ACCOUNT_WORDS;
+    uint64_t flag = (word - ROBIJAN_INTERVAL_ACCOUNTS) % ROBIJAN_ACCOUNT_WORDS;
+    const char *row = flag == ROBIJAN_ACCOUNT_VESTING_FLAG ? "vesting" : flag == ROBIJAN_ACCOUNT_METER_FLAG ? "meter" : "residual";
+    char what[64];
+    snprintf(what, sizeof what, "  missing: account %" PRIu64 "'s %s row of", account, row);
+    print_date(what, flag == ROBIJAN_ACCOUNT_RESIDUAL_FLAG ? settled : next);
+}
+
+static void print_close(const char *what, robijan_close_answer answer, const int64_t *book, const int64_t *statement)
 {
     if (answer.number != ROBIJAN_ACCEPTED) {
         printf("close refused: number %" PRIu64 ", position %" PRIu64 "\n", answer.number, answer.position);
+        if (answer.number == ROBIJAN_DATUM_ABSENT)
+            print_missing(book, answer.position);
         return;
     }
-    print_date("closed", answer.day);
+    print_date(what, answer.day);
     printf("  residuals settled: %" PRIu64 "\n", answer.count);
     for (int account = 0; account < ACCOUNTS; account++)
         printf("  account %d: %" PRId64 " cents\n", account, statement[account]);
@@ -100,19 +124,39 @@ static void print_balances(const int64_t *book)
     printf(", MSSL %" PRId64 "\n", book[ROBIJAN_WORD_MSSL_BALANCE]);
 }
 
-int main(void)
+/* ---- The book's file
+ *
+ * The calls are made on a copy in memory. It becomes the file's content by a rename, and only when it is whole on the disk: a process that
+ * dies at any time leaves the book before or the book after, never something between. */
+
+static void keep(const char *path, const int64_t *book, uint64_t words)
 {
-    /* The book is ours: the library says how many words it takes. */
+    char new_path[4096];
+    snprintf(new_path, sizeof new_path, "%s.new", path);
+    FILE *out = fopen(new_path, "wb");
+    if (out == NULL || fwrite(book, sizeof *book, words, out) != words || fflush(out) != 0 || fsync(fileno(out)) != 0 || fclose(out) != 0
+        || rename(new_path, path) != 0) {
+        perror(path);
+        exit(1);
+    }
+}
+
+int main(int count, char **arguments)
+{
+    const char *path = count > 1 ? arguments[1] : "settlement.book";
+
+    /* The words are ours: the library says how many a book takes. */
     robijan_size_answer size = robijan_book_size(ACCOUNTS, LAG, HORIZON);
-    int64_t *book = malloc(size.words * sizeof *book);
+    int64_t *book = malloc(size.words * sizeof *book), *copy = malloc(size.words * sizeof *copy);
     int64_t statement[ACCOUNTS + 1] = {0};
-    if (size.number != ROBIJAN_ACCEPTED || book == NULL)
+    if (size.number != ROBIJAN_ACCEPTED || book == NULL || copy == NULL)
         return 1;
     printf("book of %" PRIu64 " words\n", size.words);
 
     uint32_t first = (uint32_t)robijan_day(2026, 1, 1).day;
     if (robijan_open(book, size.words, ACCOUNTS, LAG, HORIZON, first).number != ROBIJAN_ACCEPTED)
         return 1;
+    keep(path, book, size.words);
     print_date("opened, first day", first);
     print_date("residual data of January are due", robijan_residual_due(2026, 1, no_holidays, 0).day);
 
@@ -120,12 +164,13 @@ int main(void)
      * cents, account 1 pays 100. */
     for (uint32_t day = first; day < first + LAG; day++) {
         write_contracts(day);
-        robijan_answer taken = robijan_submit(book, size.words, file, length);
-        if (taken.number != ROBIJAN_ACCEPTED)
+        if (robijan_submit(book, size.words, file, length).number != ROBIJAN_ACCEPTED)
             return 1;
         robijan_close_answer answer = robijan_close(book, size.words, statement, ACCOUNTS + 1);
+        if (answer.number == ROBIJAN_ACCEPTED)
+            keep(path, book, size.words);
         if (day == first || answer.number != ROBIJAN_ACCEPTED)
-            print_close(answer, statement);
+            print_close("closed", answer, book, statement);
     }
     print_balances(book);
 
@@ -133,16 +178,26 @@ int main(void)
     write_contracts(first + LAG);
     if (robijan_submit(book, size.words, file, length).number != ROBIJAN_ACCEPTED)
         return 1;
-    print_close(robijan_close(book, size.words, statement, ACCOUNTS + 1), statement);
+    keep(path, book, size.words);
+    print_close("closed", robijan_close(book, size.words, statement, ACCOUNTS + 1), book, statement);
 
     /* With them, account 0 gets (12,000 - 10,000) x 20 + (11,000 - 10,000) x 30 thousandths an interval more, 70 cents; account 1
-     * (11,500 - 10,000) x 100, 150 cents. */
+     * (11,500 - 10,000) x 100, 150 cents. A look ahead is a close on a copy. */
     write_residuals(first);
     if (robijan_submit(book, size.words, file, length).number != ROBIJAN_ACCEPTED)
         return 1;
-    print_close(robijan_close(book, size.words, statement, ACCOUNTS + 1), statement);
+    keep(path, book, size.words);
+    memcpy(copy, book, size.words * sizeof *book);
+    print_close("would close", robijan_close(copy, size.words, statement, ACCOUNTS + 1), copy, statement);
+    print_balances(book);
+
+    robijan_close_answer answer = robijan_close(book, size.words, statement, ACCOUNTS + 1);
+    if (answer.number == ROBIJAN_ACCEPTED)
+        keep(path, book, size.words);
+    print_close("closed", answer, book, statement);
     print_balances(book);
     print_date("final statement of the first day", robijan_final_statement(first, no_holidays, 0).day);
+    free(copy);
     free(book);
     return 0;
 }

@@ -31,6 +31,11 @@
  * any bytes. No call reads or writes outside its lists, fails to end, or aborts the program; a refused call has changed no lent word, an
  * accepted one only what is said below. A call takes less than 16 KiB of stack.
  *
+ * A PROCESS THAT DIES. An accepted call changes its words one after another. Where the process dies in the midst of it, the words are neither
+ * the book before nor the book after, and no call can tell. So never lend the only copy: copy the book (or keep its file as it is), make the
+ * calls on the copy, and when they are accepted write it to a new file, sync that, and rename it over the old one, as examples/settlement.c
+ * does. A preview of a close is a close on a copy that is thrown away.
+ *
  * THREADS. A call touches its lists and its stack. Calls on different memory may run at the same time; calls that share a list may, if none
  * of them writes it; else the caller takes turns.
  *
@@ -84,15 +89,37 @@ typedef struct { uint64_t number, business; } robijan_business_answer;
  * first     9,497 to 36,524: the first day to close
  *
  * A book takes 64 + 8 * accounts + 48 * (lag + horizon) * (4 + 24 * accounts) words: 5,072 for 2 accounts, lag 1 and horizon 1, and
- * 6,188,672 (49.5 MB) for the largest. More words may be lent; those beyond are neither read nor written. These words may be read at any
- * time; all others are the library's. A book that another hand has changed is refused only where its form shows it: ranges, zeros, rows of
- * closed days, bounds of balances. A price or a balance changed within its range is not noticed. */
+ * 6,188,672 (49.5 MB) for the largest. More words may be lent; those beyond are neither read nor written. All words may be read at any time;
+ * they are the library's to write. A book that another hand has changed is refused only where its form shows it: ranges, zeros, rows of
+ * closed days, bounds of balances. A price or a balance changed within its range is not noticed.
+ *
+ * LAYOUT, by index:
+ *   0        395
+ *   1 to 4   accounts, lag, horizon, first
+ *   5        C, the next day to close; 36,525 when all are closed
+ *   6        the MSSL's balance; 7 to 63 are zero
+ *   ROBIJAN_WORD_BALANCE(account)   the account's balance; seven zeros follow
+ *   from 64 + 8 * accounts on       lag + horizon slots of 48 intervals each; day d has slot (d - first) mod (lag + horizon)
+ * An interval has ROBIJAN_INTERVAL_WORDS(accounts) words: the NCC load, its flag, two zeros, then 24 words an account:
+ *   0        vesting flag: 0 absent, else 1 + tender contracts; 1, 2: BVQ, BVP; 3 to 8: TVQ, TVP of each tender contract
+ *   9        meter flag: 0 absent, else facilities; 10 to 17: MEP, IEQ of each facility
+ *   18       residual flag: 0 or 1; 19 to 22: UEGQ, MQ, RVP1, RVP2; 23: zero
+ * So the position of a close's 11 says what is missing: a vesting or meter row of day C, or the NCC row or a residual row of day C - lag. */
 enum {
     ROBIJAN_WORD_ACCOUNTS = 1,
-    ROBIJAN_WORD_NEXT_DAY = 5,       /* the next day to close; 36,525 when all are closed */
-    ROBIJAN_WORD_MSSL_BALANCE = 6
+    ROBIJAN_WORD_LAG = 2,
+    ROBIJAN_WORD_NEXT_DAY = 5,
+    ROBIJAN_WORD_MSSL_BALANCE = 6,
+    ROBIJAN_INTERVAL_NCC_FLAG = 1,   /* in an interval */
+    ROBIJAN_INTERVAL_ACCOUNTS = 4,
+    ROBIJAN_ACCOUNT_WORDS = 24,      /* of an account in an interval */
+    ROBIJAN_ACCOUNT_VESTING_FLAG = 0,
+    ROBIJAN_ACCOUNT_METER_FLAG = 9,
+    ROBIJAN_ACCOUNT_RESIDUAL_FLAG = 18
 };
 #define ROBIJAN_WORD_BALANCE(account) (64 + 8 * (account))
+#define ROBIJAN_WORD_FIRST_INTERVAL(accounts) (64 + 8 * (accounts))
+#define ROBIJAN_INTERVAL_WORDS(accounts) (4 + 24 * (accounts))
 
 /* How many words a book takes. Refused: 1. */
 robijan_size_answer robijan_book_size(size_t accounts, size_t lag, size_t horizon);

@@ -5,7 +5,8 @@
 //! cents that total zero. `include/robijan.h` of the repository has the units, the format of a file and the words of a book that may be read.
 //!
 //! Every input is answered: a call either does what it says or returns a [`Refusal`] and leaves every lent word as it was. No call allocates,
-//! panics or keeps anything, and each may be made from any thread.
+//! panics or keeps anything, and each may be made from any thread. Where the process dies within an accepted call, the words lent are neither
+//! the book before nor the book after: so never lend the only copy (copy, call, sync, rename; the example of the repository does so).
 //!
 //! A book of one account whose first day is 1 January 2026, closed with a lag of one day:
 //!
@@ -205,6 +206,79 @@ pub fn balance(book: &[i64], account: usize) -> Option<i64> {
     match account < accounts.min(32) {
         true => book.get(64 + 8 * account).copied(),
         false => None,
+    }
+}
+
+/// A row that a close lacks.
+#[derive(Clone, Copy, Debug, PartialEq, Eq)]
+pub enum Missing {
+    Vesting { account: usize, day: i64 },
+    Meter { account: usize, day: i64 },
+    Ncc { day: i64 },
+    Residual { account: usize, day: i64 },
+}
+
+impl fmt::Display for Missing {
+    fn fmt(&self, f: &mut fmt::Formatter) -> fmt::Result {
+        match self {
+            Missing::Vesting { account, .. } => write!(f, "account {account}'s vesting row"),
+            Missing::Meter { account, .. } => write!(f, "account {account}'s meter row"),
+            Missing::Ncc { .. } => write!(f, "the NCC row"),
+            Missing::Residual { account, .. } => write!(f, "account {account}'s residual row"),
+        }
+    }
+}
+
+impl Missing {
+    /// The day that the row is of.
+    pub fn day(self) -> i64 {
+        match self {
+            Missing::Vesting { day, .. }
+            | Missing::Meter { day, .. }
+            | Missing::Ncc { day }
+            | Missing::Residual { day, .. } => day,
+        }
+    }
+}
+
+/// What a close lacks that was refused with [`numbers::DATUM_ABSENT`] at this position of the book; `None` for a position of no flag.
+///
+/// ```
+/// use robijan::Missing;
+///
+/// let mut book = vec![0; 5_072];
+/// robijan::open(&mut book, 2, 1, 1, 9_497)?;
+/// let refusal = robijan::close(&mut book, &mut [0; 3]).unwrap_err();
+/// let missing = robijan::missing(&book, refusal.position);
+/// assert_eq!(missing, Some(Missing::Vesting { account: 0, day: 9_497 }));
+/// // The words of the first interval, which begins at 80.
+/// assert_eq!(robijan::missing(&book, 80 + 4 + 9), Some(Missing::Meter { account: 0, day: 9_497 }));
+/// assert_eq!(robijan::missing(&book, 80 + 4 + 24 + 18), Some(Missing::Residual { account: 1, day: 9_496 }));
+/// assert_eq!(robijan::missing(&book, 80 + 52 + 1), Some(Missing::Ncc { day: 9_496 }));
+/// assert_eq!(robijan::missing(&book, 80), None);
+/// # Ok::<(), robijan::Refusal>(())
+/// ```
+pub fn missing(book: &[i64], position: u64) -> Option<Missing> {
+    let accounts = usize::try_from(*book.get(1)?).ok()?.min(32);
+    let (lag, next) = (*book.get(2)?, *book.get(5)?);
+    let settled = next.checked_sub(lag)?;
+    let first_interval = 64 + 8 * accounts;
+    let word = usize::try_from(position)
+        .ok()?
+        .checked_sub(first_interval)?
+        % (4 + 24 * accounts);
+    if word == 1 {
+        return Some(Missing::Ncc { day: settled });
+    }
+    let account = word.checked_sub(4)? / 24;
+    match (word - 4) % 24 {
+        0 => Some(Missing::Vesting { account, day: next }),
+        9 => Some(Missing::Meter { account, day: next }),
+        18 => Some(Missing::Residual {
+            account,
+            day: settled,
+        }),
+        _ => None,
     }
 }
 

@@ -1,10 +1,15 @@
 //! A small settlement through Robijan: two accounts, a lag of 75 days, and the first day's uncovered load settled 75 days later.
-//! `examples/settlement.c` is the same in C; `examples/run` builds and runs both and compares what they print with `examples/expected.txt`.
+//! The book is kept in the file that the program's one word names. `examples/settlement.c` is the same in C; `tests/run` builds and runs
+//! both and compares what they print with `examples/expected.txt`.
 
 use robijan::{
-    balance, book_words, close, date, day, final_statement, mssl_balance, open, residual_due,
-    submit, Closed, Refusal,
+    balance, book_words, close, date, day, final_statement, missing, mssl_balance, numbers, open,
+    residual_due, submit, Closed, Refusal,
 };
+use std::error::Error;
+use std::io::Write;
+use std::path::{Path, PathBuf};
+use std::{env, fs};
 
 const ACCOUNTS: usize = 2;
 const LAG: i64 = 75;
@@ -91,20 +96,32 @@ fn print_date(what: &str, day: i64) -> Result<(), Refusal> {
     Ok(())
 }
 
-fn print_close(answer: Result<Closed, Refusal>, statement: &[i64]) -> Result<(), Refusal> {
+fn print_close(
+    what: &str,
+    answer: Result<Closed, Refusal>,
+    book: &[i64],
+    statement: &[i64],
+) -> Result<(), Refusal> {
     match answer {
         Ok(closed) => {
-            print_date("closed", closed.day)?;
+            print_date(what, closed.day)?;
             println!("  residuals settled: {}", closed.residuals);
             for (account, cents) in statement[..ACCOUNTS].iter().enumerate() {
                 println!("  account {account}: {cents} cents");
             }
             println!("  MSSL: {} cents", statement[ACCOUNTS]);
         }
-        Err(refusal) => println!(
-            "close refused: number {}, position {}",
-            refusal.number, refusal.position
-        ),
+        Err(refusal) => {
+            println!(
+                "close refused: number {}, position {}",
+                refusal.number, refusal.position
+            );
+            if refusal.number == numbers::DATUM_ABSENT {
+                if let Some(row) = missing(book, refusal.position) {
+                    print_date(&format!("  missing: {row} of"), row.day())?;
+                }
+            }
+        }
     }
     Ok(())
 }
@@ -117,14 +134,28 @@ fn print_balances(book: &[i64]) {
     println!(", MSSL {}", mssl_balance(book).unwrap_or(0));
 }
 
-fn main() -> Result<(), Refusal> {
-    // The book is ours: the library says how many words it takes.
+/// The book becomes the file's content by a rename, and only when it is whole on the disk: a process that dies at any time leaves the book
+/// before or the book after, never something between.
+fn keep(path: &Path, book: &[i64]) -> std::io::Result<()> {
+    let bytes: Vec<u8> = book.iter().flat_map(|word| word.to_le_bytes()).collect();
+    let new = path.with_extension("new");
+    let mut file = fs::File::create(&new)?;
+    file.write_all(&bytes)?;
+    file.sync_all()?;
+    fs::rename(new, path)
+}
+
+fn main() -> Result<(), Box<dyn Error>> {
+    let path = PathBuf::from(env::args().nth(1).unwrap_or("settlement.book".to_string()));
+
+    // The words are ours: the library says how many a book takes.
     let mut book = vec![0; book_words(ACCOUNTS, LAG as usize, HORIZON)?];
     let mut statement = [0; ACCOUNTS + 1];
     println!("book of {} words", book.len());
 
     let first = day(2026, 1, 1)?;
     open(&mut book, ACCOUNTS, LAG as usize, HORIZON, first as usize)?;
+    keep(&path, &book)?;
     print_date("opened, first day", first)?;
     let due = residual_due(2026, 1, &[])?;
     print_date("residual data of January are due", due)?;
@@ -134,23 +165,37 @@ fn main() -> Result<(), Refusal> {
     for day in first..first + LAG {
         submit(&mut book, &contracts(day as u16))?;
         let answer = close(&mut book, &mut statement);
+        if answer.is_ok() {
+            keep(&path, &book)?;
+        }
         if day == first || answer.is_err() {
-            print_close(answer, &statement)?;
+            print_close("closed", answer, &book, &statement)?;
         }
     }
     print_balances(&book);
 
     // The next close settles the first day's uncovered load too, so it needs that day's residual data.
     submit(&mut book, &contracts((first + LAG) as u16))?;
-    print_close(close(&mut book, &mut statement), &statement)?;
+    keep(&path, &book)?;
+    let answer = close(&mut book, &mut statement);
+    print_close("closed", answer, &book, &statement)?;
 
     // With them, account 0 gets (12,000 - 10,000) x 20 + (11,000 - 10,000) x 30 thousandths an interval more, 70 cents; account 1
-    // (11,500 - 10,000) x 100, 150 cents.
+    // (11,500 - 10,000) x 100, 150 cents. A look ahead is a close on a copy.
     submit(&mut book, &residuals(first as u16))?;
-    print_close(close(&mut book, &mut statement), &statement)?;
+    keep(&path, &book)?;
+    let mut copy = book.clone();
+    let answer = close(&mut copy, &mut statement);
+    print_close("would close", answer, &copy, &statement)?;
     print_balances(&book);
-    print_date(
-        "final statement of the first day",
-        final_statement(first, &[])?,
-    )
+
+    let answer = close(&mut book, &mut statement);
+    if answer.is_ok() {
+        keep(&path, &book)?;
+    }
+    print_close("closed", answer, &book, &statement)?;
+    print_balances(&book);
+    let last = final_statement(first, &[])?;
+    print_date("final statement of the first day", last)?;
+    Ok(())
 }
