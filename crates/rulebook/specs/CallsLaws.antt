@@ -10,7 +10,7 @@ use lib.ListN.{length}
 use native.Mathlib.Omega.{arith}
 use Rattle.integer.specs.Integer.{minus}
 use Rattle.integer.specs.IntegerLaws.{int, parts}
-use Rattle.integer.specs.Below.{sumℕ}
+use Rattle.integer.specs.Below.{all, sumℕ}
 use Rattle.integer.specs.BelowLaws.{and-true, all-at, sumℕ-le}
 use Rattle.integer.specs.Words.{word}
 use Rattle.rulebook.specs.declared.Kind.{Kind}
@@ -26,9 +26,9 @@ pub in-range-at : (kind : Kind) (xs : List ℤ) → allInRange kind xs ≡ true 
 unfolding allInRange
 in-range-at kind xs h = all-at (length xs) (λ i. inRange kind (word xs i)) h
 
--- the sum of the first n quantities
-pub quantities-le : (xs : List ℤ) → allInRange Quantity xs ≡ true → (n : ℕ) → n ≤ length xs → sumℕ n (λ i. asQuantity (word xs i)) ≤ n * mostQuantity
-quantities-le xs h n l = sumℕ-le n mostQuantity (λ i. asQuantity (word xs i)) (λ i k. quantity-range (word xs i) (in-range-at Quantity xs h i (omega arith)) .most)
+-- the sum of the first n words, which are quantities
+pub quantities-below : (xs : List ℤ) (n : ℕ) → all n (λ i. inRange Quantity (word xs i)) ≡ true → sumℕ n (λ i. asQuantity (word xs i)) ≤ n * mostQuantity
+quantities-below xs n h = sumℕ-le n mostQuantity (λ i. asQuantity (word xs i)) (λ i k. quantity-range (word xs i) (all-at n (λ i. inRange Quantity (word xs i)) h i k) .most)
 
 -- ---- What an accepted call's input satisfies
 

@@ -1,1 +1,3 @@
 pub mod PriceSums
+pub mod SpareTold
+pub mod SpareToldLaws

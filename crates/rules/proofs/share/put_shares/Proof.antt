@@ -15,13 +15,10 @@ use Rattle.rules.proofs.share.put_shares.Statement.{statement}
 use Rattle.rules.proofs.share.put_shares.Tie as tie
 
 abbrev Inv-loop : tie.InvT-loop
-Inv-loop r uegq output₀ s a₀ a-end output a = (a ≤ a-end) × (length output ≡ length output₀) × (output ≡ filled a (shareWord (toZ w64 r) uegq) output₀)
+Inv-loop r s uegq output₀ a₀ a-end output a = (a ≤ a-end) × (length output ≡ length output₀) × (output ≡ filled a (shareWord (toZ w64 r) uegq) output₀)
 
 abbrev μ-loop : tie.MeasureT-loop
-μ-loop r uegq output₀ s a₀ a-end output a = a-end - a
-
-spare-generation-requires : tie.Need-spare-generation-requires Inv-loop μ-loop
-spare-generation-requires c κs = search needs
+μ-loop r s uegq output₀ a₀ a-end output a = a-end - a
 
 loop-holds : tie.Need-loop-holds Inv-loop μ-loop
 unfolding tabulate
@@ -43,7 +40,7 @@ loop-again : tie.Need-loop-again Inv-loop μ-loop
 loop-again c =
     let w = c .before .put-word in
     let l = c .before .before .before .before .before .loop in
-    let a = c .before .before .before .before .before .before .before .args in
+    let a = c .before .before .before .before .before .before .args in
     let v = c .before .before .share-at in
     let z : toZ w64 (ofZ w64 (v .result)) ≡ v .result = got (v .result) (v .ok) in
     let k : l .a < length (a .output .now) = omega arith in
@@ -54,10 +51,10 @@ same-length c = c .before .loop .inv .1
 
 returns : tie.Need-returns Inv-loop μ-loop
 returns c =
-    let s = c .before .before .before in
+    let s = c .before .before in
     let e : c .before .loop .a ≡ length (s .args .uegq .now) = omega arith in
     let x : toZ w64 (ofZ w64 (s .args .r)) ≡ s .args .r = search needs in
     rw (c .before .loop .inv .2, e, x)
 
 pub put-shares-spec : {M : Type 1} → statement M
-put-shares-spec = tie.close (tie.spec Inv-loop μ-loop spare-generation-requires loop-holds share-at-requires put-word-requires add-a loop-less loop-again same-length returns)
+put-shares-spec = tie.close (tie.spec Inv-loop μ-loop loop-holds share-at-requires put-word-requires add-a loop-less loop-again same-length returns)
