@@ -13,6 +13,36 @@ use std::cell::RefCell;
 use std::hint::black_box;
 use std::time::Duration;
 
+/// A call's times and those of the others on the same input, and the bytes that it goes through.
+pub struct Measured {
+    pub name: String,
+    pub ours: Times,
+    pub others: Vec<(&'static str, Times)>,
+    pub bytes: usize,
+}
+
+impl Measured {
+    /// Of the times of Robijan and then of the others.
+    fn of(name: &str, mut times: Vec<Times>, others: &[&'static str], bytes: usize) -> Measured {
+        let rest = times.split_off(1);
+        Measured {
+            name: name.to_string(),
+            ours: times.remove(0),
+            others: others.iter().copied().zip(rest).collect(),
+            bytes,
+        }
+    }
+}
+
+/// A book's size, and the fastest judge and close of it, in seconds.
+pub struct Grown {
+    pub accounts: usize,
+    pub horizon: usize,
+    pub words: usize,
+    pub judge: f64,
+    pub close: f64,
+}
+
 /// Calls timed as one, where a single one is too short.
 const BATCH: usize = 1_000;
 
@@ -35,7 +65,7 @@ fn copying<'a>(from: &'a [i64], to: &'a RefCell<Vec<i64>>) -> impl FnMut() -> Du
 }
 
 /// The judge of Robijan, that of the second implementation, and a plain one.
-pub fn judge(name: &str, book: &[i64]) {
+pub fn judge(name: &str, book: &[i64]) -> Measured {
     let words = book.len();
     let copy = RefCell::new(book.to_vec());
     let times = interleaved(
@@ -47,12 +77,16 @@ pub fn judge(name: &str, book: &[i64]) {
             &mut copying(book, &copy),
         ],
     );
-    println!("{name}: {words} words");
-    print(&times, &["reference", "plain judge", "copy"], 8 * words);
+    Measured::of(
+        name,
+        times,
+        &["reference", "plain judge", "copy"],
+        8 * words,
+    )
 }
 
 /// An opening in words that held something else.
-pub fn opening(name: &str, terms: Terms) {
+pub fn opening(name: &str, terms: Terms) -> Measured {
     let words = terms.words();
     let (lent, copy) = (RefCell::new(vec![7; words]), RefCell::new(vec![7; words]));
     let from = vec![5; words];
@@ -83,12 +117,11 @@ pub fn opening(name: &str, terms: Terms) {
             &mut copying(&from, &copy),
         ],
     );
-    println!("{name}: {words} words");
-    print(&times, &["reference", "copy"], 8 * words);
+    Measured::of(name, times, &["reference", "copy"], 8 * words)
 }
 
 /// A submission that is accepted, each time to the same book, in the same words.
-pub fn submission(name: &str, book: &[i64], rng: &mut Rng, sections: Sections) {
+pub fn submission(name: &str, book: &[i64], rng: &mut Rng, sections: Sections) -> Measured {
     let file = &large::file(rng, book[1] as usize, sections)[..];
     let through = book.len() + file.len() / 8;
     let (lent, copy) = (RefCell::new(book.to_vec()), RefCell::new(vec![0; through]));
@@ -113,17 +146,11 @@ pub fn submission(name: &str, book: &[i64], rng: &mut Rng, sections: Sections) {
             &mut copying(&from, &copy),
         ],
     );
-    println!(
-        "{name}: {} words, {} rows in {} bytes",
-        book.len(),
-        sections.rows(),
-        file.len()
-    );
-    print(&times, &["reference", "copy"], 8 * through);
+    Measured::of(name, times, &["reference", "copy"], 8 * through)
 }
 
 /// A close that is accepted, of the same words; what it changed is restored outside the timed part.
-pub fn closing(name: &str, book: &[i64]) {
+pub fn closing(name: &str, book: &[i64]) -> Measured {
     let (words, accounts) = (book.len(), book[1] as usize);
     // Balances, the next day, and the slot of the day settled, which is the first one.
     let changed = 64 + 8 * accounts + 48 * (4 + 24 * accounts);
@@ -155,12 +182,11 @@ pub fn closing(name: &str, book: &[i64]) {
         ],
     );
     assert!(told == stated);
-    println!("{name}: {words} words");
-    print(&times, &["reference", "copy"], 8 * words);
+    Measured::of(name, times, &["reference", "copy"], 8 * words)
 }
 
 /// Shares among so many accounts, of as many residual loads as a batch has.
-pub fn sharing(rng: &mut Rng, accounts: usize) {
+pub fn sharing(rng: &mut Rng, accounts: usize) -> Measured {
     let uegq: Vec<i64> = (0..accounts).map(|_| rng.between(0, 10_000_000)).collect();
     let most = 10_000_000 * accounts as i64;
     let loads: Vec<i64> = (0..BATCH).map(|_| rng.between(-most / 8, most)).collect();
@@ -187,17 +213,17 @@ pub fn sharing(rng: &mut Rng, accounts: usize) {
         ],
     );
     assert!(ours == theirs);
-    println!("share among {accounts}: {BATCH} calls");
-    print(&times, &["reference"], 16 * accounts * BATCH);
+    let name = format!("share among {accounts}");
+    Measured::of(&name, times, &["reference"], 16 * accounts * BATCH)
 }
 
 /// Final statement days, with a list of so many holidays, and dates.
-pub fn days(rng: &mut Rng, listed: usize) {
+pub fn days(rng: &mut Rng, listed: usize) -> [Measured; 2] {
     let mut holidays: Vec<i64> = (0..listed).map(|_| rng.between(0, 36_524)).collect();
     holidays.sort_unstable();
     holidays.dedup();
     let days: Vec<i64> = (0..BATCH).map(|_| rng.between(0, 36_400)).collect();
-    let times = interleaved(
+    let statements = interleaved(
         501,
         &mut [
             &mut || {
@@ -219,12 +245,7 @@ pub fn days(rng: &mut Rng, listed: usize) {
             },
         ],
     );
-    println!(
-        "final statement, {} holidays: {BATCH} calls",
-        holidays.len()
-    );
-    print(&times, &["reference"], 8 * holidays.len() * BATCH);
-    let times = interleaved(
+    let dates = interleaved(
         501,
         &mut [
             &mut || {
@@ -248,12 +269,16 @@ pub fn days(rng: &mut Rng, listed: usize) {
             },
         ],
     );
-    println!("day to date and back: {BATCH} calls of each");
-    print(&times, &["reference"], 0);
+    let name = format!("final statement day, {} holidays listed", holidays.len());
+    [
+        Measured::of(&name, statements, &["reference"], 0),
+        Measured::of("day to date and back", dates, &["reference"], 0),
+    ]
 }
 
-/// How the judge and the close grow: the fastest round, and its time by word, of books of these terms.
-pub fn growth(rng: &mut Rng, all: &[Terms]) {
+/// How the judge and the close grow: the fastest round of books of these terms.
+pub fn growth(rng: &mut Rng, all: &[Terms]) -> Vec<Grown> {
+    let mut grown = Vec::new();
     for &terms in all {
         let book = &large::book(rng, terms, Rows::Mixed)[..];
         let (words, accounts) = (book.len(), terms.accounts);
@@ -274,40 +299,13 @@ pub fn growth(rng: &mut Rng, all: &[Terms]) {
             ],
         );
         let [judge, close] = [&times[0], &times[1]].map(Times::fastest);
-        println!(
-            "  {:>2} accounts, lag {}, horizon {:>2}: {words:>7} words, judge {:>7.4} ms, {:.2} ns a word, close {:>7.4} ms, {:.2} ns a word",
-            terms.accounts,
-            terms.lag,
-            terms.horizon,
-            judge * 1e3,
-            judge * 1e9 / words as f64,
-            close * 1e3,
-            close * 1e9 / words as f64,
-        );
+        grown.push(Grown {
+            accounts,
+            horizon: terms.horizon,
+            words,
+            judge,
+            close,
+        });
     }
-}
-
-/// Robijan's times and those of the others, and the ratio of Robijan's times to each.
-fn print(times: &[Times], others: &[&str], bytes: usize) {
-    let ours = &times[0];
-    row("Robijan", ours, bytes);
-    println!();
-    for (name, times) in others.iter().zip(&times[1..]) {
-        row(name, times, bytes);
-        let ratio = ours.over(times);
-        let fastest = ours.fastest() / times.fastest();
-        println!(
-            "   {:.2} ({:.2} to {:.2}), {fastest:.2}",
-            ratio.median, ratio.low, ratio.high
-        );
-    }
-}
-
-/// A candidate's times, and its speed over the bytes that the call goes through.
-fn row(name: &str, times: &Times, bytes: usize) {
-    let (median, fastest) = (times.median() * 1e3, times.fastest() * 1e3);
-    print!("  {name:<12} {median:>9.4} ms {fastest:>9.4} ms");
-    if bytes > 0 {
-        print!(" {:>7.2} GB/s", bytes as f64 / times.median() / 1e9);
-    }
+    grown
 }
