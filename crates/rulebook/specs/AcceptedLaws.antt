@@ -123,7 +123,7 @@ module _ (o : Terms) (terms : InTerms o) (C : ℕ) (s : List ℕ) where
   unfolding sectionOf Apart
   apart a b p q e = each-tabulate _ (rowsIn s p) _ (λ i l. each-tabulate _ (rowsIn s q) _ (λ j m. rw e))
 
-  rows-once : judged (limitsOf o C) s ≡ Accepted → Once (namedRows s)
+  pub rows-once : judged (limitsOf o C) s ≡ Accepted → Once (namedRows s)
   rows-once e =
       let p = sections (limitsOf o C) s e in
       rw rows-are

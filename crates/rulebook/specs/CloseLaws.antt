@@ -3,7 +3,7 @@ use mathlib.Core.Path.{_≡_, refl, sym, ap, _∙_, subst}
 use mathlib.Core.Logic.{_≢_, _⊎_, inl, inr}
 use mathlib.Core.Bool.{Bool, true, false, cond}
 use mathlib.Core.List.{List}
-use Prim.Native.Nat.{ℕ, zero, suc, _+_, _-_, _*_, _%_, _≤_, _<_}
+use Prim.Native.Nat.{ℕ, zero, suc, _+_, _-_, _*_, _/_, _%_, _≤_, _<_}
 use native.Mathlib.Nat.{not-suc-le-zero, add-suc, add-mul, mul-assoc, add-mod-right}
 use native.Mathlib.Omega.{arith}
 use native.Mathlib.Decide.{ℕ-discrete, decLe}
@@ -13,6 +13,7 @@ use lib.Arith.{digits-lt}
 use lib.ListN.{length, set, length-set}
 use lib.Seq.{getD-set-same, getD-set-other}
 use Rattle.integer.specs.Words.{word}
+use Rattle.integer.specs.WordsLaws.{row-of}
 use Rattle.rulebook.specs.declared.Section.{Section}
 use Rattle.rulebook.specs.declared.Terms.{Terms}
 use Rattle.rulebook.specs.DayAmount.{residualDue}
@@ -22,7 +23,7 @@ use Rattle.rulebook.specs.BookData.{Entries}
 use Rattle.rulebook.specs.Close.{posted, postedToMssl, balancesGrown, slotBlanked, dayClosed}
 use Rattle.rulebook.specs.TestLaws.{below-suc}
 use Rattle.rulebook.specs.WindowWalk.{windowSlot}
-use Rattle.rulebook.specs.LayoutLaws.{InWindow, days-apart, interval-inside, row-inside, slot-inside, quotient, remainder}
+use Rattle.rulebook.specs.LayoutLaws.{InWindow, days-apart, interval-apart, interval-inside, row-inside, slot-inside, remainder}
 use Rattle.rulebook.specs.WordLaws.{stored-in, stored-out, length-stored}
 use Rattle.rulebook.specs.LedgerLaws.{Holds, Padding, padding-fits}
 
@@ -48,9 +49,6 @@ module _ (o : Terms) where
     blank : List ℤ
     blank = stored v (intervalWord o t 0 0) (48 * intervalSize o) (λ m. pos 0)
 
-    pub blank-front : (n : ℕ) → n < base o → word (stored v (intervalWord o t 0 0) (48 * intervalSize o) (λ m. pos 0)) n ≡ word v n
-    blank-front n h = stored-out v (intervalWord o t 0 0) (48 * intervalSize o) (λ m. pos 0) n (λ j hj e. omega (arith, slot-form t 0 0))
-
     pub blank-in : (i m : ℕ) → i < 48 → m < intervalSize o → size o ≤ length v → t < ring o
         → word (stored v (intervalWord o t 0 0) (48 * intervalSize o) (λ m. pos 0)) (intervalWord o t i m) ≡ pos 0
     blank-in i m hi hm l ht =
@@ -58,10 +56,12 @@ module _ (o : Terms) where
         let b = interval-inside o ht hi hm in
         rw (← e) (stored-in v (intervalWord o t 0 0) (48 * intervalSize o) (λ m. pos 0) (i * intervalSize o + m) (omega arith) (in-slot hi hm))
 
-    pub blank-out : (t′ i m : ℕ) → i < 48 → m < intervalSize o → (t′ ≡ t → ⊥)
-        → word (stored v (intervalWord o t 0 0) (48 * intervalSize o) (λ m. pos 0)) (intervalWord o t′ i m) ≡ word v (intervalWord o t′ i m)
-    blank-out t′ i m hi hm f = stored-out v (intervalWord o t 0 0) (48 * intervalSize o) (λ m. pos 0) (intervalWord o t′ i m) (λ j hj e.
-        f (quotient t′ t (in-slot hi hm) hj (omega (arith, slot-form t 0 0, slot-form t′ i m))))
+    -- every word that is not of it is kept
+    pub blank-out : (n : ℕ) → ((i m : ℕ) → i < 48 → m < intervalSize o → n ≢ intervalWord o t i m)
+        → word (stored v (intervalWord o t 0 0) (48 * intervalSize o) (λ m. pos 0)) n ≡ word v n
+    blank-out n out = stored-out v (intervalWord o t 0 0) (48 * intervalSize o) (λ m. pos 0) n (λ j hj e.
+        let q = row-of j 48 (intervalSize o) hj in
+        out (j / intervalSize o) (j % intervalSize o) (q .2) (q .1) (omega (arith, q .0, slot-form t 0 0, slot-form t (j / intervalSize o) (j % intervalSize o))))
 
   module _ (w : List ℤ) (D : ℕ) where
     pub length-grown : (n : ℕ) → length (balancesGrown o w D n) ≡ length w
@@ -84,33 +84,57 @@ module _ (o : Terms) where
         go ih (inl x) = getD-set-other (balancesGrown o w D n) (balanceWord n) (balanceWord a) _ (pos 0) (omega arith) ∙ ih x
         go ih (inr x) = rw x (getD-set-same (balancesGrown o w D n) (balanceWord n) _ (pos 0) (omega (arith, length-grown n)))
 
+    abbrev grown : List ℤ
+    grown = balancesGrown o w D (o .accounts)
+
+    abbrev credit : ℤ
+    credit = word w msslWord +ℤ postedToMssl o w D
+
     -- the words before r's slot is blanked
-    counted : List ℤ
-    counted = set (set (balancesGrown o w D (o .accounts)) msslWord (word w msslWord +ℤ postedToMssl o w D)) nextDayWord (pos (suc D))
+    unfoldable pub counted : List ℤ
+    counted = set (set grown msslWord credit) nextDayWord (pos (suc D))
 
     length-counted : length counted ≡ length w
     unfolding counted
     length-counted = simp length-set (length-grown (o .accounts))
 
-    counted-out : (m : ℕ) → m ≢ nextDayWord → m ≢ msslWord → ((a : ℕ) → a < o .accounts → m ≡ balanceWord a → ⊥) → word counted m ≡ word w m
+    pub counted-next : base o ≤ length w → word counted nextDayWord ≡ pos (suc D)
+    unfolding counted base
+    counted-next l = getD-set-same (set grown msslWord credit) nextDayWord (pos (suc D)) (pos 0) (omega (arith, length-set grown msslWord credit, length-grown (o .accounts)))
+
+    pub counted-mssl : base o ≤ length w → word counted msslWord ≡ word w msslWord +ℤ postedToMssl o w D
+    unfolding counted base
+    counted-mssl l = getD-set-other (set grown msslWord credit) nextDayWord msslWord (pos (suc D)) (pos 0) (omega arith)
+        ∙ getD-set-same grown msslWord credit (pos 0) (omega (arith, length-grown (o .accounts)))
+
+    pub counted-balance : base o ≤ length w → (a : ℕ) → a < o .accounts → word counted (balanceWord a) ≡ word w (balanceWord a) +ℤ posted o w D a
+    unfolding counted base
+    counted-balance l a h = getD-set-other (set grown msslWord credit) nextDayWord (balanceWord a) (pos (suc D)) (pos 0) (omega arith)
+        ∙ getD-set-other grown msslWord (balanceWord a) credit (pos 0) (omega arith) ∙ grown-in (o .accounts) a h (omega arith)
+
+    pub counted-out : (m : ℕ) → m ≢ nextDayWord → m ≢ msslWord → ((a : ℕ) → a < o .accounts → m ≢ balanceWord a) → word counted m ≡ word w m
     unfolding counted
-    counted-out m f g h =
-        let x : ℤ = word w msslWord +ℤ postedToMssl o w D in
-        getD-set-other (set (balancesGrown o w D (o .accounts)) msslWord x) 5 m (pos (suc D)) (pos 0) f
-        ∙ getD-set-other (balancesGrown o w D (o .accounts)) msslWord m x (pos 0) g ∙ grown-out (o .accounts) m h
+    counted-out m f g h = getD-set-other (set grown msslWord credit) nextDayWord m (pos (suc D)) (pos 0) f
+        ∙ getD-set-other grown msslWord m credit (pos 0) g ∙ grown-out (o .accounts) m h
 
     counted-slot : (t i m : ℕ) → word counted (intervalWord o t i m) ≡ word w (intervalWord o t i m)
     unfolding intervalWord base
     counted-slot t i m = counted-out (intervalWord o t i m) (omega arith) (omega arith) (λ a x e. omega arith)
 
-    -- what the close leaves below the intervals, in r's slot, and in every other
-    closed-front : (n : ℕ) → n < base o → word (dayClosed o w D) n ≡ word counted n
+    -- what the close leaves outside r's slot, below the intervals, in r's slot, and in every other
+    pub closed-elsewhere : (n : ℕ) → (T (residualDue o D) → (i m : ℕ) → i < 48 → m < intervalSize o → n ≢ intervalWord o (slot o (D - o .lag)) i m)
+        → word (dayClosed o w D) n ≡ word counted n
     unfolding dayClosed slotBlanked counted
-    closed-front n h = go (residualDue o D)
+    closed-elsewhere n out = go (residualDue o D) out
       where
-        go : (b : Bool) → word (cond b (stored counted (intervalWord o (slot o (D - o .lag)) 0 0) (48 * intervalSize o) (λ m. pos 0)) counted) n ≡ word counted n
-        go true = blank-front counted (slot o (D - o .lag)) n h
-        go false = refl
+        go : (b : Bool) → (T b → (i m : ℕ) → i < 48 → m < intervalSize o → n ≢ intervalWord o (slot o (D - o .lag)) i m)
+            → word (cond b (stored counted (intervalWord o (slot o (D - o .lag)) 0 0) (48 * intervalSize o) (λ m. pos 0)) counted) n ≡ word counted n
+        go true f = blank-out counted (slot o (D - o .lag)) n (f tt)
+        go false f = refl
+
+    pub closed-front : (n : ℕ) → n < base o → word (dayClosed o w D) n ≡ word counted n
+    unfolding intervalWord
+    closed-front n h = closed-elsewhere n (λ t i m hi hm e. omega arith)
 
     closed-length : length (dayClosed o w D) ≡ length w
     unfolding dayClosed slotBlanked counted
@@ -120,7 +144,7 @@ module _ (o : Terms) where
         go true = length-stored counted _ _ _
         go false = refl
 
-    closed-in : (i m : ℕ) → i < 48 → m < intervalSize o → size o ≤ length w → zero < ring o → T (residualDue o D)
+    pub closed-in : (i m : ℕ) → i < 48 → m < intervalSize o → size o ≤ length w → zero < ring o → T (residualDue o D)
         → word (dayClosed o w D) (intervalWord o (slot o (D - o .lag)) i m) ≡ pos 0
     unfolding dayClosed slotBlanked counted
     closed-in i m hi hm l p h = go (residualDue o D) h
@@ -132,13 +156,7 @@ module _ (o : Terms) where
 
     closed-out : (t i m : ℕ) → i < 48 → m < intervalSize o → (T (residualDue o D) → t ≡ slot o (D - o .lag) → ⊥)
         → word (dayClosed o w D) (intervalWord o t i m) ≡ word w (intervalWord o t i m)
-    unfolding dayClosed slotBlanked counted
-    closed-out t i m hi hm f = go (residualDue o D) f ∙ counted-slot t i m
-      where
-        go : (b : Bool) → (T b → t ≡ slot o (D - o .lag) → ⊥) → word (cond b (stored counted (intervalWord o (slot o (D - o .lag)) 0 0) (48 * intervalSize o) (λ m. pos 0)) counted)
-            (intervalWord o t i m) ≡ word counted (intervalWord o t i m)
-        go true x = blank-out counted (slot o (D - o .lag)) t i m hi hm (x tt)
-        go false x = refl
+    closed-out t i m hi hm f = closed-elsewhere (intervalWord o t i m) (λ x i′ m′ hi′ hm′ e. f x (interval-apart o t (slot o (D - o .lag)) hi hi′ hm hm′ e .0)) ∙ counted-slot t i m
 
 module _ (o : Terms) (p : zero < ring o) (k : ℕ) (g : Entries) (balance : ℕ → ℤ) (m₀ : ℤ) (w : List ℤ) (h : Holds o (record { closed = k; entries = g; balance = balance; mssl = m₀ }) w) where
   residual-begun : T (residualDue o (o .first + k)) → o .lag ≤ k
@@ -203,7 +221,7 @@ module _ (o : Terms) (p : zero < ring o) (k : ℕ) (g : Entries) (balance : ℕ 
     -- an accepted close leaves one closed day more and each balance grown
     pub day-held : Holds o (record { closed = suc k; entries = g; balance = λ a. balance a +ℤ posted o w (o .first + k) a; mssl = m₀ +ℤ postedToMssl o w (o .first + k) })
         (dayClosed o w (o .first + k))
-    unfolding base counted
+    unfolding base
     day-held = record {
       long = omega (arith, closed-length o w D, h .long);
       mark = front markWord (omega arith) (omega arith) (omega arith) (omega arith) ∙ h .mark;
@@ -211,16 +229,10 @@ module _ (o : Terms) (p : zero < ring o) (k : ℕ) (g : Entries) (balance : ℕ 
       lag = front lagWord (omega arith) (omega arith) (omega arith) (omega arith) ∙ h .lag;
       horizon = front horizonWord (omega arith) (omega arith) (omega arith) (omega arith) ∙ h .horizon;
       first = front firstDayWord (omega arith) (omega arith) (omega arith) (omega arith) ∙ h .first;
-      next = closed-front o w D nextDayWord (omega arith) ∙ getD-set-same (set grown msslWord credit) nextDayWord (pos (suc D)) (pos 0) (omega (arith, lengths, longer, h .long, length-set grown msslWord credit))
-          ∙ ap pos (sym (add-suc (o .first) k));
-      mssl = closed-front o w D msslWord (omega arith) ∙ getD-set-other (set grown msslWord credit) nextDayWord msslWord (pos (suc D)) (pos 0) (omega arith)
-          ∙ getD-set-same grown msslWord credit (pos 0) (omega (arith, lengths, longer, h .long))
-          ∙ ap (λ (x : ℤ). x +ℤ postedToMssl o w D) (h .mssl);
+      next = closed-front o w D nextDayWord (omega arith) ∙ counted-next o w D longer ∙ ap pos (sym (add-suc (o .first) k));
+      mssl = closed-front o w D msslWord (omega arith) ∙ counted-mssl o w D longer ∙ ap (λ (x : ℤ). x +ℤ postedToMssl o w D) (h .mssl);
       spare = λ n x. front (headerSpare n) (omega arith) (omega arith) (omega arith) (λ a y e. omega arith) ∙ h .spare n x;
-      balances = λ a x. closed-front o w D (balanceWord a) (omega arith) ∙ getD-set-other (set grown msslWord credit) nextDayWord (balanceWord a) (pos (suc D)) (pos 0) (omega arith)
-          ∙ getD-set-other grown msslWord (balanceWord a) credit (pos 0) (omega arith)
-          ∙ grown-in o w D (o .accounts) a x (omega (arith, longer, h .long))
-          ∙ ap (λ (y : ℤ). y +ℤ posted o w D a) (h .balances a x);
+      balances = λ a x. closed-front o w D (balanceWord a) (omega arith) ∙ counted-balance o w D longer a x ∙ ap (λ (y : ℤ). y +ℤ posted o w D a) (h .balances a x);
       spares = λ a j x y. front (accountSpare a j) (omega arith) (omega arith) (omega arith)
           (λ b z e. let q = remainder a b {m = 8} {r = 1 + j} {r′ = 0} (omega arith) (omega arith) (omega arith) in omega arith) ∙ h .spares a j x y;
       held = closed-held;
@@ -232,17 +244,8 @@ module _ (o : Terms) (p : zero < ring o) (k : ℕ) (g : Entries) (balance : ℕ 
         D : ℕ
         D = o .first + k
 
-        grown : List ℤ
-        grown = balancesGrown o w D (o .accounts)
-
-        credit : ℤ
-        credit = word w msslWord +ℤ postedToMssl o w D
-
-        lengths : length grown ≡ length w
-        lengths = length-grown o w D (o .accounts)
-
-        longer : base o ≤ size o
-        longer = base-fits o
+        longer : base o ≤ length w
+        longer = omega (arith, base-fits o, h .long)
 
         later : (u : ℕ) → windowSlot o k (suc u) ≡ windowSlot o (suc k) u
         later u = window-next o k u

@@ -1,5 +1,5 @@
 -- Document 01, "The book": where each word stands. No later chapter has a word's index, but for `Opening.header`, which lists
--- the first words in order, and `FormedBook`, which says them again in document 01's figures. Assumes nothing.
+-- the first words in order, and `FormedBook` and `Leaves`, which say them again in document 01's figures. Assumes nothing.
 use mathlib.Core.Bool.{Bool, true, false}
 use mathlib.Core.List.{List, [], _∷_}
 use Prim.Native.Nat.{ℕ, zero, suc, _+_, _-_, _*_, _%_, min, max}

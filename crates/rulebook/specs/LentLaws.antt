@@ -45,10 +45,10 @@ module _ (w : List ℤ) (file : List ℕ) (t : T (wellFormed w)) (e : judged (li
   rows-sound = subst (λ (C : ℕ). Each (Sound (limitsOf (termsOf w) C)) (fileRows file)) (sym (add-sub-of-le (next-of w t .1)))
       (file-sound (limitsOf (termsOf w) (nextDay w)) (opened-of w t .accountsFrom) file e)
 
-  rows-storable : Each (Storable (termsOf w) (nextDay w - termsOf w .first)) (fileRows file)
+  pub rows-storable : Each (Storable (termsOf w) (nextDay w - termsOf w .first)) (fileRows file)
   rows-storable = storable (termsOf w) (nextDay w - termsOf w .first) (opened-of w t .horizonFrom) (fileRows file) rows-sound
 
-  stored-words : submitted w file .words ≡ rowsStored (termsOf w) (fileRows file) w
+  pub stored-words : submitted w file .words ≡ rowsStored (termsOf w) (fileRows file) w
   unfolding submitted
   stored-words = rw (T-path (wellFormed w) t, e) refl
 

@@ -29,6 +29,7 @@ pub mod Demand3
 pub mod Companion
 pub mod SearchOrder
 pub mod CloseTable
+pub mod Leaves
 -- what is proved
 pub mod Theorems
 pub mod FileTheorems
@@ -117,3 +118,4 @@ pub mod Demand3Proof
 pub mod CompanionProof
 pub mod SubmitTableLaws
 pub mod CloseTableLaws
+pub mod LeavesLaws

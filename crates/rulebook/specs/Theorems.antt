@@ -28,12 +28,14 @@ use Rattle.rulebook.specs.Judging.{limitsOf, judged}
 use Rattle.rulebook.specs.Submit.{submitted}
 use Rattle.rulebook.specs.Close.{closed}
 use Rattle.rulebook.specs.Numbers.{accepted, ofSubmit, ofClose}
+use Rattle.rulebook.specs.NamedRows.{namedRows}
 use Rattle.rulebook.specs.History.{Call, callsIn, lastFor}
 use Rattle.rulebook.specs.Promises.{Run, historyOf, bookOf}
 use Rattle.rulebook.specs.Demand3.{Demand3OnCalls, Demand3Holds}
 use Rattle.rulebook.specs.Companion.{OpeningHolds, CompanionHolds, KeptFrom}
 use Rattle.rulebook.specs.SearchOrder.{SearchHolds}
 use Rattle.rulebook.specs.CloseTable.{CloseTable}
+use Rattle.rulebook.specs.Leaves.{SubmitLeaves, CloseLeaves}
 use Rattle.rulebook.specs.FileTheorems.{FileTheorems, file-theorems}
 use Rattle.rulebook.specs.Figures.{Right, starred, starred-right}
 use Rattle.rulebook.specs.WorkedDay.{WorkedDay, worked-day}
@@ -63,6 +65,7 @@ use Rattle.rulebook.specs.StepLaws.{over}
 use Rattle.rulebook.specs.AnySubmitLaws.{submitted-formed}
 use Rattle.rulebook.specs.AnyCloseLaws.{closed-formed}
 use Rattle.rulebook.specs.LentLaws.{CloseKeeps, submitted-beyond, closed-words-beyond, submitted-rows, refused-submit, refused-close}
+use Rattle.rulebook.specs.LeavesLaws.{submitted-leaves, closed-leaves}
 use Rattle.rulebook.specs.StartLaws.{opening-told, new-formed}
 use Rattle.rulebook.specs.RunLaws.{run-of, calls-of}
 use Rattle.rulebook.specs.Demand3Proof.{demand3, demand3-on-calls}
@@ -98,6 +101,11 @@ pub record Theorems : Type 0 where
   pub submitStores : (w : List ℤ) (file : List ℕ) → T (wellFormed w) → judged (limitsOf (termsOf w) (nextDay w)) file ≡ Accepted
       → (s : Section) (a d i j : ℕ) → InWindow (termsOf w) (nextDay w - termsOf w .first) d → a < accountsOf s (termsOf w .accounts) → i < 48 → j < width s
       → word (submitted w file .words) (rowWord (termsOf w) s a d i j) ≡ over (lastFor (fileRows file) s a d) (entriesOf (termsOf w) w s a d) i j
+  -- every word that an accepted file or close leaves, by its index: what is replaced, what grows, what is blanked, and that all else is as it was; the close's
+  -- statement, day and count
+  pub submitLeaves : (w : List ℤ) (file : List ℕ) → ofSubmit (submitted w file .answer) .number ≡ accepted → SubmitLeaves (termsOf w) (namedRows file) w (submitted w file .words)
+  pub closeLeaves : (w statement : List ℤ) → ofClose (closed w statement .answer) .number ≡ accepted
+      → CloseLeaves (termsOf w) (nextDay w) w statement (ofClose (closed w statement .answer)) (closed w statement .words) (closed w statement .statement)
   -- a refusal keeps every word, of any book
   pub submitRefused : (w : List ℤ) (file : List ℕ) → ofSubmit (submitted w file .answer) .number ≢ accepted → submitted w file .words ≡ w
   pub closeRefused : (w statement : List ℤ) → ofClose (closed w statement .answer) .number ≢ accepted → (closed w statement .words ≡ w) × (closed w statement .statement ≡ statement)
@@ -177,6 +185,8 @@ theorems = record {
   submitKeeps = submitted-formed;
   closeKeeps = closed-formed;
   submitStores = submitted-rows;
+  submitLeaves = submitted-leaves;
+  closeLeaves = closed-leaves;
   submitRefused = refused-submit;
   closeRefused = refused-close;
   submitBeyond = submitted-beyond;
