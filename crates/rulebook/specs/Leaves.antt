@@ -26,7 +26,8 @@ dayIndex o d i m = 64 + 8 * o .accounts + (((d - o .first) % (o .lag + o .horizo
 
 -- of a book with these terms, C the next day to close: its answer, the book after it, the statement as written
 pub record CloseLeaves (o : Terms) (C : ℕ) (before statement : List ℤ) (answer : Answer) (after written : List ℤ) : Type 0 where
-  -- the day, and the residual count: 48N if r = C − L is not before F, else 0
+  -- 0, the day, and the residual count: 48N if r = C − L is not before F, else 0
+  pub number : answer .number ≡ 0
   pub position : answer .position ≡ 0
   pub day : answer .day ≡ C
   pub residuals : o .first + o .lag ≤ C → answer .count ≡ 48 * o .accounts

@@ -96,6 +96,7 @@ module _ (w st : List ℤ) (t : T (wellFormed w)) (room : termsOf w .accounts + 
   close-leaves : CloseLeaves o D w st (ofClose (Closed D (residualCount o w D))) (dayClosed o w D) (statementWritten o w D st)
   unfolding posted postedToMssl msslAmount residualCount residualDue intervalWord base intervalSize slot ring
   close-leaves = record {
+    number = refl;
     position = refl;
     day = refl;
     residuals = λ h. rw (le-leb (o .first + o .lag) D h) refl;

@@ -119,3 +119,4 @@ pub mod CompanionProof
 pub mod SubmitTableLaws
 pub mod CloseTableLaws
 pub mod LeavesLaws
+pub mod DeterminedLaws

@@ -27,8 +27,8 @@ use Rattle.rulebook.specs.File.{fileRows}
 use Rattle.rulebook.specs.Judging.{limitsOf, judged}
 use Rattle.rulebook.specs.Submit.{submitted}
 use Rattle.rulebook.specs.Close.{closed}
-use Rattle.rulebook.specs.Numbers.{accepted, ofSubmit, ofClose}
-use Rattle.rulebook.specs.NamedRows.{namedRows}
+use Rattle.rulebook.specs.Numbers.{Answer, accepted, ofSubmit, ofClose}
+use Rattle.rulebook.specs.NamedRows.{NamedRow, namedRows}
 use Rattle.rulebook.specs.History.{Call, callsIn, lastFor}
 use Rattle.rulebook.specs.Promises.{Run, historyOf, bookOf}
 use Rattle.rulebook.specs.Demand3.{Demand3OnCalls, Demand3Holds}
@@ -66,6 +66,7 @@ use Rattle.rulebook.specs.AnySubmitLaws.{submitted-formed}
 use Rattle.rulebook.specs.AnyCloseLaws.{closed-formed}
 use Rattle.rulebook.specs.LentLaws.{CloseKeeps, submitted-beyond, closed-words-beyond, submitted-rows, refused-submit, refused-close}
 use Rattle.rulebook.specs.LeavesLaws.{submitted-leaves, closed-leaves}
+use Rattle.rulebook.specs.DeterminedLaws.{submit-determined, close-determined}
 use Rattle.rulebook.specs.StartLaws.{opening-told, new-formed}
 use Rattle.rulebook.specs.RunLaws.{run-of, calls-of}
 use Rattle.rulebook.specs.Demand3Proof.{demand3, demand3-on-calls}
@@ -106,6 +107,11 @@ pub record Theorems : Type 0 where
   pub submitLeaves : (w : List ℤ) (file : List ℕ) → ofSubmit (submitted w file .answer) .number ≡ accepted → SubmitLeaves (termsOf w) (namedRows file) w (submitted w file .words)
   pub closeLeaves : (w statement : List ℤ) → ofClose (closed w statement .answer) .number ≡ accepted
       → CloseLeaves (termsOf w) (nextDay w) w statement (ofClose (closed w statement .answer)) (closed w statement .words) (closed w statement .statement)
+  -- that leaves nothing open: what two outcomes so described leave, of one book before, is the same
+  pub submitDetermined : (o : Terms) (rows : List NamedRow) (before after after′ : List ℤ) → SubmitLeaves o rows before after → SubmitLeaves o rows before after′ → after ≡ after′
+  pub closeDetermined : (o : Terms) (C : ℕ) (before statement : List ℤ) (answer answer′ : Answer) (after after′ written written′ : List ℤ)
+      → CloseLeaves o C before statement answer after written → CloseLeaves o C before statement answer′ after′ written′
+      → (after ≡ after′) × (written ≡ written′) × (answer ≡ answer′)
   -- a refusal keeps every word, of any book
   pub submitRefused : (w : List ℤ) (file : List ℕ) → ofSubmit (submitted w file .answer) .number ≢ accepted → submitted w file .words ≡ w
   pub closeRefused : (w statement : List ℤ) → ofClose (closed w statement .answer) .number ≢ accepted → (closed w statement .words ≡ w) × (closed w statement .statement ≡ statement)
@@ -187,6 +193,8 @@ theorems = record {
   submitStores = submitted-rows;
   submitLeaves = submitted-leaves;
   closeLeaves = closed-leaves;
+  submitDetermined = submit-determined;
+  closeDetermined = close-determined;
   submitRefused = refused-submit;
   closeRefused = refused-close;
   submitBeyond = submitted-beyond;
