@@ -1,12 +1,12 @@
 -- Document 01, "Numbers returned, with examples": openings, and closes and submissions of books. Assumes nothing.
-use mathlib.Core.Path.{_≡_, refl}
-use mathlib.Core.Bool.{true, false}
+use mathlib.Core.Path.{_≡_, refl, sym, ap, _∙_, subst}
+use mathlib.Core.Bool.{Bool, true, false}
 use mathlib.Core.List.{List}
-use Prim.Native.Nat.{ℕ, _+_, _≤_}
+use Prim.Native.Nat.{ℕ, _+_, _*_, _≤_, _<_}
 use native.Mathlib.Omega.{arith}
 use borrow.Author.Tests.{lt-ltb, le-ltb}
 use lib.Dec.{T}
-use lib.IntN.{ℤ, pos}
+use lib.IntN.{ℤ, pos, natAbs}
 use lib.ListN.{length}
 use Rattle.integer.specs.Below.{tabulate, turns}
 use Rattle.integer.specs.Words.{word}
@@ -24,6 +24,7 @@ use Rattle.rulebook.specs.Numbers.{numbered, ofOpen, ofSubmit, ofClose}
 use Rattle.rulebook.specs.Examples.{two, in-two, zeros}
 use Rattle.rulebook.specs.LayoutExamples.{places}
 use Rattle.rulebook.specs.TestLaws.{T-path}
+use Rattle.rulebook.specs.FormedBookLaws.{formed-book}
 use Rattle.rulebook.specs.StartLaws.{opening-told}
 
 -- ---- Openings
@@ -70,6 +71,11 @@ pub record LentBooks : Type 0 where
   -- word 0 is 394
   pub submitMark : (w : List ℤ) (file : List ℕ) → word w 0 ≡ pos 394 → ofSubmit (submitted w file .answer) ≡ numbered 3 0
   pub closeMark : (w statement : List ℤ) → word w 0 ≡ pos 394 → ofClose (closed w statement .answer) ≡ numbered 3 0
+  -- an account's eighth word is 1: word 71 of any book, word 79 of two accounts, 319 of 32
+  pub submitSpare : (w : List ℤ) (file : List ℕ) → word w 71 ≡ pos 1 → ofSubmit (submitted w file .answer) ≡ numbered 3 0
+  pub closeSpare : (w statement : List ℤ) → word w 71 ≡ pos 1 → ofClose (closed w statement .answer) ≡ numbered 3 0
+  pub secondSpare : (w statement : List ℤ) → termsOf w .accounts ≡ 2 → word w 79 ≡ pos 1 → ofClose (closed w statement .answer) ≡ numbered 3 0
+  pub lastSpare : (w statement : List ℤ) → termsOf w .accounts ≡ 32 → word w 319 ≡ pos 1 → ofClose (closed w statement .answer) ≡ numbered 3 0
   -- a finished book, whatever the statement
   pub finished : (w statement : List ℤ) → T (wellFormed w) → nextDay w ≡ 36525 → ofClose (closed w statement .answer) ≡ numbered 9 0
   -- N + 1 words are needed
@@ -81,11 +87,25 @@ not-formed : (w : List ℤ) → word w 0 ≡ pos 394 → wellFormed w ≡ false
 unfolding wellFormed fits headerFits
 not-formed w e = rw e refl
 
+-- account a's eighth word is used: not well formed
+spare-used : (w : List ℤ) (a : ℕ) → (T (wellFormed w) → a < termsOf w .accounts) → word w (64 + 8 * a + 7) ≡ pos 1 → wellFormed w ≡ false
+spare-used w a h e = go (wellFormed w) refl
+  where
+    go : (b : Bool) → wellFormed w ≡ b → b ≡ false
+    go true x =
+        let t : T (wellFormed w) = subst T (sym x) tt in
+        absurd (omega (arith, ap natAbs (sym e ∙ formed-book w t .spares a 7 (h t) (omega arith) (omega arith))))
+    go false x = refl
+
 pub lent-books : LentBooks
 unfolding submitted closed
 lent-books = record {
   submitMark = λ w file e. rw (not-formed w e) refl;
   closeMark = λ w statement e. rw (not-formed w e) refl;
+  submitSpare = λ w file e. rw (spare-used w 0 (λ t. formed-book w t .terms .accountsFrom) e) refl;
+  closeSpare = λ w statement e. rw (spare-used w 0 (λ t. formed-book w t .terms .accountsFrom) e) refl;
+  secondSpare = λ w statement n e. rw (spare-used w 1 (λ t. omega arith) e) refl;
+  lastSpare = λ w statement n e. rw (spare-used w 31 (λ t. omega arith) e) refl;
   finished = λ w statement t e. rw (T-path (wellFormed w) t, e) refl;
   noRoom = λ w statement t left short. rw (T-path (wellFormed w) t, le-ltb lastDay (nextDay w) left, lt-ltb (length statement) (termsOf w .accounts + 1) (omega arith)) refl;
   eightZeros = λ w t. unfold judged judgedSection upTo num rowPos sectionEnd turns fileRows sectionRows tabulate rowsStored in rw (T-path (wellFormed w) t) (refl, refl);

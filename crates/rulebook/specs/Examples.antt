@@ -2,18 +2,19 @@
 use mathlib.Core.Path.{_≡_, refl}
 use mathlib.Core.Bool.{Bool, true, false}
 use mathlib.Core.List.{List, [], _∷_, _++_}
-use Prim.Native.Nat.{ℕ}
+use Prim.Native.Nat.{ℕ, _+_}
 use native.Mathlib.Omega.{arith}
 use lib.IntN.{ℤ, pos, _+ℤ_, _-ℤ_}
 use lib.ListN.{replicate, getD}
 use Rattle.integer.specs.Integer.{minus}
-use Rattle.integer.specs.Below.{fold}
+use Rattle.integer.specs.Below.{fold, tabulate}
 use Rattle.rulebook.specs.declared.Section.{Section}
 use Rattle.rulebook.specs.declared.Section.the-variants.{Vesting, Meter, Residual, Ncc}
 use Rattle.rulebook.specs.declared.Terms.{Terms}
 use Rattle.rulebook.specs.Terms.{InTerms}
 use Rattle.rulebook.specs.Sections.{valueInRange}
-use Rattle.rulebook.specs.WellFormed.{rowFits, rowBlank, rowCounts, headerFits, balanceFits}
+use Rattle.rulebook.specs.Layout.{base, balanceWord}
+use Rattle.rulebook.specs.WellFormed.{rowFits, rowBlank, rowCounts, headerFits, balanceFits, accountFits}
 use Rattle.rulebook.specs.Figures.{accounts}
 
 -- ---- Terms
@@ -155,3 +156,23 @@ pub record Balances : Type 0 where
 pub balances : Balances
 unfolding balanceFits
 balances = record { newBook = (refl, refl); oneDay = (refl, refl); below = (refl, refl); mssl = (refl, refl) }
+
+-- ---- Accounts: 8 words each from 64 on, a balance and seven zeros
+
+-- account a's words after a closed day, of a book of zeros but for a 1 at an index
+abbrev used : ℕ → ℕ → Bool
+used a n = accountFits (replicate n (pos 0) ++ (pos 1 ∷ [])) 1 a
+
+pub record AccountWords : Type 0 where
+  -- where balances stand, and after the last account's eight words the first slot
+  pub balances : (tabulate 3 balanceWord ≡ 64 ∷ 72 ∷ 80 ∷ []) × (balanceWord 31 ≡ 312)
+  pub slots : (base (accounts 1) ≡ 72) × (base (accounts 2) ≡ 80) × (base (accounts 32) ≡ 320)
+  -- words 63 to 72, of account 0: its own are 64 to 71, of which 64 may be used
+  pub first : tabulate 10 (λ n. used 0 (63 + n)) ≡ true ∷ true ∷ false ∷ false ∷ false ∷ false ∷ false ∷ false ∷ false ∷ true ∷ []
+  -- words 71 to 80, of account 1; words 311 to 320, of account 31
+  pub second : tabulate 10 (λ n. used 1 (71 + n)) ≡ true ∷ true ∷ false ∷ false ∷ false ∷ false ∷ false ∷ false ∷ false ∷ true ∷ []
+  pub last : tabulate 10 (λ n. used 31 (311 + n)) ≡ true ∷ true ∷ false ∷ false ∷ false ∷ false ∷ false ∷ false ∷ false ∷ true ∷ []
+
+pub account-words : AccountWords
+unfolding tabulate fold accountFits balanceFits base
+account-words = record { balances = (refl, refl); slots = (refl, refl, refl); first = refl; second = refl; last = refl }

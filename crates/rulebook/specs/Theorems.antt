@@ -39,7 +39,7 @@ use Rattle.rulebook.specs.Leaves.{SubmitLeaves, CloseLeaves}
 use Rattle.rulebook.specs.FileTheorems.{FileTheorems, file-theorems}
 use Rattle.rulebook.specs.Figures.{Right, starred, starred-right}
 use Rattle.rulebook.specs.WorkedDay.{WorkedDay, worked-day}
-use Rattle.rulebook.specs.Examples.{RowExamples, row-examples, Headers, headers, Balances, balances, Ranges, ranges}
+use Rattle.rulebook.specs.Examples.{RowExamples, row-examples, Headers, headers, Balances, balances, AccountWords, account-words, Ranges, ranges}
 use Rattle.rulebook.specs.AmountExamples.{BoundReached, bound-reached, ResidualOfThree, residual-of-three, LagOfTwo, lag-of-two}
 use Rattle.rulebook.specs.LayoutExamples.{Places, places, NewHeader, new-header, Windows, windows}
 use Rattle.rulebook.specs.BookExamples.{Days, days}
@@ -157,6 +157,7 @@ pub record Theorems : Type 0 where
   pub places : Places
   pub windows : Windows
   pub balances : Balances
+  pub accountWords : AccountWords
   pub days : Days
   pub bytesRead : BytesRead
   pub figuresRead : FiguresRead
@@ -224,6 +225,7 @@ theorems = record {
   places = places;
   windows = windows;
   balances = balances;
+  accountWords = account-words;
   days = days;
   bytesRead = bytes-read;
   figuresRead = figures-read;
