@@ -8,23 +8,26 @@
 --   interval 20: load 1000. R = 1000 − 460 − 15 = 525 is above S = 65: shares 40 and 25, in full.
 --     Account 0: V 9500, tranches 30 and 10: 100 × 30 − 200 × 10 = 1,000. Account 1: V 700 (an IEQ below zero has no weight),
 --     tranches 10 and 15: −50 × 10 + 20 × 15 = −200.
---   interval 47: load 50. R = 50 − 30 = 20, S = 80: shares 15 and 5.
---     Account 0: V 9000, tranches 10 and 5: 7 × 10 − 500 × 5 = −2,430. Account 1: no base contract, V 50: −17 × 5 = −85.
+--   interval 47: load 58. Account 0: BVQ 30. Account 1: no base contract, a tender of 8.
+--     R = 58 − 30 − 8 = 20, S = 80: shares 15 and 5 (21 and 7 if the tender were left out of R).
+--     Account 0: V 9000, tranches 10 and 5: 60 × 10 − 500 × 5 = −1,900. Account 1: V 50, MQ 0, all 5 go to tranche 2: −17 × 5 = −85.
 -- The closing day D
 --   interval 0. Account 0: V of four facilities 80012 / 8 = 10001.5, so 10002:
---     4998 × 1400 − 1002 × 10 − 502 × 20 + 5999 × 30 = 7,157,110. Account 1: V −104, 85 × 7 = 595.
+--     4998 × 1400 − 1002 × 10 − 502 × 20 + 6009 × 30 = 7,157,410. Account 1: V −104, 85 × 7 = 595.
 --   interval 20. Account 1: V 0, −247 × 2 = −494.
---   interval 47. Account 0: V 10001, 1820 × 1. Account 1: V −205 / 2 = −102.5, so −103: 1 × 3000.
--- Account 0: 7,157,110 + 1,820 − 234,000 + 1,000 − 2,430 = 6,923,500 thousandths, just half: 6924 cents.
+--   interval 47. Account 0: V 10001, 990 × 1. Account 1: V −205 / 2 = −102.5, so −103: 1 × 3000.
+-- Account 0: 7,157,410 + 990 − 234,000 + 1,000 − 1,900 = 6,923,500 thousandths, just half: 6924 cents. One rounding of all together: its base contract
+--   alone is 6,997,200 + 990 = 6,998,190, its tenders −10,020 − 10,040 + 180,270 = 160,210, its residual −234,900, and rounded apart these would be
+--   6998 + 160 − 235 = 6923; so would any two of them together and the third apart (7158 − 235, 6998 − 75, 6763 + 160).
 -- Account 1: 595 − 494 + 3,000 − 4,316 − 200 − 85 = −1,500, just half: −2 cents. The MSSL: −6922.
 use mathlib.Core.Path.{_≡_, refl}
 use mathlib.Core.Bool.{cond}
 use mathlib.Core.List.{[], _∷_}
 use Prim.Native.Nat.{ℕ}
 use lib.Dec.{eqb}
-use lib.IntN.{pos}
+use lib.IntN.{pos, _+ℤ_}
 use Rattle.integer.specs.Integer.{minus, withSign}
-use Rattle.integer.specs.Below.{fold}
+use Rattle.integer.specs.Below.{fold, sumℤ, tabulate}
 use Rattle.rulebook.specs.Units.{nearest}
 use Rattle.rulebook.specs.ReferencePrice.{average, referencePrice}
 use Rattle.rulebook.specs.Shares.{share, shareOf}
@@ -39,9 +42,9 @@ three none x y z i = cond (eqb i 0) x (cond (eqb i 20) y (cond (eqb i 47) z none
 abbrev closing : ℕ → ℕ → AccountData
 closing a = cond (eqb a 0)
     (three nothing
-    (accountData 1400 (pos 15000) (10 ∷ 20 ∷ 30 ∷ []) (pos 9000 ∷ pos 9500 ∷ pos 16001 ∷ []) (pos 10000 ∷ pos 10002 ∷ pos 10003 ∷ pos 10002 ∷ []) (pos 3 ∷ pos 1 ∷ pos 2 ∷ pos 2 ∷ []) 0 0 (pos 0) (pos 0))
+    (accountData 1400 (pos 15000) (10 ∷ 20 ∷ 30 ∷ []) (pos 9000 ∷ pos 9500 ∷ pos 16011 ∷ []) (pos 10000 ∷ pos 10002 ∷ pos 10003 ∷ pos 10002 ∷ []) (pos 3 ∷ pos 1 ∷ pos 2 ∷ pos 2 ∷ []) 0 0 (pos 0) (pos 0))
     nothing
-    (accountData 1 (pos 11821) [] [] (pos 10001 ∷ []) (pos 4 ∷ []) 0 0 (pos 0) (pos 0)))
+    (accountData 1 (pos 10991) [] [] (pos 10001 ∷ []) (pos 4 ∷ []) 0 0 (pos 0) (pos 0)))
     (three nothing
     (accountData 7 (minus 19) [] [] (pos 101 ∷ minus 104 ∷ []) (minus 5 ∷ pos 2 ∷ []) 0 0 (pos 0) (pos 0))
     (accountData 2 (minus 247) [] [] (pos 0 ∷ []) (pos 0 ∷ []) 0 0 (pos 0) (pos 0))
@@ -52,16 +55,16 @@ residual a = cond (eqb a 0)
     (three nothing
     (accountData 100 (pos 12000) (50 ∷ 0 ∷ 40 ∷ []) (pos 11000 ∷ pos 0 ∷ pos 10500 ∷ []) (pos 10000 ∷ []) (pos 7 ∷ []) 300 180 (pos 9000) (pos 8000))
     (accountData 460 (pos 9000) [] [] (pos 9500 ∷ []) (pos 5 ∷ []) 40 490 (pos 9600) (pos 9300))
-    (accountData 30 (pos 12000) [] [] (pos 9000 ∷ []) (pos 1 ∷ []) 60 40 (pos 9007) (pos 8500)))
+    (accountData 30 (pos 12000) [] [] (pos 9000 ∷ []) (pos 1 ∷ []) 60 40 (pos 9060) (pos 8500)))
     (three nothing
     (accountData 200 (pos 5000) [] [] (pos 101 ∷ pos 104 ∷ []) (minus 5 ∷ pos 0 ∷ []) 100 400 (pos 20) (pos 7))
     (accountData 0 (pos 0) (15 ∷ []) (pos 0 ∷ []) (pos 700 ∷ minus 300 ∷ []) (pos 2 ∷ minus 1 ∷ []) 25 10 (pos 650) (pos 720))
-    (accountData 0 (pos 0) [] [] (pos 50 ∷ []) (pos 1 ∷ []) 20 0 (pos 60) (pos 33)))
+    (accountData 0 (pos 0) (8 ∷ []) (pos 550 ∷ []) (pos 50 ∷ []) (pos 1 ∷ []) 20 0 (pos 60) (pos 33)))
 
 abbrev worked : SettlementData
 worked = record {
   account = λ a d. cond (eqb d 9498) (closing a) (residual a);
-  load = λ d. cond (eqb d 9498) (three 0 999 3 77) (three 0 600 1000 50);
+  load = λ d. cond (eqb d 9498) (three 0 999 3 77) (three 0 600 1000 58);
 }
 
 pub record WorkedDay : Type 0 where
@@ -70,9 +73,26 @@ pub record WorkedDay : Type 0 where
   pub posted0 : postedAmount (accounts 2) worked 0 9498 ≡ pos 6924
   pub posted1 : postedAmount (accounts 2) worked 1 9498 ≡ minus 2
   pub mssl : msslAmount (accounts 2) worked 9498 ≡ minus 6922
-  -- r is F: its own close settles no residual. Account 1: 4897 × 200 − 700 × 15 = 968,900
-  pub firstDay : postedAmount (accounts 2) worked 1 9497 ≡ pos 969
+  -- in interval 47 of r account 1's tender of 8 counts in R
+  pub tenderAlone : tabulate 2 (rvq 58 2 (λ b. residual b 47)) ≡ 15 ∷ 5 ∷ []
+  -- account 0's vesting of D and residual of r in thousandths, and what they would come to if rounded apart
+  pub vesting0 : sumℤ 48 (λ i. vestingAmount (closing 0 i)) ≡ pos 7158400
+  pub residual0 : sumℤ 48 (λ i. residualAmount (worked .load 9497 i) 2 (λ b. residual b i) 0) ≡ minus 234900
+  pub apart : nearest (pos 7158400) 1000 +ℤ nearest (minus 234900) 1000 ≡ pos 6923
+  -- r is F: its own close settles no residual. Account 1: 4897 × 200 − 700 × 15 + 500 × 8 = 972,900
+  pub firstDay : postedAmount (accounts 2) worked 1 9497 ≡ pos 973
 
 pub worked-day : WorkedDay
-unfolding fold share shareOf tranche1 tranche2 referencePrice average nearest withSign msslAmount postedAmount exactAmount intervalAmount residualDue vestingAmount vestedQuantity residualLoad rvq residualAmount referencePriceOf
-worked-day = record { exact0 = refl; exact1 = refl; posted0 = refl; posted1 = refl; mssl = refl; firstDay = refl }
+unfolding fold tabulate share shareOf tranche1 tranche2 referencePrice average nearest withSign msslAmount postedAmount exactAmount intervalAmount residualDue vestingAmount vestedQuantity residualLoad rvq residualAmount referencePriceOf
+worked-day = record {
+  exact0 = refl;
+  exact1 = refl;
+  posted0 = refl;
+  posted1 = refl;
+  mssl = refl;
+  tenderAlone = refl;
+  vesting0 = refl;
+  residual0 = refl;
+  apart = refl;
+  firstDay = refl;
+}
