@@ -16,7 +16,7 @@ use Rattle.rulebook.specs.Terms.{InTerms}
 use Rattle.rulebook.specs.Layout.{size, base, ring, intervalSize, slot, intervalWord, rowWord}
 use Rattle.rulebook.specs.Opening.{newBook}
 use Rattle.rulebook.specs.File.{num, signed32, valueAt, rowEnd, rowPos, sectionEnd, sectionRows, fileRows, numberOf, figureOf, NccLoad}
-use Rattle.rulebook.specs.Close.{closed}
+use Rattle.rulebook.specs.Close.{residualCount, closed}
 use Rattle.rulebook.specs.Numbers.{numbered, ofClose}
 use Rattle.rulebook.specs.History.{Event, submit, close, closes, latest, lastFor, acceptedRows, inForce, figureIn}
 use Rattle.rulebook.specs.Companion.{firstLacking, closeTold}
@@ -46,11 +46,11 @@ vestingFile = 1 ∷ 0 ∷ vesting 0 first ++ zeros 6
 abbrev meterFile : List ℕ
 meterFile = 0 ∷ 0 ∷ 1 ∷ 0 ∷ meter 0 first ++ zeros 4
 
-abbrev bothFile : ℕ → List ℕ
-bothFile day = 1 ∷ 0 ∷ vesting 0 day ++ (1 ∷ 0 ∷ meter 0 day ++ zeros 4)
+abbrev bothFile : ℕ → ℕ → List ℕ
+bothFile a day = 1 ∷ 0 ∷ vesting a day ++ (1 ∷ 0 ∷ meter a day ++ zeros 4)
 
-abbrev residualFile : List ℕ
-residualFile = zeros 4 ++ (1 ∷ 0 ∷ 0 ∷ first ∷ 0x25 ∷ zeros 768 ++ zeros 2)
+abbrev residualFile : ℕ → List ℕ
+residualFile a = zeros 4 ++ (1 ∷ 0 ∷ a ∷ first ∷ 0x25 ∷ zeros 768 ++ zeros 2)
 
 -- with a load in interval 0
 abbrev nccFile : ℕ → List ℕ
@@ -70,6 +70,10 @@ refused file = record { call = submit file; answer = numbered 8 0 }
 abbrev closedDay : ℕ → ℕ → Event
 closedDay day count = record { call = close (words 2); answer = record { number = 0; position = 0; day = day; count = count } }
 
+-- two accounts: the first day closed, the second day's own rows, the load of the first
+abbrev bothReady : List Event
+bothReady = taken (nccFile 0) ∷ taken (bothFile 1 second) ∷ taken (bothFile 0 second) ∷ closedDay 9497 0 ∷ []
+
 -- ---- Closes
 
 pub record Closes : Type 0 where
@@ -80,17 +84,22 @@ pub record Closes : Type 0 where
   -- vesting before meter, account by account
   pub meterLacks : closeTold two (taken vestingFile ∷ []) (words 3) ≡ numbered 11 93
   pub vestingLacks : closeTold two (taken meterFile ∷ []) (words 3) ≡ numbered 11 84
-  pub nextAccount : closeTold two (taken (bothFile first) ∷ []) (words 3) ≡ numbered 11 108
+  pub nextAccount : closeTold two (taken (bothFile 0 first) ∷ []) (words 3) ≡ numbered 11 108
   -- a refused file counts for nothing
   pub refusedFile : closeTold two (refused vestingFile ∷ []) (words 3) ≡ numbered 11 84
   -- the first day is closed without residual
-  pub accepted : closeTold one (taken (bothFile first) ∷ []) (words 2) ≡ record { number = 0; position = 0; day = 9497; count = 0 }
+  pub accepted : closeTold one (taken (bothFile 0 first) ∷ []) (words 2) ≡ record { number = 0; position = 0; day = 9497; count = 0 }
   -- the second: its own rows, then NCC and residual of r
   pub ownFirst : closeTold one (taken (nccFile 0) ∷ closedDay 9497 0 ∷ []) (words 2) ≡ numbered 11 1420
-  pub nccLacks : closeTold one (taken residualFile ∷ taken (bothFile second) ∷ closedDay 9497 0 ∷ []) (words 2) ≡ numbered 11 73
-  pub residualLacks : closeTold one (taken (nccFile 0) ∷ taken (bothFile second) ∷ closedDay 9497 0 ∷ []) (words 2) ≡ numbered 11 94
-  pub acceptedAgain : closeTold one (taken residualFile ∷ taken (nccFile 0) ∷ taken (bothFile second) ∷ closedDay 9497 0 ∷ []) (words 2)
+  pub nccLacks : closeTold one (taken (residualFile 0) ∷ taken (bothFile 0 second) ∷ closedDay 9497 0 ∷ []) (words 2) ≡ numbered 11 73
+  pub residualLacks : closeTold one (taken (nccFile 0) ∷ taken (bothFile 0 second) ∷ closedDay 9497 0 ∷ []) (words 2) ≡ numbered 11 94
+  pub acceptedAgain : closeTold one (taken (residualFile 0) ∷ taken (nccFile 0) ∷ taken (bothFile 0 second) ∷ closedDay 9497 0 ∷ []) (words 2)
       ≡ record { number = 0; position = 0; day = 9498; count = 48 }
+  -- the same of two accounts: 96, each account's residual row being there
+  pub acceptedTwo : closeTold two (taken (residualFile 1) ∷ taken (residualFile 0) ∷ bothReady) (words 3) ≡ record { number = 0; position = 0; day = 9498; count = 96 }
+  pub secondLacks : closeTold two (taken (residualFile 0) ∷ bothReady) (words 3) ≡ numbered 11 126
+  -- of a book's words too, whatever they are
+  pub counts : (w : List ℤ) → (residualCount two w 9497 ≡ 0) × (residualCount two w 9498 ≡ 96)
   -- the last day of all is closed, and no statement is asked for
   pub finished : closeTold (record { accounts = 1; lag = 1; horizon = 1; first = 36524 }) (closedDay 36524 0 ∷ []) [] ≡ numbered 9 0
   -- the last row accepted is in force
@@ -98,7 +107,7 @@ pub record Closes : Type 0 where
   pub notRevised : figureIn (inForce (refused (nccFile 5) ∷ taken (nccFile 3) ∷ []) Ncc 0 9497) 0 NccLoad ≡ pos 3
 
 pub closes-told : Closes
-unfolding closeTold firstLacking inForce latest lastFor acceptedRows closes residualDue fold orElse fileRows sectionRows tabulate num rowEnd rowPos sectionEnd turns valueAt signed32 numberOf figureOf base ring intervalSize slot intervalWord rowWord
+unfolding closeTold residualCount firstLacking inForce latest lastFor acceptedRows closes residualDue fold orElse fileRows sectionRows tabulate num rowEnd rowPos sectionEnd turns valueAt signed32 numberOf figureOf base ring intervalSize slot intervalWord rowWord
 closes-told = record {
   noRoom = refl;
   nothing = refl;
@@ -112,6 +121,9 @@ closes-told = record {
   nccLacks = refl;
   residualLacks = refl;
   acceptedAgain = refl;
+  acceptedTwo = refl;
+  secondLacks = refl;
+  counts = λ w. (refl, refl);
   finished = refl;
   revised = refl;
   notRevised = refl;

@@ -73,9 +73,12 @@ file-windows = record {
   nccTooLate = refl;
 }
 
--- a vesting row of an account, day 9,472 + low, no tranches, all zero; an NCC row
+-- a vesting row of an account, day 9,472 + low, no tranches, all zero; a meter row of one facility, an NCC row
 abbrev vestingRow : ℕ → ℕ → List ℕ
 vestingRow account low = account ∷ low ∷ 0x25 ∷ 0 ∷ zeros 384
+
+abbrev meterRow : ℕ → ℕ → List ℕ
+meterRow account low = account ∷ low ∷ 0x25 ∷ 1 ∷ zeros 384
 
 abbrev nccRow : ℕ → List ℕ
 nccRow low = low ∷ 0x25 ∷ zeros 192
@@ -87,6 +90,10 @@ pub record Keys : Type 0 where
   -- repeated after another account's row; an NCC day repeated
   pub thirdRow : returns 9500 (3 ∷ 0 ∷ vestingRow 2 0x1C ++ (vestingRow 0 0x1C ++ (2 ∷ 0x1C ∷ 0x25 ∷ []))) 7 779
   pub nccAgain : returns 9500 (zeros 6 ++ (2 ∷ 0 ∷ nccRow 0x1C ++ (0x1C ∷ 0x25 ∷ []))) 7 202
+  -- a key is of its section: one account and day in sections 1 and 2; in 2 and 3, and a day of account 0 in 1 and 4, cut after the second key
+  pub vestingAndMeter : returns 9500 (1 ∷ 0 ∷ vestingRow 1 0x1C ++ (1 ∷ 0 ∷ meterRow 1 0x1C ++ zeros 4)) 0 0
+  pub meterAndResidual : returns 9500 (0 ∷ 0 ∷ 1 ∷ 0 ∷ meterRow 1 0x1C ++ (1 ∷ 0 ∷ 1 ∷ 0x1C ∷ 0x25 ∷ [])) 4 397
+  pub vestingAndNcc : returns 9500 (1 ∷ 0 ∷ vestingRow 0 0x1C ++ (zeros 4 ++ (1 ∷ 0 ∷ 0x1C ∷ 0x25 ∷ []))) 4 398
   -- the last account
   pub lastAccount : returns 9500 (1 ∷ 0 ∷ 2 ∷ []) 4 3
   -- a count of 257 rows, one of them there
@@ -94,4 +101,14 @@ pub record Keys : Type 0 where
 
 pub keys : Keys
 unfolding judged judgedSection judgedRow rowAfter rest given key fieldIn value upTo num rowEnd rowPos sectionEnd turns valueAt signed32
-keys = record { twoDays = refl; twoNccDays = refl; thirdRow = refl; nccAgain = refl; lastAccount = refl; oneOfMany = refl }
+keys = record {
+  twoDays = refl;
+  twoNccDays = refl;
+  thirdRow = refl;
+  nccAgain = refl;
+  vestingAndMeter = refl;
+  meterAndResidual = refl;
+  vestingAndNcc = refl;
+  lastAccount = refl;
+  oneOfMany = refl;
+}

@@ -97,6 +97,10 @@ pub record Refusals : Type 0 where
   -- an account out of range comes before a day that is cut, a value out of range before a cut later in its row
   pub accountFirst : returns 9497 (1 ∷ 0 ∷ 3 ∷ 0x19 ∷ []) 5 2
   pub valueFirst : returns 9497 (1 ∷ 0 ∷ 0 ∷ 0x19 ∷ 0x25 ∷ 0 ∷ 255 ∷ 255 ∷ 255 ∷ 255 ∷ 0 ∷ []) 5 6
+  -- 5 at the value's own byte: a BVP of 1,000,001 in the first interval and in the last, an IEQ of 10,000,001
+  pub secondValue : returns 9497 (1 ∷ 0 ∷ 0 ∷ 0x19 ∷ 0x25 ∷ 0 ∷ zeros 4 ++ (0x41 ∷ 0x42 ∷ 0x0F ∷ 0 ∷ [])) 5 10
+  pub lastValue : returns 9497 (1 ∷ 0 ∷ 0 ∷ 0x19 ∷ 0x25 ∷ 0 ∷ zeros 380 ++ (0x41 ∷ 0x42 ∷ 0x0F ∷ 0 ∷ [])) 5 386
+  pub meterValue : returns 9497 (0 ∷ 0 ∷ 1 ∷ 0 ∷ 0 ∷ 0x19 ∷ 0x25 ∷ 1 ∷ zeros 4 ++ (0x81 ∷ 0x96 ∷ 0x98 ∷ 0 ∷ [])) 5 12
   -- a row repeated comes before its count
   pub repeatFirst : returns 9497 (2 ∷ 0 ∷ vestingRow ++ (0 ∷ 0x19 ∷ 0x25 ∷ 4 ∷ [])) 7 391
   pub valueCut : returns 9497 (1 ∷ 0 ∷ 0 ∷ 0x19 ∷ 0x25 ∷ 0 ∷ 1 ∷ 0 ∷ 0 ∷ 0 ∷ 0 ∷ []) 4 10
@@ -134,6 +138,9 @@ refusals = record {
   dayBefore = refl;
   accountFirst = refl;
   valueFirst = refl;
+  secondValue = refl;
+  lastValue = refl;
+  meterValue = refl;
   repeatFirst = refl;
   valueCut = refl;
 }
