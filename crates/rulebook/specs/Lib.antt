@@ -45,6 +45,7 @@ pub mod DataExamples
 pub mod NumberExamples
 pub mod InputExamples
 pub mod CallExamples
+pub mod SubmitExamples
 pub mod HistoryExamples
 pub mod SearchExamples
 pub mod EncodingExamples

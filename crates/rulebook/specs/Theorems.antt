@@ -48,6 +48,7 @@ use Rattle.rulebook.specs.DataExamples.{BookRead, book-read, RowsRead, r
 use Rattle.rulebook.specs.NumberExamples.{Returned, returned, Table, table, Refusals, refusals, ThreeAccounts, three-accounts}
 use Rattle.rulebook.specs.InputExamples.{CallsTold, calls-told}
 use Rattle.rulebook.specs.CallExamples.{Openings, openings, LentBooks, lent-books}
+use Rattle.rulebook.specs.SubmitExamples.{StoredRows, stored-rows, SubmittedFile, submitted-file}
 use Rattle.rulebook.specs.HistoryExamples.{Closes, closes-told, NewBooks, new-books}
 use Rattle.rulebook.specs.SearchExamples.{SearchedFlags, searched-flags}
 use Rattle.rulebook.specs.SharesLaws.{ShareTotal, share-total, RuleShare, share-rule}
@@ -172,6 +173,10 @@ pub record Theorems : Type 0 where
   pub callsTold : CallsTold
   pub openings : Openings
   pub lentBooks : LentBooks
+  -- what a row, and a file, leaves in the book's words, by index
+  pub storedRows : StoredRows
+  pub submittedFile : SubmittedFile
+  -- closes after short histories
   pub closes : Closes
   pub newBooks : NewBooks
   -- the search by index, through accounts and intervals
@@ -238,6 +243,8 @@ theorems = record {
   callsTold = calls-told;
   openings = openings;
   lentBooks = lent-books;
+  storedRows = stored-rows;
+  submittedFile = submitted-file;
   closes = closes-told;
   newBooks = new-books;
   searchedFlags = searched-flags;
