@@ -21,9 +21,9 @@ use Rattle.rulebook.specs.WellFormed.{wellFormed}
 use Rattle.rulebook.specs.Opening.{newBook}
 use Rattle.rulebook.specs.File.{num, signed32, valueAt, rowEnd, rowPos, sectionEnd, sectionRows, fileRows, Row, numberOf, figureOf}
 use Rattle.rulebook.specs.Judging.{upTo, fieldIn, value, key, given, rest, rowAfter, judgedRow, judgedSection, limitsOf, judged}
-use Rattle.rulebook.specs.Submit.{entry, rowStored, rowsStored, submitted}
+use Rattle.rulebook.specs.Submit.{entry, entryStored, rowStored, rowsStored, submitted}
 use Rattle.rulebook.specs.History.{closes, latest, lastFor}
-use Rattle.rulebook.specs.Examples.{two, in-two, zeros}
+use Rattle.rulebook.specs.Examples.{one, two, in-two, zeros}
 use Rattle.rulebook.specs.LayoutExamples.{places}
 use Rattle.rulebook.specs.LayoutLaws.{InWindow}
 use Rattle.rulebook.specs.IndexLaws.{row-run}
@@ -133,6 +133,46 @@ stored-rows = record {
   before = λ w m x y. row-out two vesting 48 w m (λ i j hi hj e. omega (arith, e, row-run two Vesting 1 9498 i j hj));
   between = λ w m x y. row-out two vesting 48 w m (λ i j hi hj e. omega (arith, e, row-run two Vesting 1 9498 i j hj));
   otherSlot = λ w m x y. row-out two dayBefore 48 w m (λ i j hi hj e. omega (arith, e, row-run two Vesting 1 9497 i j hj));
+}
+
+-- ---- Computed, over words that are all 9: what still is 9 was not written
+
+abbrev nines : ℕ → List ℤ
+nines n = replicate n (pos 9)
+
+-- account 1's row of 9,497, in its first n intervals
+abbrev ofFirst : Section → ℕ → ℕ → List ℤ → List ℤ
+ofFirst s count n w = rowStored two (row s 1 9497 count 192) n w
+
+-- N = 1, an NCC row of 9,497
+abbrev loads : List ℤ
+loads = rowStored one (row Ncc 0 9497 0 48) 48 (nines 1416)
+
+pub record OverNines : Type 0 where
+  -- one tranche: the flag, two pairs, two pairs of zeros; the same in the next interval
+  pub firstInterval : wordsFrom 107 11 (ofFirst Vesting 1 2 (nines 200)) ≡ pos 9 ∷ pos 2 ∷ pos 100 ∷ pos 101 ∷ pos 102 ∷ pos 103 ∷ replicate 4 (pos 0) ++ (pos 9 ∷ [])
+  pub nextInterval : wordsFrom 159 11 (ofFirst Vesting 1 2 (nines 200)) ≡ pos 9 ∷ pos 2 ∷ pos 104 ∷ pos 105 ∷ pos 106 ∷ pos 107 ∷ replicate 4 (pos 0) ++ (pos 9 ∷ [])
+  -- three tranches, then none: the flag is 1, and the three pairs are zero
+  pub threeTranches : wordsFrom 108 4 (ofFirst Vesting 3 1 (nines 200)) ≡ pos 4 ∷ pos 100 ∷ pos 101 ∷ pos 102 ∷ []
+  pub revisedToNone : wordsFrom 107 11 (ofFirst Vesting 0 1 (ofFirst Vesting 3 1 (nines 200))) ≡ pos 9 ∷ pos 1 ∷ pos 100 ∷ pos 101 ∷ replicate 6 (pos 0) ++ (pos 9 ∷ [])
+  pub facility : wordsFrom 116 11 (ofFirst Meter 1 1 (nines 200)) ≡ pos 9 ∷ pos 1 ∷ pos 100 ∷ pos 101 ∷ replicate 6 (pos 0) ++ (pos 9 ∷ [])
+  pub residualThere : wordsFrom 125 7 (ofFirst Residual 0 1 (nines 200)) ≡ pos 9 ∷ pos 1 ∷ pos 100 ∷ pos 101 ∷ pos 102 ∷ pos 103 ∷ pos 9 ∷ []
+  -- day 9,498's slot, and not the first
+  pub slots : (word (rowStored two vesting 1 (nines 2700)) 2604 ≡ pos 3) × (word (rowStored two vesting 1 (nines 2700)) 108 ≡ pos 9)
+  -- the load of intervals 0, 20 and 47
+  pub eachInterval : (word loads 72 ≡ pos 100) × (word loads 632 ≡ pos 120) × (word loads 1388 ≡ pos 147)
+
+pub over-nines : OverNines
+unfolding tabulate entry figureOf numberOf base ring intervalSize slot intervalWord rowWord rowStored entryStored
+over-nines = record {
+  firstInterval = refl;
+  nextInterval = refl;
+  threeTranches = refl;
+  revisedToNone = refl;
+  facility = refl;
+  residualThere = refl;
+  slots = (refl, refl);
+  eachInterval = (refl, refl, refl);
 }
 
 -- ---- A submission, from its bytes

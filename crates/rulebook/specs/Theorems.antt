@@ -48,7 +48,7 @@ use Rattle.rulebook.specs.DataExamples.{BookRead, book-read, RowsRead, r
 use Rattle.rulebook.specs.NumberExamples.{Returned, returned, Table, table, Refusals, refusals, ThreeAccounts, three-accounts}
 use Rattle.rulebook.specs.InputExamples.{CallsTold, calls-told}
 use Rattle.rulebook.specs.CallExamples.{Openings, openings, LentBooks, lent-books}
-use Rattle.rulebook.specs.SubmitExamples.{StoredRows, stored-rows, SubmittedFile, submitted-file}
+use Rattle.rulebook.specs.SubmitExamples.{StoredRows, stored-rows, OverNines, over-nines, SubmittedFile, submitted-file}
 use Rattle.rulebook.specs.HistoryExamples.{Closes, closes-told, NewBooks, new-books}
 use Rattle.rulebook.specs.SearchExamples.{SearchedFlags, searched-flags}
 use Rattle.rulebook.specs.SharesLaws.{ShareTotal, share-total, RuleShare, share-rule}
@@ -175,6 +175,7 @@ pub record Theorems : Type 0 where
   pub lentBooks : LentBooks
   -- what a row, and a file, leaves in the book's words, by index
   pub storedRows : StoredRows
+  pub overNines : OverNines
   pub submittedFile : SubmittedFile
   -- closes after short histories
   pub closes : Closes
@@ -244,6 +245,7 @@ theorems = record {
   openings = openings;
   lentBooks = lent-books;
   storedRows = stored-rows;
+  overNines = over-nines;
   submittedFile = submitted-file;
   closes = closes-told;
   newBooks = new-books;
