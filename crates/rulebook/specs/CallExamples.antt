@@ -1,21 +1,23 @@
 -- Document 01, "Numbers returned, with examples": openings, and closes and submissions of books. Assumes nothing.
 use mathlib.Core.Path.{_≡_, refl, sym, ap, _∙_, subst}
 use mathlib.Core.Bool.{Bool, true, false}
-use mathlib.Core.List.{List}
+use mathlib.Core.List.{List, []}
 use Prim.Native.Nat.{ℕ, _+_, _*_, _≤_, _<_}
 use native.Mathlib.Omega.{arith}
 use borrow.Author.Tests.{lt-ltb, le-ltb}
 use lib.Dec.{T}
 use lib.IntN.{ℤ, pos, natAbs}
-use lib.ListN.{length}
+use lib.ListN.{length, set}
+use lib.Seq.{getD-set-same, getD-set-other}
 use Rattle.integer.specs.Below.{tabulate, turns}
 use Rattle.integer.specs.Words.{word}
 use Rattle.rulebook.specs.declared.Terms.{Terms}
-use Rattle.rulebook.specs.Units.{lastDay}
+use Rattle.rulebook.specs.Units.{lastDay, positive}
 use Rattle.rulebook.specs.Terms.{termsFit}
 use Rattle.rulebook.specs.BookData.{termsOf, nextDay}
 use Rattle.rulebook.specs.WellFormed.{headerFits, fits, wellFormed}
-use Rattle.rulebook.specs.Opening.{opened}
+use Rattle.rulebook.specs.Layout.{size}
+use Rattle.rulebook.specs.Opening.{newBook, opened}
 use Rattle.rulebook.specs.File.{num, rowPos, sectionEnd, sectionRows, fileRows}
 use Rattle.rulebook.specs.Judging.{upTo, judgedSection, judged}
 use Rattle.rulebook.specs.Submit.{rowsStored, submitted}
@@ -25,7 +27,8 @@ use Rattle.rulebook.specs.Examples.{two, in-two, zeros}
 use Rattle.rulebook.specs.LayoutExamples.{places}
 use Rattle.rulebook.specs.TestLaws.{T-path}
 use Rattle.rulebook.specs.FormedBookLaws.{formed-book}
-use Rattle.rulebook.specs.StartLaws.{opening-told}
+use Rattle.rulebook.specs.StateLaws.{formed}
+use Rattle.rulebook.specs.StartLaws.{new-state, opening-told}
 
 -- ---- Openings
 
@@ -76,6 +79,8 @@ pub record LentBooks : Type 0 where
   pub closeSpare : (w statement : List ℤ) → word w 71 ≡ pos 1 → ofClose (closed w statement .answer) ≡ numbered 3 0
   pub secondSpare : (w statement : List ℤ) → termsOf w .accounts ≡ 2 → word w 79 ≡ pos 1 → ofClose (closed w statement .answer) ≡ numbered 3 0
   pub lastSpare : (w statement : List ℤ) → termsOf w .accounts ≡ 32 → word w 319 ≡ pos 1 → ofClose (closed w statement .answer) ≡ numbered 3 0
+  -- a new book of two accounts, and the same but for its word 79
+  pub eighthWord : (lent : List ℤ) → 5072 ≤ length lent → (wellFormed (newBook two lent) ≡ true) × (wellFormed (set (newBook two lent) 79 (pos 1)) ≡ false)
   -- a finished book, whatever the statement
   pub finished : (w statement : List ℤ) → T (wellFormed w) → nextDay w ≡ 36525 → ofClose (closed w statement .answer) ≡ numbered 9 0
   -- N + 1 words are needed
@@ -97,6 +102,14 @@ spare-used w a h e = go (wellFormed w) refl
         absurd (omega (arith, ap natAbs (sym e ∙ formed-book w t .spares a 7 (h t) (omega arith) (omega arith))))
     go false x = refl
 
+eighth-word : (lent : List ℤ) → size two ≤ length lent → (wellFormed (newBook two lent) ≡ true) × (wellFormed (set (newBook two lent) 79 (pos 1)) ≡ false)
+eighth-word lent l =
+    let h = new-state two in-two lent l in
+    let n : termsOf (set (newBook two lent) 79 (pos 1)) .accounts ≡ 2 = ap positive (getD-set-other (newBook two lent) 79 1 (pos 1) (pos 0) (omega arith) ∙ h .holds .accounts) in (
+      formed two in-two [] (newBook two lent) h,
+      spare-used (set (newBook two lent) 79 (pos 1)) 1 (λ t. omega arith) (getD-set-same (newBook two lent) 79 (pos 1) (pos 0) (omega (arith, h .holds .long, places .sizeTwo))),
+    )
+
 pub lent-books : LentBooks
 unfolding submitted closed
 lent-books = record {
@@ -106,6 +119,7 @@ lent-books = record {
   closeSpare = λ w statement e. rw (spare-used w 0 (λ t. formed-book w t .terms .accountsFrom) e) refl;
   secondSpare = λ w statement n e. rw (spare-used w 1 (λ t. omega arith) e) refl;
   lastSpare = λ w statement n e. rw (spare-used w 31 (λ t. omega arith) e) refl;
+  eighthWord = λ lent l. eighth-word lent (omega (arith, places .sizeTwo));
   finished = λ w statement t e. rw (T-path (wellFormed w) t, e) refl;
   noRoom = λ w statement t left short. rw (T-path (wellFormed w) t, le-ltb lastDay (nextDay w) left, lt-ltb (length statement) (termsOf w .accounts + 1) (omega arith)) refl;
   eightZeros = λ w t. unfold judged judgedSection upTo num rowPos sectionEnd turns fileRows sectionRows tabulate rowsStored in rw (T-path (wellFormed w) t) (refl, refl);
