@@ -80,7 +80,8 @@ pub record LentBooks : Type 0 where
   pub secondSpare : (w statement : List ℤ) → termsOf w .accounts ≡ 2 → word w 79 ≡ pos 1 → ofClose (closed w statement .answer) ≡ numbered 3 0
   pub lastSpare : (w statement : List ℤ) → termsOf w .accounts ≡ 32 → word w 319 ≡ pos 1 → ofClose (closed w statement .answer) ≡ numbered 3 0
   -- a new book of two accounts, and the same but for its word 79
-  pub eighthWord : (lent : List ℤ) → 5072 ≤ length lent → (wellFormed (newBook two lent) ≡ true) × (wellFormed (set (newBook two lent) 79 (pos 1)) ≡ false)
+  pub eighthWord : (lent : List ℤ) → 5072 ≤ length lent
+      → (wellFormed (newBook two lent) ≡ true) × (wellFormed (set (newBook two lent) 79 (pos 1)) ≡ false)
   -- a finished book, whatever the statement
   pub finished : (w statement : List ℤ) → T (wellFormed w) → nextDay w ≡ 36525 → ofClose (closed w statement .answer) ≡ numbered 9 0
   -- N + 1 words are needed
@@ -102,13 +103,14 @@ spare-used w a h e = go (wellFormed w) refl
         absurd (omega (arith, ap natAbs (sym e ∙ formed-book w t .spares a 7 (h t) (omega arith) (omega arith))))
     go false x = refl
 
-eighth-word : (lent : List ℤ) → size two ≤ length lent → (wellFormed (newBook two lent) ≡ true) × (wellFormed (set (newBook two lent) 79 (pos 1)) ≡ false)
+eighth-word : (lent : List ℤ) → size two ≤ length lent
+    → (wellFormed (newBook two lent) ≡ true) × (wellFormed (set (newBook two lent) 79 (pos 1)) ≡ false)
 eighth-word lent l =
     let h = new-state two in-two lent l in
-    let n : termsOf (set (newBook two lent) 79 (pos 1)) .accounts ≡ 2 = ap positive (getD-set-other (newBook two lent) 79 1 (pos 1) (pos 0) (omega arith) ∙ h .holds .accounts) in (
-      formed two in-two [] (newBook two lent) h,
-      spare-used (set (newBook two lent) 79 (pos 1)) 1 (λ t. omega arith) (getD-set-same (newBook two lent) 79 (pos 1) (pos 0) (omega (arith, h .holds .long, places .sizeTwo))),
-    )
+    let book : List ℤ = newBook two lent in
+    let n : termsOf (set book 79 (pos 1)) .accounts ≡ 2 = ap positive (getD-set-other book 79 1 (pos 1) (pos 0) (omega arith) ∙ h .holds .accounts) in
+    let e : word (set book 79 (pos 1)) 79 ≡ pos 1 = getD-set-same book 79 (pos 1) (pos 0) (omega (arith, h .holds .long, places .sizeTwo)) in
+    (formed two in-two [] book h, spare-used (set book 79 (pos 1)) 1 (λ t. omega arith) e)
 
 pub lent-books : LentBooks
 unfolding submitted closed

@@ -96,7 +96,8 @@ pub record Closes : Type 0 where
   pub acceptedAgain : closeTold one (taken (residualFile 0) ∷ taken (nccFile 0) ∷ taken (bothFile 0 second) ∷ closedDay 9497 0 ∷ []) (words 2)
       ≡ record { number = 0; position = 0; day = 9498; count = 48 }
   -- the same of two accounts: 96, each account's residual row being there
-  pub acceptedTwo : closeTold two (taken (residualFile 1) ∷ taken (residualFile 0) ∷ bothReady) (words 3) ≡ record { number = 0; position = 0; day = 9498; count = 96 }
+  pub acceptedTwo : closeTold two (taken (residualFile 1) ∷ taken (residualFile 0) ∷ bothReady) (words 3)
+      ≡ record { number = 0; position = 0; day = 9498; count = 96 }
   pub secondLacks : closeTold two (taken (residualFile 0) ∷ bothReady) (words 3) ≡ numbered 11 126
   -- of a book's words too, whatever they are
   pub counts : (w : List ℤ) → (residualCount two w 9497 ≡ 0) × (residualCount two w 9498 ≡ 96)

@@ -69,14 +69,18 @@ leaves r at words = (w : List ℤ) → 5072 ≤ length w → wordsFrom at (lengt
 abbrev keeps : Row → ℕ → ℕ → Type 0
 keeps r from to = (w : List ℤ) (m : ℕ) → from ≤ m → m < to → word (rowStored two r 48 w) m ≡ word w m
 
+-- two tranches, then none
+abbrev bothStored : List ℤ → List ℤ
+bothStored w = rowsStored two (vesting ∷ fewer ∷ []) w
+
 pub record StoredRows : Type 0 where
   -- 1 + two tranches, six figures, the third pair zero
   pub vestingFirst : leaves vesting 2604 (pos 3 ∷ pos 100 ∷ pos 101 ∷ pos 102 ∷ pos 103 ∷ pos 104 ∷ pos 105 ∷ pos 0 ∷ pos 0 ∷ [])
   pub vestingMiddle : leaves vesting 3644 (pos 3 ∷ pos 220 ∷ pos 221 ∷ pos 222 ∷ pos 223 ∷ pos 224 ∷ pos 225 ∷ pos 0 ∷ pos 0 ∷ [])
   pub vestingLast : leaves vesting 5048 (pos 3 ∷ pos 382 ∷ pos 383 ∷ pos 384 ∷ pos 385 ∷ pos 386 ∷ pos 387 ∷ pos 0 ∷ pos 0 ∷ [])
   -- a revision without tranches: the flag is rewritten, the pairs that it does not use are zero
-  pub revised : (w : List ℤ) → 5072 ≤ length w → wordsFrom 2604 9 (rowsStored two (vesting ∷ fewer ∷ []) w) ≡ pos 1 ∷ pos 100 ∷ pos 101 ∷ replicate 6 (pos 0)
-  pub revisedLast : (w : List ℤ) → 5072 ≤ length w → wordsFrom 5048 9 (rowsStored two (vesting ∷ fewer ∷ []) w) ≡ pos 1 ∷ pos 194 ∷ pos 195 ∷ replicate 6 (pos 0)
+  pub revised : (w : List ℤ) → 5072 ≤ length w → wordsFrom 2604 9 (bothStored w) ≡ pos 1 ∷ pos 100 ∷ pos 101 ∷ replicate 6 (pos 0)
+  pub revisedLast : (w : List ℤ) → 5072 ≤ length w → wordsFrom 5048 9 (bothStored w) ≡ pos 1 ∷ pos 194 ∷ pos 195 ∷ replicate 6 (pos 0)
   -- one facility
   pub meterFirst : leaves meter 2613 (pos 1 ∷ pos 100 ∷ pos 101 ∷ replicate 6 (pos 0))
   pub meterMiddle : leaves meter 3653 (pos 1 ∷ pos 140 ∷ pos 141 ∷ replicate 6 (pos 0))
@@ -99,18 +103,22 @@ pub record StoredRows : Type 0 where
 -- ---- By the laws of a stored row
 
 words-of : (at n : ℕ) (w : List ℤ) (f : ℕ → ℤ) → ((j : ℕ) → j < n → word w (at + j) ≡ f j) → wordsFrom at n w ≡ tabulate n f
-words-of at n w f h = tabulate-of (pos 0) (wordsFrom at n w) n f (length-tabulate n (λ j. word w (at + j))) (λ j hj. getD-tabulate n (λ j. word w (at + j)) j (pos 0) hj ∙ h j hj)
+words-of at n w f h = tabulate-of (pos 0) (wordsFrom at n w) n f (length-tabulate n (λ j. word w (at + j)))
+    (λ j hj. getD-tabulate n (λ j. word w (at + j)) j (pos 0) hj ∙ h j hj)
 
 some-slot : 0 < ring two
 unfolding ring
 some-slot = omega arith
 
 -- the row's words at interval i, which start at `at`
-leaves-row : (r : Row) (i at : ℕ) → r .account < accountsOf (r .section) 2 → i < 48 → rowWord two (r .section) (r .account) (r .day) i 0 ≡ at → (w : List ℤ) → 5072 ≤ length w
-    → wordsFrom at (width (r .section)) (rowStored two r 48 w) ≡ tabulate (width (r .section)) (entry r i)
+leaves-row : (r : Row) (i at : ℕ) → r .account < accountsOf (r .section) 2 → i < 48 → rowWord two (r .section) (r .account) (r .day) i 0 ≡ at
+    → (w : List ℤ) → 5072 ≤ length w → wordsFrom at (width (r .section)) (rowStored two r 48 w) ≡ tabulate (width (r .section)) (entry r i)
 leaves-row r i at ha hi e w l = words-of at (width (r .section)) (rowStored two r 48 w) (entry r i) (λ j hj.
     ap (word (rowStored two r 48 w)) (omega (arith, e, row-run two (r .section) (r .account) (r .day) i j hj))
     ∙ row-in two r some-slot ha 48 w (omega arith) (omega (arith, places .sizeTwo)) i j hi hj)
+
+still-long : (w : List ℤ) → 5072 ≤ length w → 5072 ≤ length (rowStored two vesting 48 w)
+still-long w l = omega (arith, length-rowStored two vesting 48 w)
 
 pub stored-rows : StoredRows
 unfolding tabulate entry figureOf numberOf base ring intervalSize slot intervalWord rowWord rowsStored
@@ -118,8 +126,8 @@ stored-rows = record {
   vestingFirst = leaves-row vesting 0 2604 (omega arith) (omega arith) refl;
   vestingMiddle = leaves-row vesting 20 3644 (omega arith) (omega arith) refl;
   vestingLast = leaves-row vesting 47 5048 (omega arith) (omega arith) refl;
-  revised = λ w l. leaves-row fewer 0 2604 (omega arith) (omega arith) refl (rowStored two vesting 48 w) (omega (arith, length-rowStored two vesting 48 w));
-  revisedLast = λ w l. leaves-row fewer 47 5048 (omega arith) (omega arith) refl (rowStored two vesting 48 w) (omega (arith, length-rowStored two vesting 48 w));
+  revised = λ w l. leaves-row fewer 0 2604 (omega arith) (omega arith) refl (rowStored two vesting 48 w) (still-long w l);
+  revisedLast = λ w l. leaves-row fewer 47 5048 (omega arith) (omega arith) refl (rowStored two vesting 48 w) (still-long w l);
   meterFirst = leaves-row meter 0 2613 (omega arith) (omega arith) refl;
   meterMiddle = leaves-row meter 20 3653 (omega arith) (omega arith) refl;
   meterLast = leaves-row meter 47 5057 (omega arith) (omega arith) refl;
@@ -150,11 +158,14 @@ loads = rowStored one (row Ncc 0 9497 0 48) 48 (nines 1416)
 
 pub record OverNines : Type 0 where
   -- one tranche: the flag, two pairs, two pairs of zeros; the same in the next interval
-  pub firstInterval : wordsFrom 107 11 (ofFirst Vesting 1 2 (nines 200)) ≡ pos 9 ∷ pos 2 ∷ pos 100 ∷ pos 101 ∷ pos 102 ∷ pos 103 ∷ replicate 4 (pos 0) ++ (pos 9 ∷ [])
-  pub nextInterval : wordsFrom 159 11 (ofFirst Vesting 1 2 (nines 200)) ≡ pos 9 ∷ pos 2 ∷ pos 104 ∷ pos 105 ∷ pos 106 ∷ pos 107 ∷ replicate 4 (pos 0) ++ (pos 9 ∷ [])
+  pub firstInterval : wordsFrom 107 11 (ofFirst Vesting 1 2 (nines 200))
+      ≡ pos 9 ∷ pos 2 ∷ pos 100 ∷ pos 101 ∷ pos 102 ∷ pos 103 ∷ replicate 4 (pos 0) ++ (pos 9 ∷ [])
+  pub nextInterval : wordsFrom 159 11 (ofFirst Vesting 1 2 (nines 200))
+      ≡ pos 9 ∷ pos 2 ∷ pos 104 ∷ pos 105 ∷ pos 106 ∷ pos 107 ∷ replicate 4 (pos 0) ++ (pos 9 ∷ [])
   -- three tranches, then none: the flag is 1, and the three pairs are zero
   pub threeTranches : wordsFrom 108 4 (ofFirst Vesting 3 1 (nines 200)) ≡ pos 4 ∷ pos 100 ∷ pos 101 ∷ pos 102 ∷ []
-  pub revisedToNone : wordsFrom 107 11 (ofFirst Vesting 0 1 (ofFirst Vesting 3 1 (nines 200))) ≡ pos 9 ∷ pos 1 ∷ pos 100 ∷ pos 101 ∷ replicate 6 (pos 0) ++ (pos 9 ∷ [])
+  pub revisedToNone : wordsFrom 107 11 (ofFirst Vesting 0 1 (ofFirst Vesting 3 1 (nines 200)))
+      ≡ pos 9 ∷ pos 1 ∷ pos 100 ∷ pos 101 ∷ replicate 6 (pos 0) ++ (pos 9 ∷ [])
   pub facility : wordsFrom 116 11 (ofFirst Meter 1 1 (nines 200)) ≡ pos 9 ∷ pos 1 ∷ pos 100 ∷ pos 101 ∷ replicate 6 (pos 0) ++ (pos 9 ∷ [])
   pub residualThere : wordsFrom 125 7 (ofFirst Residual 0 1 (nines 200)) ≡ pos 9 ∷ pos 1 ∷ pos 100 ∷ pos 101 ∷ pos 102 ∷ pos 103 ∷ pos 9 ∷ []
   -- day 9,498's slot, and not the first
@@ -177,9 +188,16 @@ over-nines = record {
 
 -- ---- A submission, from its bytes
 
--- a vesting row of account 1, day 9,497, no tranches: BVQ 7 in interval 0, 9 in interval 47; an NCC row of that day: loads 5, 6 and 7 in intervals 0, 20, 47
+-- a vesting row of account 1, day 9,497, no tranches: BVQ 7 in interval 0, 9 in interval 47
+abbrev vestingBytes : List ℕ
+vestingBytes = 1 ∷ 0x19 ∷ 0x25 ∷ 0 ∷ 7 ∷ zeros 375 ++ (9 ∷ zeros 7)
+
+-- an NCC row of that day: loads 5, 6 and 7 in intervals 0, 20 and 47
+abbrev nccBytes : List ℕ
+nccBytes = 0x19 ∷ 0x25 ∷ 5 ∷ zeros 79 ++ (6 ∷ zeros 107 ++ (7 ∷ zeros 3))
+
 abbrev file : List ℕ
-file = 1 ∷ 0 ∷ 1 ∷ 0x19 ∷ 0x25 ∷ 0 ∷ 7 ∷ zeros 375 ++ (9 ∷ zeros 7 ++ (zeros 4 ++ (1 ∷ 0 ∷ 0x19 ∷ 0x25 ∷ 5 ∷ zeros 79 ++ (6 ∷ zeros 107 ++ (7 ∷ zeros 3)))))
+file = 1 ∷ 0 ∷ vestingBytes ++ (zeros 4 ++ (1 ∷ 0 ∷ nccBytes))
 
 -- a well-formed book with N = 2, L = H = 1, F = 9,497 of which no day is closed
 pub record Begun (w : List ℤ) : Type 0 where
@@ -220,7 +238,8 @@ module _ (w : List ℤ) (b : Begun w) (s : Section) (a i : ℕ) (ha : a < accoun
       (submitted-rows w file (b .formed) (begun-as b (λ o C. judged (limitsOf o C) file ≡ Accepted) file-accepted) s a 9497 i j
       (begun-as b (λ o C. InWindow o (C - o .first) 9497) (omega arith)) (begun-as b (λ o C. a < accountsOf s (o .accounts)) ha) hi hj)
 
-  after-words : (at : ℕ) → rowWord two s a 9497 i 0 ≡ at → wordsFrom at (width s) (after w) ≡ tabulate (width s) (over (lastFor (fileRows file) s a 9497) (entriesOf two w s a 9497) i)
+  after-words : (at : ℕ) → rowWord two s a 9497 i 0 ≡ at
+      → wordsFrom at (width s) (after w) ≡ tabulate (width s) (over (lastFor (fileRows file) s a 9497) (entriesOf two w s a 9497) i)
   after-words at e = words-of at (width s) (after w) (over (lastFor (fileRows file) s a 9497) (entriesOf two w s a 9497) i)
       (λ j hj. ap (word (after w)) (omega (arith, e, row-run two s a 9497 i j hj)) ∙ after-word j hj)
 

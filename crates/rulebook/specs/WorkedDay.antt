@@ -1,24 +1,24 @@
--- One close worked by hand: two accounts, D = 9,498, r = 9,497, L = 1. Assumes nothing.
+-- One close worked by hand: two accounts, D = 9,498, r = 9,497, L = 1. Each product is a price less V, times kWh. Assumes nothing.
 --
 -- The residual day r
 --   interval 0: load 600. Account 0: BVQ 100, tenders 50, 0 and 40, V 10000. Account 1: BVQ 200, V 103 (101 and 104 without weight, 102.5).
 --     R = 600 − 190 − 200 = 210, UEGQ 300 and 100, S = 400: shares 157.5 and 52.5, rounded down 157 and 52.
 --     Account 0: MQ 180 leaves 80 for tranche 1, 77 go to tranche 2: −1000 × 80 − 2000 × 77 = −234,000 thousandths.
 --     Account 1: MQ 400 leaves 200, all 52 go to tranche 1: −83 × 52 = −4,316.
---   interval 20: load 1000. R = 1000 − 460 − 15 = 525 is above S = 65: shares 40 and 25, in full.
---     Account 0: V 9500, tranches 30 and 10: 100 × 30 − 200 × 10 = 1,000. Account 1: V 700 (an IEQ below zero has no weight),
---     tranches 10 and 15: −50 × 10 + 20 × 15 = −200.
+--   interval 20: load 1000. Account 0: BVQ 460. Account 1: a tender of 15. R = 1000 − 460 − 15 = 525 is above S = 40 + 25: shares 40 and 25, in full.
+--     Account 0: V 9500, MQ 490 leaves 30: tranches 30 and 10, 100 × 30 − 200 × 10 = 1,000.
+--     Account 1: V 700 (an IEQ below zero has no weight), MQ 10: tranches 10 and 15, −50 × 10 + 20 × 15 = −200.
 --   interval 47: load 58. Account 0: BVQ 30. Account 1: no base contract, a tender of 8.
---     R = 58 − 30 − 8 = 20, S = 80: shares 15 and 5 (21 and 7 if the tender were left out of R).
---     Account 0: V 9000, tranches 10 and 5: 60 × 10 − 500 × 5 = −1,900. Account 1: V 50, MQ 0, all 5 go to tranche 2: −17 × 5 = −85.
+--     R = 58 − 30 − 8 = 20, UEGQ 60 and 20, S = 80: shares 15 and 5 (21 and 7 if the tender were left out of R).
+--     Account 0: V 9000, MQ 40 leaves 10: tranches 10 and 5, 60 × 10 − 500 × 5 = −1,900. Account 1: V 50, MQ 0, all 5 go to tranche 2: −17 × 5 = −85.
 -- The closing day D
 --   interval 0. Account 0: V of four facilities 80012 / 8 = 10001.5, so 10002:
 --     4998 × 1400 − 1002 × 10 − 502 × 20 + 6009 × 30 = 7,157,410. Account 1: V −104, 85 × 7 = 595.
 --   interval 20. Account 1: V 0, −247 × 2 = −494.
 --   interval 47. Account 0: V 10001, 990 × 1. Account 1: V −205 / 2 = −102.5, so −103: 1 × 3000.
--- Account 0: 7,157,410 + 990 − 234,000 + 1,000 − 1,900 = 6,923,500 thousandths, just half: 6924 cents. One rounding of all together: its base contract
---   alone is 6,997,200 + 990 = 6,998,190, its tenders −10,020 − 10,040 + 180,270 = 160,210, its residual −234,900, and rounded apart these would be
---   6998 + 160 − 235 = 6923; so would any two of them together and the third apart (7158 − 235, 6998 − 75, 6763 + 160).
+-- Account 0: 7,157,410 + 990 − 234,000 + 1,000 − 1,900 = 6,923,500 thousandths, just half: 6924 cents.
+--   All is rounded once. Apart, base contract 6,998,190, tenders 160,210 and residual −234,900 would give 6998 + 160 − 235 = 6923, and any two of them
+--   together with the third apart 6923 too: 7158 − 235, 6998 − 75, 6763 + 160.
 -- Account 1: 595 − 494 + 3,000 − 4,316 − 200 − 85 = −1,500, just half: −2 cents. The MSSL: −6922.
 use mathlib.Core.Path.{_≡_, refl}
 use mathlib.Core.Bool.{cond}
