@@ -68,7 +68,7 @@ abbrev refused : List ℕ → Event
 refused file = record { call = submit file; answer = numbered 8 0 }
 
 abbrev closedDay : ℕ → ℕ → Event
-closedDay day count = record { call = close (words 2); answer = record { number = 0; position = 0; day = day; count = count } }
+closedDay day count = record { call = close (words 3); answer = record { number = 0; position = 0; day = day; count = count } }
 
 -- two accounts: the first day closed, the second day's own rows, the load of the first
 abbrev bothReady : List Event
