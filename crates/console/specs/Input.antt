@@ -30,6 +30,10 @@ submitCommand = 83
 abbrev pub longestFile : ℕ
 longestFile = 16384
 
+-- the longest item: the command, a length and a file
+abbrev pub longestItem : ℕ
+longestItem = 3 + longestFile
+
 -- what two bytes after the command say
 abbrev pub fileLength : List ℕ → ℕ
 fileLength s = num 2 s 1

@@ -62,3 +62,9 @@ closeLine a amounts = cond (eqb (a .number) accepted) (closedLine (a .day) (a .c
 -- the first position of an item that is cut short, over-long or unknown
 unfoldable pub badLine : ℕ → List ℕ
 badLine position = lineOf badWord (decimal position ∷ [])
+
+-- ---- Room
+
+-- bytes enough for every line: 5 of a word, three numbers and 33 amounts of at most 21 with their space, and a line feed
+abbrev pub lineRoom : ℕ
+lineRoom = 1024

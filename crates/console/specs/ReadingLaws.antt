@@ -124,6 +124,16 @@ module _ (s : List ℕ) where
   pub item-read : itemOf (itemBytes s) ≡ itemOf s
   item-read = rw bytes-wanted (item-take s (wanted s) (omega (arith, wanted-least s)) (omega arith))
 
+  pub wanted-read : wanted (itemBytes s) ≡ wanted s
+  wanted-read =
+      rw bytes-wanted
+      (⊎-elim
+      (λ (k : eqb (getD s 0 0) submitCommand ≡ true). wanted-take s (wanted s) (wanted-submit s (eqb-true (getD s 0 0) submitCommand k)))
+      (λ (k : eqb (getD s 0 0) submitCommand ≡ false).
+      let c : getD s 0 0 ≡ submitCommand → ⊥ = eqb-false (getD s 0 0) submitCommand k in
+      wanted-command (take (wanted s) s) (λ e. c (sym (take-command s (wanted s) (omega (arith, wanted-least s))) ∙ e)) ∙ sym (wanted-command s c))
+      (either (eqb (getD s 0 0) submitCommand)))
+
   -- an item that is whole has all the bytes that it wants
   pub close-whole : itemOf s ≡ Close → length (itemBytes s) ≡ wanted s
   close-whole e = rw bytes-wanted (length-take-le (wanted s) s (omega (arith, close-wanted s e)))

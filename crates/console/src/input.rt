@@ -1,10 +1,10 @@
 // Document 01, "Program `settle`": its input, told from the bytes at hand.
 use rulebook::Terms;
 ghost use mathlib.Core.Path.{_≡_};
-ghost use Prim.Native.Nat.{_+_, _≤_, _<_};
-ghost use lib.ListN.{length};
+ghost use Prim.Native.Nat.{_+_, _≤_, _<_, max};
+ghost use lib.ListN.{length, take};
 ghost use Rattle.rulebook.specs.File.{num};
-ghost use Rattle.console.specs.Input.{openingBytes, openingTerms, fileWhole, itemOf, wanted as Input·wanted};
+ghost use Rattle.console.specs.Input.{openingBytes, openingTerms, longestItem, fileWhole, itemOf, wanted as Input·wanted};
 
 pub const OPENING: usize = 5;
 
@@ -13,6 +13,8 @@ pub const CLOSE: u8 = 0x43;
 pub const SUBMIT: u8 = 0x53;
 
 pub const LONGEST_FILE: usize = 16384;
+
+pub const LONGEST_ITEM: usize = 3 + LONGEST_FILE;
 
 // What the rest of the input begins with: a close, a submission with its file's length, an item that is cut short, over-long or unknown, with
 // its place in the rest, or nothing.
@@ -84,7 +86,7 @@ pub fn item_of(s: &[u8]) -> Item
 
 // How many bytes to have before the item can be told: one, with a submission's length three, with its file all.
 pub fn wanted(s: &[u8]) -> usize
-    ensures { λ r. ⌜ (r ≡ Input·wanted (now (s .entry))) × (r ≤ 16387) ⌝ }
+    ensures { λ r. ⌜ (r ≡ Input·wanted (now (s .entry))) × (r ≤ longestItem) ⌝ }
 {
     if s.len() == 0 {
         return 1;
@@ -100,4 +102,17 @@ pub fn wanted(s: &[u8]) -> usize
         return 3;
     }
     3 + n
+}
+
+// Where the next read ends: at the bytes wanted, and not before the `got` at hand.
+pub fn read_to(bytes: &[u8], got: usize) -> usize
+    requires { ⌜ got ≤ length (now bytes) ⌝ }
+    ensures { λ r. ⌜ r ≡ max got (Input·wanted (take got (now (bytes .entry)))) ⌝ }
+    ensures { λ r. ⌜ (got ≤ r) × (r ≤ max got longestItem) ⌝ }
+{
+    let end = wanted(&bytes[..got]);
+    if end < got {
+        return got;
+    }
+    end
 }

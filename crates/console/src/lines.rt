@@ -15,6 +15,9 @@ ghost use Rattle.console.specs.Decimal.{decimal, signedDecimal};
 ghost use Rattle.console.specs.Lines.{space, spaced, lineOf, openLine, submitLine, closedLine, closeLine, badLine};
 ghost use Rattle.console.specs.Written.{Put};
 
+// Bytes enough for every line.
+pub const LINE_ROOM: usize = 1024;
+
 // A text.
 fn put_text(line: &mut [u8], at: usize, text: &[u8]) -> usize
     requires { ⌜ at + length (now text) ≤ length (now line) ⌝ }

@@ -62,18 +62,18 @@ opens : opened one newWords ≡ record { answer = Opened; words = newBook one ne
 unfolding opened termsFit
 opens = rw (le-ltb (length newWords) (size one) (omega (arith, many, small)))
 
-begins : (rest : List ℕ) → beginning newWords (opening rest) ≡ record { line = openText []; book = newBook one newWords; accounts = 1 }
+begins : (rest : List ℕ) → beginning newWords (opening rest) ≡ record { line = openText []; book = newBook one newWords; accounts = 1; position = 5; more = true }
 unfolding beginning openedBy num digitsWithin decimal spaced lineOf answerLine openLine
 begins rest = rw (le-leb 5 (length (opening rest)) (omega arith), opens)
 
 -- ---- The close
 
-closes : turn 1 5 (newBook one newWords) (0x43 ∷ []) ≡ record { line = closeText; book = closed (newBook one newWords) newStatement .words; more = true }
-unfolding turn turnOf itemOf digitsWithin decimal spaced lineOf answerLine closeLine
+closes : turn 1 5 (newBook one newWords) (0x43 ∷ []) ≡ record { line = closeText; book = closed (newBook one newWords) newStatement .words; accounts = 1; position = 6; more = true }
+unfolding turn turnOf itemOf wanted digitsWithin decimal spaced lineOf answerLine closeLine
 closes = rw (new-books .oneAccount newWords newStatement (omega (arith, many)) (omega arith))
 
 -- the end of the input
-ends : (book : List ℤ) → printedFrom 5 1 6 book [] ≡ []
+ends : (book : List ℤ) → printedFrom 5 1 6 book (opening (0x43 ∷ [])) ≡ []
 unfolding printedFrom turn turnOf itemOf
 ends book = refl
 
@@ -84,19 +84,19 @@ closed-after = rw (begins (0x43 ∷ []), closes, ends)
 -- ---- A bad item ends the run
 
 module _ (rest text : List ℕ) where
-  bad-after : turn 1 5 (newBook one newWords) rest ≡ record { line = text; book = newBook one newWords; more = false } → printed (opening rest) ≡ openText text
+  bad-after : (position : ℕ) → turn 1 5 (newBook one newWords) rest ≡ record { line = text; book = newBook one newWords; accounts = 1; position = position; more = false } → printed (opening rest) ≡ openText text
   unfolding printed printedFrom
-  bad-after e = rw (begins rest, e) (ap openText (append-nil text))
+  bad-after position e = rw (begins rest, e) (ap openText (append-nil text))
 
 pub prints : Prints
-unfolding printed beginning openedBy opened termsFit turn turnOf itemOf fileWhole num digitsWithin decimal spaced lineOf answerLine openLine badLine
+unfolding printed beginning openedBy opened termsFit turn turnOf itemOf wanted fileWhole num digitsWithin decimal spaced lineOf answerLine openLine badLine
 prints = record {
   rehearsal = closed-after;
   nothing = refl;
   fourBytes = refl;
   refused = refl;
-  unknown = bad-after (0x00 ∷ 0x43 ∷ []) (badText 53) refl;
-  noLength = bad-after (0x53 ∷ 0x00 ∷ []) (badText 54) refl;
-  noFile = bad-after (0x53 ∷ 0x02 ∷ 0x00 ∷ 0x00 ∷ []) (badText 54) refl;
-  overLong = bad-after (0x53 ∷ 0x01 ∷ 0x40 ∷ []) (badText 54) refl;
+  unknown = bad-after (0x00 ∷ 0x43 ∷ []) (badText 53) 6 refl;
+  noLength = bad-after (0x53 ∷ 0x00 ∷ []) (badText 54) 8 refl;
+  noFile = bad-after (0x53 ∷ 0x02 ∷ 0x00 ∷ 0x00 ∷ []) (badText 54) 10 refl;
+  overLong = bad-after (0x53 ∷ 0x01 ∷ 0x40 ∷ []) (badText 54) 8 refl;
 }

@@ -1,99 +1,75 @@
-// The program `settle` of document 01. What an item of its input is and does, and what is printed for it, is proved in `console`
-// and `interpreter`; here is the reading and the writing.
-use console::input::wanted;
+// The program `settle` of document 01: it reads, hands what it read to the calls of `interpreter`, and writes the line that they made. What an
+// item is and does, where the next one stands and whether there is one, is proved there and in `console`.
+use console::input::LONGEST_ITEM;
+use console::input::OPENING;
+use console::input::read_to;
+use console::lines::LINE_ROOM;
+use interpreter::BOOK_WORDS;
+use interpreter::Turn;
 use interpreter::begin;
 use interpreter::perform;
 use libc::STDIN_FILENO;
 use libc::STDOUT_FILENO;
+ghost use mathlib.Core.Path.{_≡_};
 ghost use Prim.Native.Nat.{_≤_, _<_, _^_};
 ghost use lib.ListN.{length};
+ghost use Rattle.console.specs.Input.{openingBytes, longestItem};
+ghost use Rattle.console.specs.Lines.{lineRoom};
+ghost use Rattle.interpreter.specs.Interpreter.{newWords};
 
 // More positions than any input has: a proved loop has to end.
 const LIMIT: u64 = 9_000_000_000_000_000_000;
 
 // Reads on as far as the bytes at hand tell, and answers how many there are then.
 fn read_on(bytes: &mut [u8], got: usize) -> usize
-    requires { ⌜ (got ≤ 16387) × (16387 ≤ length (now bytes)) ⌝ }
-    ensures { λ r. ⌜ r ≤ 16387 ⌝ }
+    requires { ⌜ (got ≤ longestItem) × (longestItem ≤ length (now bytes)) ⌝ }
+    ensures { λ r. ⌜ r ≤ longestItem ⌝ }
 {
-    let end = wanted(&bytes[..got]);
-    if end <= got {
-        return got;
-    }
+    let end = read_to(bytes, got);
     got + io::read_full(STDIN_FILENO, &mut bytes[got..end])
 }
 
-// Reads an item: the command, a submission's length, its file. Answers how many bytes there are, 0 at the end of the input.
+// Reads an item: the command, a submission's length, its file. Answers how many bytes there are.
 fn read_item(bytes: &mut [u8]) -> usize
-    requires { ⌜ 16387 ≤ length (now bytes) ⌝ }
-    ensures { λ r. ⌜ r ≤ 16387 ⌝ }
+    requires { ⌜ longestItem ≤ length (now bytes) ⌝ }
+    ensures { λ r. ⌜ r ≤ longestItem ⌝ }
 {
     let command = read_on(bytes, 0);
-    if command == 0 {
-        return 0;
-    }
     let length = read_on(bytes, command);
-    if length < 3 {
-        return length;
-    }
     read_on(bytes, length)
 }
 
-// One item. Answers how many bytes it has, 0 where the run ends.
-fn step(
-    book: &mut [i64],
-    accounts: usize,
-    position: u64,
-    bytes: &mut [u8],
-    line: &mut [u8],
-) -> usize
-    requires { ⌜ (accounts ≤ 32) × (position < 2 ^ 63) × (16387 ≤ length (now bytes)) × (1024 ≤ length (now line)) ⌝ }
-    ensures { λ r. ⌜ r ≤ 16387 ⌝ }
+// Writes a line, the first bytes of those lent; false where that fails.
+fn print(line: &[u8], end: usize) -> bool
+    requires { ⌜ end ≤ length (now line) ⌝ }
+{
+    io::write_all(STDOUT_FILENO, &line[..end])
+}
+
+// The next item.
+fn step(book: &mut [i64], turn: Turn, bytes: &mut [u8], line: &mut [u8]) -> Turn
+    requires { ⌜ (turn .accounts ≤ 32) × (turn .position < 2 ^ 63) × (longestItem ≤ length (now bytes)) × (lineRoom ≤ length (now line)) ⌝ }
+    ensures { λ r. ⌜ (r .end ≤ length (now (line .exit))) × (r .accounts ≤ 32) × (turn .position < r .position) ⌝ }
 {
     let got = read_item(bytes);
-    let done = perform(book, accounts, position, &bytes[..got], line);
-    let end = done.end;
-    if !io::write_all(STDOUT_FILENO, &line[..end]) {
-        return 0;
-    }
-    if done.more { got } else { 0 }
+    perform(book, turn, &bytes[..got], line)
 }
 
-// The items after the opening's five bytes.
-fn run(book: &mut [i64], accounts: usize, bytes: &mut [u8], line: &mut [u8])
-    requires { ⌜ (accounts ≤ 32) × (16387 ≤ length (now bytes)) × (1024 ≤ length (now line)) ⌝ }
+// The opening, and then item after item while the last one says so.
+fn run(book: &mut [i64], opening: &[u8], bytes: &mut [u8], line: &mut [u8])
+    requires { ⌜ (now book ≡ newWords) × (length (now opening) ≤ openingBytes) × (longestItem ≤ length (now bytes)) × (lineRoom ≤ length (now line)) ⌝ }
 {
-    let mut position: u64 = 5;
-    while position < LIMIT {
-        let taken = step(book, accounts, position, bytes, line);
-        if taken == 0 {
-            return;
-        }
-        position += taken as u64;
+    let mut turn = begin(book, opening, line);
+    while print(line, turn.end) && turn.more && turn.position < LIMIT {
+        turn = step(book, turn, bytes, line);
     }
 }
 
-// The opening, and then the items after it where the book is opened.
-fn settle(book: &mut [i64], opening: &[u8], bytes: &mut [u8], line: &mut [u8])
-    requires { ⌜ (16387 ≤ length (now bytes)) × (1024 ≤ length (now line)) ⌝ }
-{
-    let begun = begin(book, opening, line);
-    let end = begun.end;
-    let accounts = begun.accounts;
-    if !io::write_all(STDOUT_FILENO, &line[..end]) {
-        return;
-    }
-    if accounts != 0 {
-        run(book, accounts, bytes, line);
-    }
-}
-
-// The book of 5,072 words; one item of 3 and 16,384 bytes at most.
 fn main() {
-    let mut book = [0i64; 5072];
-    let mut opening = [0u8; 5];
-    let mut bytes = [0u8; 16387];
-    let mut line = [0u8; 1024];
+    let mut book = [0i64; BOOK_WORDS];
+    let mut opening = [0u8; OPENING];
+    let mut bytes = [0u8; LONGEST_ITEM];
+    let mut line = [0u8; LINE_ROOM];
     let got = io::read_full(STDIN_FILENO, &mut opening);
-    settle(&mut book, &opening[..got], &mut bytes, &mut line);
+    run(&mut book, &opening[..got], &mut bytes, &mut line);
 }

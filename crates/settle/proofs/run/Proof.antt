@@ -1,22 +1,47 @@
--- `run` is safe and ends: each turn's position is further on.
+-- `run` is safe and ends: each turn's position is further on than the last one's.
 use mathlib.Core.Path.{_≡_}
-use Prim.Native.Nat.{_-_}
-use borrow.Author.Needs.{needs}
+use Prim.Native.Nat.{_-_, _≤_, _<_}
 use lib.ListN.{length}
+use borrow.Author.Tests.{ltb-true}
+use native.Mathlib.Omega.{arith}
+use borrow.Author.Needs.{needs}
 use Rattle.settle.proofs.run.Statement.{statement}
 use Rattle.settle.proofs.run.Tie as tie
 
 abbrev Inv-loop : tie.InvT-loop
-Inv-loop book₀ accounts bytes₀ line₀ position₀ book bytes line position = (length book ≡ length book₀) × (length bytes ≡ length bytes₀) × (length line ≡ length line₀)
+Inv-loop book₀ opening bytes₀ line₀ turn₀ book bytes line turn =
+    (length book ≡ length book₀) × (length bytes ≡ length bytes₀) × (length line ≡ length line₀) × (turn .end ≤ length line) × (turn .accounts ≤ 32)
 
 abbrev μ-loop : tie.MeasureT-loop
-μ-loop book₀ accounts bytes₀ line₀ position₀ book bytes line position = 9000000000000000000 - position
+μ-loop book₀ opening bytes₀ line₀ turn₀ book bytes line turn = 9000000000000000000 - turn .position
+
+-- the bound was not reached
+place : (t : tie.Then3 Inv-loop μ-loop) → t .before .before .before .before .before .before .loop .turn .position < 9000000000000000000
+place t = ltb-true _ _ (t .if3 .taken)
+
+begin-requires : tie.Need-begin-requires Inv-loop μ-loop
+begin-requires c κs = search needs
 
 loop-holds : tie.Need-loop-holds Inv-loop μ-loop
 loop-holds c = search needs
 
+print-requires : tie.Need-print-requires Inv-loop μ-loop
+print-requires c κs = search needs
+
 step-requires : tie.Need-step-requires Inv-loop μ-loop
-step-requires c κs = search needs
+step-requires c κs =
+    let p = place (c .before .before .before) in
+    let l = c .before .before .before .before .before .before .before .before .before in
+    let g = l .before .before .before .before .before .before .before .before .before .before in
+    (l .loop .inv .4, omega (arith, p), omega (arith, l .loop .inv .1, g .pre .2), omega (arith, l .loop .inv .2, g .pre .3))
+
+loop-less : tie.Need-loop-less Inv-loop μ-loop
+loop-less c =
+    let s = c .before .before .before .before .before in
+    omega (arith, place (s .before .before .before .before), s .step .ensures .2)
+
+loop-again : tie.Need-loop-again Inv-loop μ-loop
+loop-again c = search needs
 
 same-length : tie.Need-same-length Inv-loop μ-loop
 same-length c = search needs
@@ -30,15 +55,6 @@ same-length-3 c = search needs
 returns : tie.Need-returns Inv-loop μ-loop
 returns c = search needs
 
-add-position : tie.Need-add-position Inv-loop μ-loop
-add-position c = search needs
-
-loop-less : tie.Need-loop-less Inv-loop μ-loop
-loop-less c = search needs
-
-loop-again : tie.Need-loop-again Inv-loop μ-loop
-loop-again c = search needs
-
 same-length-4 : tie.Need-same-length-4 Inv-loop μ-loop
 same-length-4 c = search needs
 
@@ -51,22 +67,39 @@ same-length-6 c = search needs
 returns-2 : tie.Need-returns-2 Inv-loop μ-loop
 returns-2 c = search needs
 
+same-length-7 : tie.Need-same-length-7 Inv-loop μ-loop
+same-length-7 c = search needs
+
+same-length-8 : tie.Need-same-length-8 Inv-loop μ-loop
+same-length-8 c = search needs
+
+same-length-9 : tie.Need-same-length-9 Inv-loop μ-loop
+same-length-9 c = search needs
+
+returns-3 : tie.Need-returns-3 Inv-loop μ-loop
+returns-3 c = search needs
+
 pub run-spec : {M : Type 1} → statement M
 run-spec =
     tie.close
     (tie.spec
     Inv-loop
     μ-loop
+    begin-requires
     loop-holds
+    print-requires
     step-requires
+    loop-less
+    loop-again
     same-length
     same-length-2
     same-length-3
     returns
-    add-position
-    loop-less
-    loop-again
     same-length-4
     same-length-5
     same-length-6
-    returns-2)
+    returns-2
+    same-length-7
+    same-length-8
+    same-length-9
+    returns-3)
