@@ -8,3 +8,4 @@ pub mod LinesLaws
 pub mod InputLaws
 pub mod ReadingLaws
 pub mod LineExamples
+pub mod InputExamples
