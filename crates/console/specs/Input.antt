@@ -1,7 +1,7 @@
 -- Document 01, "Program `settle`": its input. Assumes nothing.
 use mathlib.Core.Bool.{Bool, cond, _&&_}
 use mathlib.Core.List.{List, []}
-use Prim.Native.Nat.{ℕ, _+_}
+use Prim.Native.Nat.{ℕ, _+_, _≤_}
 use lib.Dec.{eqb, leb}
 use lib.ListN.{length, getD, take}
 use Rattle.rulebook.specs.declared.Terms.{Terms}
@@ -63,3 +63,7 @@ readOn s got = take (wanted got) s
 -- an item's bytes: the command, then a submission's length, then its file
 unfoldable pub itemBytes : List ℕ → List ℕ
 itemBytes s = readOn s (readOn s (readOn s []))
+
+-- the first n of some bytes are no more than an item has, as far as they tell
+abbrev pub WithinItem : ℕ → List ℕ → Type 0
+WithinItem n bytes = (n ≤ longestItem) × (n ≤ wanted (take n bytes))

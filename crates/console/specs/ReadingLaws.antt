@@ -3,12 +3,12 @@ use mathlib.Core.Path.{_≡_, refl, sym, ap, _∙_}
 use mathlib.Core.Bool.{Bool, true, false, cond, _&&_}
 use mathlib.Core.Logic.{⊎-elim}
 use mathlib.Core.List.{List, []}
-use Prim.Native.Nat.{ℕ, suc, _+_, _≤_, _<_}
+use Prim.Native.Nat.{ℕ, zero, suc, _+_, _≤_, _<_}
 use native.Mathlib.Omega.{arith}
 use borrow.Author.Tests.{eqb-true, eqb-false, eq-eqb, ne-eqb, le-leb, lt-leb}
 use lib.Dec.{eqb, leb}
 use lib.ListN.{length, getD, take, length-take}
-use lib.Seq.{getD-take, length-take-le}
+use lib.Seq.{getD-take, length-take-le, take-all, take-take}
 use Rattle.integer.specs.BelowLaws.{either, lt-or-le}
 use Rattle.integer.specs.Words.{part}
 use Rattle.integer.specs.WordsLaws.{part-part}
@@ -144,3 +144,34 @@ module _ (s : List ℕ) where
   -- the file among them
   pub submit-read : (n : ℕ) → itemOf s ≡ Submit n → part (itemBytes s) 3 n ≡ part s 3 n
   submit-read n e = rw bytes-wanted (part-part s 0 (wanted s) 3 n (omega (arith, submit-wanted s n e)))
+
+-- ---- Reading on
+
+-- what is read as far as the first m bytes tell is no more than all of it tells
+pub wanted-grows : (s : List ℕ) (m : ℕ) → length s ≤ wanted (take m s) → length s ≤ wanted s
+wanted-grows s zero h = omega (arith, wanted-none (take 0 s) refl, wanted-least s)
+wanted-grows s (suc m) h =
+    ⊎-elim
+    (λ (k : eqb (getD s 0 0) submitCommand ≡ true).
+    let c = eqb-true (getD s 0 0) submitCommand k in
+    ⊎-elim
+    (λ (l : suc m < 3).
+    omega (arith, wanted-length (take (suc m) s) (take-command s (suc m) (omega arith) ∙ c) (omega (arith, length-take (suc m) s)), wanted-submit s c))
+    (λ (l : 3 ≤ suc m). omega (arith, wanted-take s (suc m) l))
+    (lt-or-le (suc m) 3))
+    (λ (k : eqb (getD s 0 0) submitCommand ≡ false).
+    let c : getD s 0 0 ≡ submitCommand → ⊥ = eqb-false (getD s 0 0) submitCommand k in
+    omega (arith, wanted-command (take (suc m) s) (λ e. c (sym (take-command s (suc m) (omega arith)) ∙ e)), wanted-least s))
+    (either (eqb (getD s 0 0) submitCommand))
+
+-- bytes that are no more than an item has are an item's
+pub bytes-own : (s : List ℕ) → length s ≤ wanted s → itemBytes s ≡ s
+bytes-own s h = bytes-wanted s ∙ take-all (wanted s) s h
+
+-- the first n bytes, when the first m of them were kept and n goes as far as these tell
+pub within-on : (before after : List ℕ) (m n : ℕ) → m ≤ n → n ≤ length after → take m after ≡ take m before → n ≤ wanted (take m before) → n ≤ wanted (take n after)
+within-on before after m n h l e w =
+    let k = length-take-le n after l in
+    let same = take-take m n after h ∙ e in
+    let g = wanted-grows (take n after) m (rw (k, same) w) in
+    omega (arith, g, k)

@@ -1,8 +1,8 @@
 // Document 01, "Program `settle`": its input, told from the bytes at hand.
 use rulebook::Terms;
 ghost use mathlib.Core.Path.{_≡_};
-ghost use Prim.Native.Nat.{_+_, _≤_, _<_, max};
-ghost use lib.ListN.{length, take};
+ghost use Prim.Native.Nat.{_+_, _≤_, _<_};
+ghost use lib.ListN.{length};
 ghost use Rattle.rulebook.specs.File.{num};
 ghost use Rattle.console.specs.Input.{openingBytes, openingTerms, longestItem, fileWhole, itemOf, wanted as Input·wanted};
 
@@ -102,17 +102,4 @@ pub fn wanted(s: &[u8]) -> usize
         return 3;
     }
     3 + n
-}
-
-// Where the next read ends: at the bytes wanted, and not before the `got` at hand.
-pub fn read_to(bytes: &[u8], got: usize) -> usize
-    requires { ⌜ got ≤ length (now bytes) ⌝ }
-    ensures { λ r. ⌜ r ≡ max got (Input·wanted (take got (now (bytes .entry)))) ⌝ }
-    ensures { λ r. ⌜ (got ≤ r) × (r ≤ max got longestItem) ⌝ }
-{
-    let end = wanted(&bytes[..got]);
-    if end < got {
-        return got;
-    }
-    end
 }

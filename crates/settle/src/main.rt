@@ -2,7 +2,7 @@
 // item is and does, where the next one stands and whether there is one, is proved there and in `console`.
 use console::input::LONGEST_ITEM;
 use console::input::OPENING;
-use console::input::read_to;
+use console::input::wanted;
 use console::lines::LINE_ROOM;
 use interpreter::BOOK_WORDS;
 use interpreter::Turn;
@@ -12,8 +12,8 @@ use libc::STDIN_FILENO;
 use libc::STDOUT_FILENO;
 ghost use mathlib.Core.Path.{_≡_};
 ghost use Prim.Native.Nat.{_≤_, _<_, _^_};
-ghost use lib.ListN.{length};
-ghost use Rattle.console.specs.Input.{openingBytes, longestItem};
+ghost use lib.ListN.{length, take};
+ghost use Rattle.console.specs.Input.{openingBytes, longestItem, itemBytes, WithinItem};
 ghost use Rattle.console.specs.Lines.{lineRoom};
 ghost use Rattle.interpreter.specs.Interpreter.{newWords};
 
@@ -22,17 +22,17 @@ const LIMIT: u64 = 9_000_000_000_000_000_000;
 
 // Reads on as far as the bytes at hand tell, and answers how many there are then.
 fn read_on(bytes: &mut [u8], got: usize) -> usize
-    requires { ⌜ (got ≤ longestItem) × (longestItem ≤ length (now bytes)) ⌝ }
-    ensures { λ r. ⌜ r ≤ longestItem ⌝ }
+    requires { ⌜ (longestItem ≤ length (now bytes)) × WithinItem got (now bytes) ⌝ }
+    ensures { λ r. ⌜ WithinItem r (now (bytes .exit)) ⌝ }
 {
-    let end = read_to(bytes, got);
+    let end = wanted(&bytes[..got]);
     got + io::read_full(STDIN_FILENO, &mut bytes[got..end])
 }
 
-// Reads an item: the command, a submission's length, its file. Answers how many bytes there are.
+// Reads an item: the command, a submission's length, its file. Answers how many bytes there are: those of an item and no more.
 fn read_item(bytes: &mut [u8]) -> usize
     requires { ⌜ longestItem ≤ length (now bytes) ⌝ }
-    ensures { λ r. ⌜ r ≤ longestItem ⌝ }
+    ensures { λ r. ⌜ (r ≤ longestItem) × (itemBytes (take r (now (bytes .exit))) ≡ take r (now (bytes .exit))) ⌝ }
 {
     let command = read_on(bytes, 0);
     let length = read_on(bytes, command);
