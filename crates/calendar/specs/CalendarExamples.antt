@@ -38,6 +38,59 @@ noDates =
     ∷ dayTold (pos 2026) (pos 1) (pos 0)
     ∷ []
 
+-- 1 January of the year -2026, 1 of month -3 and -15 January 2026, whose magnitudes are dates
+abbrev negativeDates : List DayReturned
+negativeDates =
+    dayTold (negsuc 2025) (pos 1) (pos 1)
+    ∷ dayTold (pos 2026) (negsuc 2) (pos 1)
+    ∷ dayTold (pos 2026) (pos 1) (negsuc 14)
+    ∷ dayTold (negsuc 2025) (negsuc 0) (negsuc 0)
+    ∷ []
+
+-- day -9,497, also with a faulty list
+abbrev negativeDays : List DayReturned
+negativeDays =
+    statementTold (negsuc 9496)
+    ∷ finalStatementTold (negsuc 9496) []
+    ∷ finalStatementTold (negsuc 9496) (pos 5 ∷ pos 5 ∷ [])
+    ∷ []
+
+-- January of the year -2026, month -1, months 0 and 13, the years 1999 and 2100
+abbrev noMonths : List DayReturned
+noMonths =
+    residualDueTold (negsuc 2025) (pos 1) []
+    ∷ residualDueTold (pos 2026) (negsuc 0) []
+    ∷ residualDueTold (pos 2026) (pos 0) []
+    ∷ residualDueTold (pos 2026) (pos 13) []
+    ∷ residualDueTold (pos 1999) (pos 12) []
+    ∷ residualDueTold (pos 2100) (pos 1) []
+    ∷ []
+
+-- January 2026 with 5, 5; with 6, 5; with an entry past the last day; with a negative one
+abbrev badDueLists : List DayReturned
+badDueLists =
+    residualDueTold (pos 2026) (pos 1) (pos 5 ∷ pos 5 ∷ [])
+    ∷ residualDueTold (pos 2026) (pos 1) (pos 6 ∷ pos 5 ∷ [])
+    ∷ residualDueTold (pos 2026) (pos 1) (pos 36525 ∷ [])
+    ∷ residualDueTold (pos 2026) (pos 1) (negsuc 0 ∷ [])
+    ∷ []
+
+-- a faulty list with a month that is none, and with a day that is none
+abbrev dateBeforeLists : List DayReturned
+dateBeforeLists =
+    residualDueTold (pos 2026) (pos 13) (pos 5 ∷ pos 5 ∷ [])
+    ∷ residualDueTold (pos 2100) (pos 1) (pos 6 ∷ pos 5 ∷ [])
+    ∷ finalStatementTold (pos 36525) (pos 5 ∷ pos 5 ∷ [])
+    ∷ []
+
+-- a faulty list where the result lies past the last day: the tenth business day, d + 75 itself, the due month
+abbrev listBeforePasts : List DayReturned
+listBeforePasts =
+    finalStatementTold (pos 36440) (pos 6 ∷ pos 5 ∷ [])
+    ∷ finalStatementTold (pos 36450) (pos 5 ∷ pos 5 ∷ [])
+    ∷ residualDueTold (pos 2099) (pos 11) (pos 5 ∷ pos 5 ∷ [])
+    ∷ []
+
 -- 5, 5; an entry past the last day; a negative one; a faulty list on a day that is none
 abbrev badLists : List BusinessReturned
 badLists =
@@ -84,17 +137,24 @@ pub record CalendarFigures : Type 0 where
   pub noDates : noDates ≡ day 12 0 ∷ day 12 0 ∷ day 12 0 ∷ day 12 0 ∷ day 12 0 ∷ day 12 0 ∷ []
   pub negativeDay : dateTold (negsuc 0) ≡ record { number = 12; year = 0; month = 0; day = 0 }
   pub pastLastDay : dateTold (pos 36525) ≡ record { number = 12; year = 0; month = 0; day = 0 }
+  pub negativeDates : negativeDates ≡ day 12 0 ∷ day 12 0 ∷ day 12 0 ∷ day 12 0 ∷ []
   -- ---- Weekdays
 
   -- 1 January 2000 was a Saturday; National Day 2026, 9 August, is a Sunday
   pub saturday : weekdayTold (pos 0) ≡ weekday 0 0
   pub sunday : weekdayTold (pos (dayTold (pos 2026) (pos 8) (pos 9) .day)) ≡ weekday 0 1
   pub noWeekday : weekdayTold (pos 36525) ≡ weekday 12 0
+  pub negativeWeekday : weekdayTold (negsuc 9496) ≡ weekday 12 0
   -- ---- Holiday lists
 
   pub badLists : badLists ≡ business 13 0 ∷ business 13 0 ∷ business 13 0 ∷ business 12 0 ∷ []
   -- 13 comes before 14
   pub listBeforePast : finalStatementTold (pos 36524) (pos 5 ∷ pos 5 ∷ []) ≡ day 13 0
+  pub listBeforePasts : listBeforePasts ≡ day 13 0 ∷ day 13 0 ∷ day 13 0 ∷ []
+  pub badDueLists : badDueLists ≡ day 13 0 ∷ day 13 0 ∷ day 13 0 ∷ day 13 0 ∷ []
+  -- 12 comes before 13
+  pub dateBeforeLists : dateBeforeLists ≡ day 12 0 ∷ day 12 0 ∷ day 12 0 ∷ []
+  pub negativeBusiness : businessTold (negsuc 9496) [] ≡ business 12 0
   pub openDays : openDays ≡ business 0 1 ∷ business 0 0 ∷ business 0 1 ∷ business 0 0 ∷ business 0 0 ∷ business 0 1 ∷ []
   -- ---- Statement days
 
@@ -104,17 +164,34 @@ pub record CalendarFigures : Type 0 where
   pub final : finalStatementTold (pos 9497) [] ≡ day 0 9586
   -- with 20 March 2026 listed: 1 April 2026
   pub finalListed : finalStatementTold (pos 9497) (pos 9575 ∷ []) ≡ day 0 9587
+  -- with Saturday 21 March listed, and with Sunday 22 March too: as without
+  pub finalSaturday : finalStatementTold (pos 9497) (pos 9576 ∷ []) ≡ day 0 9586
+  pub finalWeekend : finalStatementTold (pos 9497) (pos 9576 ∷ pos 9577 ∷ []) ≡ day 0 9586
+  -- with 20 and 21 March listed: 1 April
+  pub finalFridaySaturday : finalStatementTold (pos 9497) (pos 9575 ∷ pos 9576 ∷ []) ≡ day 0 9587
+  -- with 20 and 23 March listed: 2 April; with 20 March and 1 April listed: 2 April
+  pub finalTwo : finalStatementTold (pos 9497) (pos 9575 ∷ pos 9578 ∷ []) ≡ day 0 9588
+  pub finalTwoLater : finalStatementTold (pos 9497) (pos 9575 ∷ pos 9587 ∷ []) ≡ day 0 9588
+  -- with d + 75, 17 March, and 1 April listed, which lie outside: as without
+  pub finalOutside : finalStatementTold (pos 9497) (pos 9572 ∷ pos 9587 ∷ []) ≡ day 0 9586
+  pub negativeDays : negativeDays ≡ day 12 0 ∷ day 12 0 ∷ day 12 0 ∷ []
   -- day 36,440 plus 75 is in the calendar, the tenth business day after it is not
   pub noFinal : finalStatementTold (pos 36440) [] ≡ day 14 0
   -- ---- Due days
 
   -- January 2026: 11 March 2026
   pub due : residualDueTold (pos 2026) (pos 1) [] ≡ day 0 9566
+  -- with 11 March listed: 12 March; with 10 March listed: as without
+  pub dueListed : residualDueTold (pos 2026) (pos 1) (pos 9566 ∷ []) ≡ day 0 9567
+  pub dueTenthListed : residualDueTold (pos 2026) (pos 1) (pos 9565 ∷ []) ≡ day 0 9566
+  -- February 2026: 11 April is a Saturday, listed or not, so 13 April
+  pub dueWeekend : residualDueTold (pos 2026) (pos 2) (pos 9597 ∷ []) ≡ day 0 9599
   -- November 2026: 11 January 2027
   pub dueNextYear : residualDueTold (pos 2026) (pos 11) [] ≡ day 0 9872
   -- November 2099: January 2100 is past the calendar
   pub noDue : residualDueTold (pos 2099) (pos 11) [] ≡ day 14 0
   pub noDueMonth : residualDueTold (pos 2026) (pos 0) [] ≡ day 12 0
+  pub noMonths : noMonths ≡ day 12 0 ∷ day 12 0 ∷ day 12 0 ∷ day 12 0 ∷ day 12 0 ∷ day 12 0 ∷ []
 
 pub calendar-figures : CalendarFigures
 calendar-figures = record {
@@ -126,19 +203,36 @@ calendar-figures = record {
   noDates = unfold dayTold isDate isMonth daysInMonth isLeap in refl;
   negativeDay = unfold dateTold isDay in refl;
   pastLastDay = unfold dateTold isDay in refl;
+  negativeDates = unfold dayTold isDate isMonth daysInMonth isLeap in refl;
   saturday = unfold weekdayTold isDay weekdayOf in refl;
   sunday = unfold weekdayTold isDay weekdayOf dayTold isDate isMonth dayOf daysBeforeYear daysBeforeMonth daysInYear daysInMonth isLeap fold in refl;
   noWeekday = unfold weekdayTold isDay in refl;
+  negativeWeekday = unfold weekdayTold isDay in refl;
   badLists = unfold businessTold isDay isProper inPlace fold in refl;
   listBeforePast = unfold finalStatementTold searchTold isDay isProper inPlace fold in refl;
+  listBeforePasts = unfold finalStatementTold residualDueTold searchTold isDay isMonth isProper inPlace fold in refl;
+  badDueLists = unfold residualDueTold searchTold isDay isMonth isProper inPlace fold in refl;
+  dateBeforeLists = unfold finalStatementTold residualDueTold searchTold isDay isMonth in refl;
+  negativeBusiness = unfold businessTold isDay in refl;
   openDays = unfold businessTold isDay isProper inPlace isBusinessDay isListed weekdayOf fold in refl;
   statementDays = unfold statementTold isDay statementDay in refl;
   dayNumbers = unfold dayTold isDate isMonth dayOf daysBeforeYear daysBeforeMonth daysInYear daysInMonth isLeap fold in refl;
   final = unfold isDay isProper isNthAfter daysAfter isBusinessDay isListed weekdayOf statementDay fold in finalStatement-of (pos 9497) [] refl refl 9586 refl (lit≤ tt);
   finalListed = unfold isDay isProper inPlace isNthAfter daysAfter isBusinessDay isListed weekdayOf statementDay fold in finalStatement-of (pos 9497) (pos 9575 ∷ []) refl refl 9587 refl (lit≤ tt);
+  finalSaturday = unfold isDay isProper inPlace isNthAfter daysAfter isBusinessDay isListed weekdayOf statementDay fold in finalStatement-of (pos 9497) (pos 9576 ∷ []) refl refl 9586 refl (lit≤ tt);
+  finalWeekend = unfold isDay isProper inPlace isNthAfter daysAfter isBusinessDay isListed weekdayOf statementDay fold in finalStatement-of (pos 9497) (pos 9576 ∷ pos 9577 ∷ []) refl refl 9586 refl (lit≤ tt);
+  finalFridaySaturday = unfold isDay isProper inPlace isNthAfter daysAfter isBusinessDay isListed weekdayOf statementDay fold in finalStatement-of (pos 9497) (pos 9575 ∷ pos 9576 ∷ []) refl refl 9587 refl (lit≤ tt);
+  finalTwo = unfold isDay isProper inPlace isNthAfter daysAfter isBusinessDay isListed weekdayOf statementDay fold in finalStatement-of (pos 9497) (pos 9575 ∷ pos 9578 ∷ []) refl refl 9588 refl (lit≤ tt);
+  finalTwoLater = unfold isDay isProper inPlace isNthAfter daysAfter isBusinessDay isListed weekdayOf statementDay fold in finalStatement-of (pos 9497) (pos 9575 ∷ pos 9587 ∷ []) refl refl 9588 refl (lit≤ tt);
+  finalOutside = unfold isDay isProper inPlace isNthAfter daysAfter isBusinessDay isListed weekdayOf statementDay fold in finalStatement-of (pos 9497) (pos 9572 ∷ pos 9587 ∷ []) refl refl 9586 refl (lit≤ tt);
+  negativeDays = unfold statementTold finalStatementTold searchTold isDay in refl;
   noFinal = unfold isDay isProper daysAfter isBusinessDay isListed weekdayOf statementDay fold in finalStatement-past (pos 36440) [] refl refl (lit< tt);
   due = unfold isMonth isProper isNthAfter daysAfter isBusinessDay isListed weekdayOf dueAfter dayOf daysBeforeYear daysBeforeMonth daysInYear daysInMonth isLeap fold in residualDue-of (pos 2026) (pos 1) [] refl refl 9566 refl (lit≤ tt);
+  dueListed = unfold isMonth isDay isProper inPlace isNthAfter daysAfter isBusinessDay isListed weekdayOf dueAfter dayOf daysBeforeYear daysBeforeMonth daysInYear daysInMonth isLeap fold in residualDue-of (pos 2026) (pos 1) (pos 9566 ∷ []) refl refl 9567 refl (lit≤ tt);
+  dueTenthListed = unfold isMonth isDay isProper inPlace isNthAfter daysAfter isBusinessDay isListed weekdayOf dueAfter dayOf daysBeforeYear daysBeforeMonth daysInYear daysInMonth isLeap fold in residualDue-of (pos 2026) (pos 1) (pos 9565 ∷ []) refl refl 9566 refl (lit≤ tt);
+  dueWeekend = unfold isMonth isDay isProper inPlace isNthAfter daysAfter isBusinessDay isListed weekdayOf dueAfter dayOf daysBeforeYear daysBeforeMonth daysInYear daysInMonth isLeap fold in residualDue-of (pos 2026) (pos 2) (pos 9597 ∷ []) refl refl 9599 refl (lit≤ tt);
   dueNextYear = unfold isMonth isProper isNthAfter daysAfter isBusinessDay isListed weekdayOf dueAfter dayOf daysBeforeYear daysBeforeMonth daysInYear daysInMonth isLeap fold in residualDue-of (pos 2026) (pos 11) [] refl refl 9872 refl (lit≤ tt);
   noDue = unfold isMonth isProper daysAfter dueAfter dayOf daysBeforeYear daysBeforeMonth daysInYear daysInMonth isLeap fold in residualDue-past (pos 2099) (pos 11) [] refl refl (lit< tt);
   noDueMonth = unfold residualDueTold searchTold isMonth in refl;
+  noMonths = unfold residualDueTold searchTold isMonth in refl;
 }
