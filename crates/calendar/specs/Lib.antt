@@ -1,9 +1,12 @@
 pub mod Calendar
 pub mod CalendarTheorems
+pub mod CalendarTable
 pub mod Steps
 pub mod YearLaws
 pub mod DateLaws
 pub mod HolidayLaws
 pub mod BusinessLaws
 pub mod CalendarLaws
+pub mod CalendarWordLaws
+pub mod CalendarTableLaws
 pub mod CalendarExamples
