@@ -1,8 +1,12 @@
 // Standard input, field by field, little-endian. What is cut off reads as zeros.
 use integer::put_word;
-ghost use Prim.Native.Nat.{_≤_, _<_};
+ghost use mathlib.Core.Path.{_≡_};
+ghost use Prim.Native.Nat.{_+_, _≤_, _<_};
+ghost use lib.ListN.{length};
 ghost use Rattle.io.specs.Counts.{Counts as Counts·bytes};
+ghost use Rattle.rulebook.specs.File.{num};
 ghost use Rattle.replay.specs.Counts.{Counts};
+ghost use Rattle.replay.specs.Fields.{wordIn};
 
 // The byte that starts a frame; 0 at the end of the input.
 pub fn command() -> u8 {
@@ -12,9 +16,45 @@ pub fn command() -> u8 {
 }
 
 pub fn wide(b: u8) -> u64
-    ensures { λ r. ⌜ r < 256 ⌝ }
+    ensures { λ r. ⌜ (r ≡ b) × (r < 256) ⌝ }
 {
     b as u64
+}
+
+// The number that 4 bytes spell.
+fn number_in(field: &[u8], at: usize) -> u64
+    requires { ⌜ at + 4 ≤ length (now field) ⌝ }
+    ensures { λ r. ⌜ (r ≡ num 4 (now (field .entry)) at) × (r < 4294967296) ⌝ }
+{
+    wide(field[at])
+        + 256 * wide(field[at + 1])
+        + 65536 * wide(field[at + 2])
+        + 16777216 * wide(field[at + 3])
+}
+
+// The number that 8 bytes spell.
+fn long_in(field: &[u8], at: usize) -> usize
+    requires { ⌜ at + 8 ≤ length (now field) ⌝ }
+    ensures { λ r. ⌜ r ≡ num 8 (now (field .entry)) at ⌝ }
+{
+    let low = number_in(field, at);
+    let high = number_in(field, at + 4);
+    (low + 4294967296 * high) as usize
+}
+
+// The word that 8 bytes spell, in two's complement.
+fn word_in(field: &[u8], at: usize) -> i64
+    requires { ⌜ at + 8 ≤ length (now field) ⌝ }
+    ensures { λ r. ⌜ r ≡ wordIn (now (field .entry)) at ⌝ }
+{
+    let low = number_in(field, at);
+    let high = number_in(field, at + 4);
+    if high < 2147483648 {
+        (low + 4294967296 * high) as i64
+    } else {
+        let rest = low + 4294967296 * (high - 2147483648);
+        i64::MIN + rest as i64
+    }
 }
 
 // A number of 4 bytes.
@@ -23,26 +63,21 @@ pub fn number() -> u64
 {
     let mut field = [0u8; 4];
     io::read_full(0, &mut field);
-    wide(field[0]) + 256 * wide(field[1]) + 65536 * wide(field[2]) + 16777216 * wide(field[3])
+    number_in(&field, 0)
 }
 
 // A number of 8 bytes.
 pub fn long() -> usize {
-    let low = number();
-    let high = number();
-    (low + 4294967296 * high) as usize
+    let mut field = [0u8; 8];
+    io::read_full(0, &mut field);
+    long_in(&field, 0)
 }
 
 // A word: 8 bytes, two's complement.
 pub fn word() -> i64 {
-    let low = number();
-    let high = number();
-    if high < 2147483648 {
-        (low + 4294967296 * high) as i64
-    } else {
-        let rest = low + 4294967296 * (high - 2147483648);
-        i64::MIN + rest as i64
-    }
+    let mut field = [0u8; 8];
+    io::read_full(0, &mut field);
+    word_in(&field, 0)
 }
 
 // A number of 4 bytes, or `most` where it is more.

@@ -4,6 +4,7 @@ use integer::any_magnitude;
 use integer::word_at;
 ghost use mathlib.Core.Path.{_≡_};
 ghost use Prim.Native.Nat.{_<_};
+ghost use Rattle.replay.specs.Digests as digests;
 
 // A digest is below this prime, 2^31 − 1.
 const MODULUS: u64 = 2147483647;
@@ -44,13 +45,13 @@ pub fn words(list: &[i64]) {
 // A digest with one number more.
 fn more(d: u64, x: u64) -> u64
     requires { ⌜ (d < 2147483647) × (x < 17179869184) ⌝ }
-    ensures { λ r. ⌜ r < 2147483647 ⌝ }
+    ensures { λ r. ⌜ (r ≡ digests.more d x) × (r < 2147483647) ⌝ }
 {
     (d * FACTOR + x) % MODULUS
 }
 
 fn sign(z: i64) -> u64
-    ensures { λ r. ⌜ r < 2 ⌝ }
+    ensures { λ r. ⌜ (r ≡ digests.sign z) × (r < 2) ⌝ }
 {
     if z < 0 { 1 } else { 0 }
 }
@@ -58,14 +59,16 @@ fn sign(z: i64) -> u64
 // A digest with one word more: the upper half of its magnitude with its sign, then the lower half.
 fn more_word(d: u64, z: i64) -> u64
     requires { ⌜ d < 2147483647 ⌝ }
-    ensures { λ r. ⌜ r < 2147483647 ⌝ }
+    ensures { λ r. ⌜ (r ≡ digests.moreWord d z) × (r < 2147483647) ⌝ }
 {
     let size = any_magnitude(z);
     let upper = 2 * (size / 4294967296) + sign(z);
     more(more(d, upper), size % 4294967296)
 }
 
-fn digest_of(list: &[i64]) -> u64 {
+fn digest_of(list: &[i64]) -> u64
+    ensures { λ r. ⌜ r ≡ digests.digest (now (list .entry)) ⌝ }
+{
     let mut d = 1;
     for i in 0..list.len() {
         d = more_word(d, word_at(list, i));
@@ -73,7 +76,9 @@ fn digest_of(list: &[i64]) -> u64 {
     d
 }
 
-fn file_digest_of(file: &[u8]) -> u64 {
+fn file_digest_of(file: &[u8]) -> u64
+    ensures { λ r. ⌜ r ≡ digests.fileDigest (now (file .entry)) ⌝ }
+{
     let mut d = 1;
     for i in 0..file.len() {
         d = more(d, wide(file[i]));

@@ -1,0 +1,20 @@
+-- What the bytes of a frame's fields spell, little-endian. Assumes nothing.
+use mathlib.Core.Bool.{cond}
+use mathlib.Core.List.{List}
+use Prim.Native.Nat.{ℕ, _*_}
+use lib.Dec.{ltb}
+use lib.IntN.{ℤ, pos, subℕ}
+use Rattle.integer.specs.Below.{tabulate}
+use Rattle.rulebook.specs.File.{num}
+
+-- n below 2 ^ 64, read in two's complement: n, or n less 2 ^ 64 from 2 ^ 63 on
+unfoldable pub signed64 : ℕ → ℤ
+signed64 n = cond (ltb n 9223372036854775808) (pos n) (subℕ n 18446744073709551616)
+
+-- a word: eight bytes
+unfoldable pub wordIn : List ℕ → ℕ → ℤ
+wordIn s at = signed64 (num 8 s at)
+
+-- n words, one after another
+unfoldable pub wordsIn : ℕ → List ℕ → List ℤ
+wordsIn n s = tabulate n (λ i. wordIn s (8 * i))
