@@ -5,22 +5,38 @@ use integer::put_word;
 use robijan::book_calls::robijan_close;
 use robijan::book_calls::robijan_open;
 use robijan::book_calls::robijan_submit;
+ghost use mathlib.Core.Path.{_≡_};
+ghost use lib.ListN.{set};
+ghost use Rattle.rulebook.specs.Submit.{submitted};
+ghost use Rattle.rulebook.specs.Close.{closed};
+ghost use Rattle.replay.specs.Frames.{Lent, Opens, Submits, Closes, ClosedWith, Poked};
 
 // Three tranches, four facilities, residual and NCC rows of a day of 32 accounts are fewer.
 const FILE_BYTES: usize = 131072;
 
 const STATEMENT_WORDS: usize = 40;
 
-// No call: one word of the book is written.
-pub fn poke(book: &mut [i64]) {
-    let i = input::count(book);
-    let z = input::word();
+// One word written; none by an index past the end.
+fn write_word(book: &mut [i64], i: usize, z: i64)
+    ensures { λ _. ⌜ now (book .exit) ≡ set (now (book .entry)) i z ⌝ }
+{
     if i < book.len() {
         put_word(book, i, z);
     }
 }
 
-fn open_lent(lent: &mut [i64]) {
+// No call: one word of the book is written.
+pub fn poke(book: &mut [i64])
+    ensures { λ _. ⌜ Poked (now (book .entry)) (now (book .exit)) ⌝ }
+{
+    let i = input::count(book);
+    let z = input::word();
+    write_word(book, i, z);
+}
+
+fn open_lent(lent: &mut [i64])
+    ensures { λ _. ⌜ Opens (now (lent .entry)) (now (lent .exit)) ⌝ }
+{
     let accounts = input::long();
     let lag = input::long();
     let horizon = input::long();
@@ -33,12 +49,16 @@ fn open_lent(lent: &mut [i64]) {
     output::end();
 }
 
-pub fn open(book: &mut [i64]) {
+pub fn open(book: &mut [i64])
+    ensures { λ _. ⌜ Lent Opens (now (book .entry)) (now (book .exit)) ⌝ }
+{
     let n = input::count(book);
     open_lent(&mut book[..n]);
 }
 
-fn submit_lent(lent: &mut [i64], file: &[u8]) {
+fn submit_lent(lent: &mut [i64], file: &[u8])
+    ensures { λ _. ⌜ now (lent .exit) ≡ submitted (now (lent .entry)) (now (file .entry)) .words ⌝ }
+{
     let answer = robijan_submit(lent, file);
     output::name(b"submit");
     output::figure(answer.number);
@@ -48,18 +68,24 @@ fn submit_lent(lent: &mut [i64], file: &[u8]) {
     output::end();
 }
 
-fn submit_from(lent: &mut [i64], space: &mut [u8]) {
+fn submit_from(lent: &mut [i64], space: &mut [u8])
+    ensures { λ _. ⌜ Submits (now (lent .entry)) (now (lent .exit)) ⌝ }
+{
     let n = input::file(space);
     submit_lent(lent, &space[..n]);
 }
 
-pub fn submit(book: &mut [i64]) {
+pub fn submit(book: &mut [i64])
+    ensures { λ _. ⌜ Lent Submits (now (book .entry)) (now (book .exit)) ⌝ }
+{
     let n = input::count(book);
     let mut space = [0u8; FILE_BYTES];
     submit_from(&mut book[..n], &mut space);
 }
 
-fn close_lent(lent: &mut [i64], statement: &mut [i64]) {
+fn close_lent(lent: &mut [i64], statement: &mut [i64])
+    ensures { λ _. ⌜ (now (lent .exit) ≡ closed (now (lent .entry)) (now (statement .entry)) .words) × (now (statement .exit) ≡ closed (now (lent .entry)) (now (statement .entry)) .statement) ⌝ }
+{
     let answer = robijan_close(lent, statement);
     output::name(b"close");
     output::figure(answer.number);
@@ -71,12 +97,16 @@ fn close_lent(lent: &mut [i64], statement: &mut [i64]) {
     output::end();
 }
 
-fn close_with(lent: &mut [i64], space: &mut [i64]) {
+fn close_with(lent: &mut [i64], space: &mut [i64])
+    ensures { λ _. ⌜ ClosedWith (now (lent .entry)) (now (space .entry)) (now (lent .exit)) (now (space .exit)) ⌝ }
+{
     let n = input::count(space);
     close_lent(lent, &mut space[..n]);
 }
 
-pub fn close(book: &mut [i64]) {
+pub fn close(book: &mut [i64])
+    ensures { λ _. ⌜ Lent Closes (now (book .entry)) (now (book .exit)) ⌝ }
+{
     let n = input::count(book);
     let z = input::word();
     let mut space = [z; STATEMENT_WORDS];

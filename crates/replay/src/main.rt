@@ -27,6 +27,7 @@ use calendar_calls::calendar_call;
 use rules_calls::price;
 use rules_calls::share;
 use rules_calls::tranche;
+ghost use Rattle.replay.specs.Frames.{Framed, Ran};
 
 // The words of the one book: as many as N = 4, L = 75, H = 92 take, and some beyond. The largest book of all, 6,188,672 words, is more than
 // a stack of 8 MB has.
@@ -44,7 +45,9 @@ fn call_without_book(command: u8) -> bool {
 }
 
 // One frame; false at the end of the input, or at a byte that starts none.
-fn step(book: &mut [i64]) -> bool {
+fn step(book: &mut [i64]) -> bool
+    ensures { λ _. ⌜ Framed (now (book .entry)) (now (book .exit)) ⌝ }
+{
     let command = input::command();
     match command {
         b'P' => poke(book),
@@ -57,7 +60,9 @@ fn step(book: &mut [i64]) -> bool {
 }
 
 // The frames, one after another.
-fn run(book: &mut [i64]) {
+fn run(book: &mut [i64])
+    ensures { λ _. ⌜ Ran (now (book .entry)) (now (book .exit)) ⌝ }
+{
     let mut turns = u64::MAX;
     while turns > 0 && step(book) {
         turns -= 1;

@@ -4,6 +4,9 @@ use crate::output;
 use robijan::rules_calls::robijan_price;
 use robijan::rules_calls::robijan_share;
 use robijan::rules_calls::robijan_tranche;
+ghost use mathlib.Core.Path.{_≡_};
+ghost use Rattle.rulebook.specs.Calls.{shareCall};
+ghost use Rattle.replay.specs.Frames.{Lent, Shares};
 
 const LIST_WORDS: usize = 40;
 
@@ -29,7 +32,9 @@ pub fn price() {
     price_from(&mut meps, &mut ieqs);
 }
 
-fn share_to(r: i64, uegq: &[i64], lent: &mut [i64]) {
+fn share_to(r: i64, uegq: &[i64], lent: &mut [i64])
+    ensures { λ _. ⌜ now (lent .exit) ≡ shareCall r (now (uegq .entry)) (now (lent .entry)) .output ⌝ }
+{
     let number = robijan_share(r, uegq, lent);
     output::name(b"share");
     output::figure(number);
@@ -38,7 +43,9 @@ fn share_to(r: i64, uegq: &[i64], lent: &mut [i64]) {
     output::end();
 }
 
-fn share_from(r: i64, uegqs: &mut [i64], space: &mut [i64]) {
+fn share_from(r: i64, uegqs: &mut [i64], space: &mut [i64])
+    ensures { λ _. ⌜ Lent (Shares r) (now (space .entry)) (now (space .exit)) ⌝ }
+{
     let m = input::list(uegqs);
     let n = input::count(space);
     share_to(r, &uegqs[..m], &mut space[..n]);

@@ -1,0 +1,57 @@
+-- `share_from` meets its contract: the words lent come back before those beyond.
+use mir.Syntax.{w64}
+use mir.ValLaws.{toZ-ofZ}
+use Rattle.replay.specs.Frames.{Shares}
+use Rattle.replay.specs.FrameLaws.{lent-of, shares-of}
+use borrow.Author.Needs.{needs}
+use Rattle.replay.proofs.rules_calls.share_from.Statement.{statement}
+use Rattle.replay.proofs.rules_calls.share_from.Tie as tie
+
+list-requires : tie.Need-list-requires
+list-requires c κs = search needs
+
+count-requires : tie.Need-count-requires
+count-requires c κs = search needs
+
+slice-reshare-prefix-share-to : tie.Need-slice-reshare-prefix-share-to
+slice-reshare-prefix-share-to c = search needs
+
+slice-aggregate-share-to : tie.Need-slice-aggregate-share-to
+slice-aggregate-share-to c = search needs
+
+slice-relend-prefix-share-to : tie.Need-slice-relend-prefix-share-to
+slice-relend-prefix-share-to c = search needs
+
+slice-aggregate-share-to-2 : tie.Need-slice-aggregate-share-to-2
+slice-aggregate-share-to-2 c = search needs
+
+share-to-requires : tie.Need-share-to-requires
+share-to-requires c κs = search needs
+
+same-length : tie.Need-same-length
+same-length c = search needs
+
+same-length-2 : tie.Need-same-length-2
+same-length-2 c = search needs
+
+returns : tie.Need-returns
+returns c =
+    let n = c .before .before .before .before in
+    let s = n .before .before .before .before .before in
+    lent-of _ (s .args .space .now) _ (n .count .ensures .0) (same-length-2 c) (Shares (s .args .r))
+    (shares-of _ (toZ-ofZ w64 (s .args .r) (s .fits .r)) (c .before .share-to .ensures))
+
+pub share-from-spec : {M : Type 1} → statement M
+share-from-spec =
+    tie.close
+    (tie.spec
+    list-requires
+    count-requires
+    slice-reshare-prefix-share-to
+    slice-aggregate-share-to
+    slice-relend-prefix-share-to
+    slice-aggregate-share-to-2
+    share-to-requires
+    same-length
+    same-length-2
+    returns)

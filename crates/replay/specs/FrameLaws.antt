@@ -1,0 +1,37 @@
+-- Laws of frames: first words that were lent and came back, the words beyond behind them. Assumes nothing.
+use mathlib.Core.Path.{_≡_, sym, ap, subst, _∙_}
+use mathlib.Core.List.{List, _++_}
+use Prim.Native.Nat.{ℕ, _≤_}
+use native.Mathlib.Omega.{arith}
+use lib.IntN.{ℤ}
+use lib.ListN.{length, take, drop, length-append, length-drop}
+use lib.Seq.{take-at, drop-at}
+use Rattle.rulebook.specs.Close.{closed}
+use Rattle.rulebook.specs.Calls.{shareCall}
+use Rattle.replay.specs.Frames.{Lent, ClosedWith, Closes, Shares}
+
+-- n first words of xs came back as ys
+module _ (n : ℕ) (xs ys : List ℤ) (within : n ≤ length xs) (same : length (ys ++ drop n xs) ≡ length xs) where
+  back : length ys ≡ n
+  back = omega (arith, length-append ys (drop n xs), length-drop n xs)
+
+  pub first-back : take n (ys ++ drop n xs) ≡ ys
+  first-back = take-at ys (drop n xs) n back
+
+  pub beyond-back : drop n (ys ++ drop n xs) ≡ drop n xs
+  beyond-back = drop-at ys (drop n xs) n back
+
+  pub lent-of : (Left : List ℤ → List ℤ → Type 0) → Left (take n xs) ys → Lent Left xs (ys ++ drop n xs)
+  lent-of Left l = record { count = n; within = within; left = subst (Left (take n xs)) (sym first-back) l; beyond = beyond-back }
+
+  pub closed-with-of : (book after : List ℤ) → (after ≡ closed book (take n xs) .words) × (ys ≡ closed book (take n xs) .statement) → ClosedWith book xs after (ys ++ drop n xs)
+  closed-with-of book after e =
+      record { count = n; within = within; book-words = e .0; statement-words = rw first-back (e .1); beyond = beyond-back }
+
+-- some statement was there
+pub closes-of : {book space after spaceAfter : List ℤ} → ClosedWith book space after spaceAfter → Closes book after
+closes-of {space = space} w = record { statement = take (w .count) space; words = w .book-words }
+
+-- some UEGQ were there
+pub shares-of : {r s : ℤ} {before after : List ℤ} (uegq : List ℤ) → r ≡ s → after ≡ shareCall r uegq before .output → Shares s before after
+shares-of {before = before} uegq e w = record { uegq = uegq; words = w ∙ ap (λ x. shareCall x uegq before .output) e }

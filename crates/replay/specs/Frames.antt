@@ -1,0 +1,74 @@
+-- What a frame leaves of the book: one word written, or what the library promises of the words lent to it. The fields themselves are what the
+-- input has, so a promise says that there are some. Assumes nothing.
+use mathlib.Core.Path.{_≡_}
+use mathlib.Core.List.{List}
+use Prim.Native.Nat.{ℕ, _≤_}
+use lib.IntN.{ℤ}
+use lib.ListN.{length, set, take, drop}
+use Rattle.rulebook.specs.declared.Terms.{Terms}
+use Rattle.rulebook.specs.Opening.{opened}
+use Rattle.rulebook.specs.Submit.{submitted}
+use Rattle.rulebook.specs.Close.{closed}
+use Rattle.rulebook.specs.Calls.{shareCall}
+
+-- ---- The first words of a list, lent
+
+-- so many first words are left as `Left` says, the words beyond kept
+pub record Lent (Left : List ℤ → List ℤ → Type 0) (before after : List ℤ) : Type 0 where
+  pub count : ℕ
+  pub within : count ≤ length before
+  pub left : Left (take count before) (take count after)
+  pub beyond : drop count after ≡ drop count before
+
+-- ---- What a call leaves of the words lent to it
+
+-- some terms, and what an opening by them leaves
+pub record Opens (before after : List ℤ) : Type 0 where
+  pub terms : Terms
+  pub words : after ≡ opened terms before .words
+
+-- some file, and what its submission leaves
+pub record Submits (before after : List ℤ) : Type 0 where
+  pub file : List ℕ
+  pub words : after ≡ submitted before file .words
+
+-- some statement, and what a close leaves
+pub record Closes (before after : List ℤ) : Type 0 where
+  pub statement : List ℤ
+  pub words : after ≡ closed before statement .words
+
+-- ---- The book, frame by frame
+
+-- one word written; none by an index past the end
+pub record Poked (before after : List ℤ) : Type 0 where
+  pub index : ℕ
+  pub value : ℤ
+  pub words : after ≡ set before index value
+
+-- one frame
+pub data Framed (before after : List ℤ) : Type 0 where
+  kept : after ≡ before → Framed before after
+  poking : Poked before after → Framed before after
+  opening : Lent Opens before after → Framed before after
+  submission : Lent Submits before after → Framed before after
+  closing : Lent Closes before after → Framed before after
+
+-- frames, one after another
+pub data Ran (start : List ℤ) : List ℤ → Type 0 where
+  begun : Ran start start
+  next : {book after : List ℤ} → Ran start book → Framed book after → Ran start after
+
+-- ---- Words lent beside the book
+
+-- a close with the first words of a space as its statement
+pub record ClosedWith (book space bookAfter spaceAfter : List ℤ) : Type 0 where
+  pub count : ℕ
+  pub within : count ≤ length space
+  pub book-words : bookAfter ≡ closed book (take count space) .words
+  pub statement-words : take count spaceAfter ≡ closed book (take count space) .statement
+  pub beyond : drop count spaceAfter ≡ drop count space
+
+-- shares of some UEGQ
+pub record Shares (r : ℤ) (before after : List ℤ) : Type 0 where
+  pub uegq : List ℤ
+  pub words : after ≡ shareCall r uegq before .output
