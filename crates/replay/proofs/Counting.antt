@@ -2,14 +2,9 @@
 use mathlib.Core.Path.{_≡_, sym}
 use mathlib.Core.List.{List}
 use Prim.Native.Nat.{ℕ, _≤_}
-use native.Mathlib.Omega.{arith}
 use lib.ListN.{length, take}
 use lib.Seq.{length-take-le}
 
 module _ {A : Type 0} where
   pub counts : (n : ℕ) (l : List A) → n ≤ length l → (n ≤ length l) × (n ≡ length (take n l))
   counts n l h = (h, sym (length-take-le n l h))
-
-  -- of a list that kept its length
-  pub counts-kept : (n : ℕ) (l m : List A) → length m ≡ length l → n ≤ length l → (n ≤ length m) × (n ≡ length (take n m))
-  counts-kept n l m e h = counts n m (omega (arith, e, h))

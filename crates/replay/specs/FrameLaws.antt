@@ -5,13 +5,14 @@ use Prim.Native.Nat.{ℕ, _≤_}
 use native.Mathlib.Omega.{arith}
 use lib.IntN.{ℤ}
 use lib.ListN.{length, take, drop, length-append, length-drop}
-use lib.Seq.{take-at, drop-at}
+use lib.Seq.{take-at, drop-at, length-take-le}
 use Rattle.rulebook.specs.Close.{closed}
 use Rattle.rulebook.specs.Calls.{shareCall}
+use Rattle.replay.specs.Fields.{wordsIn, Listed}
 use Rattle.replay.specs.Frames.{Lent, ClosedWith, Closes, Shares}
 
--- n first words of xs came back as ys
-module _ (n : ℕ) (xs ys : List ℤ) (within : n ≤ length xs) (same : length (ys ++ drop n xs) ≡ length xs) where
+-- n first words, or bytes, of xs came back as ys
+module _ {A : Type 0} (n : ℕ) (xs ys : List A) (within : n ≤ length xs) (same : length (ys ++ drop n xs) ≡ length xs) where
   back : length ys ≡ n
   back = omega (arith, length-append ys (drop n xs), length-drop n xs)
 
@@ -21,12 +22,25 @@ module _ (n : ℕ) (xs ys : List ℤ) (within : n ≤ length xs) (same : length 
   pub beyond-back : drop n (ys ++ drop n xs) ≡ drop n xs
   beyond-back = drop-at ys (drop n xs) n back
 
+  pub counts-back : (n ≤ length (ys ++ drop n xs)) × (n ≡ length (take n (ys ++ drop n xs)))
+  counts-back = (omega arith, sym (length-take-le n (ys ++ drop n xs) (omega arith)))
+
+module _ (n : ℕ) (xs ys : List ℤ) (within : n ≤ length xs) (same : length (ys ++ drop n xs) ≡ length xs) where
   pub lent-of : (Left : List ℤ → List ℤ → Type 0) → Left (take n xs) ys → Lent Left xs (ys ++ drop n xs)
-  lent-of Left l = record { count = n; within = within; left = subst (Left (take n xs)) (sym first-back) l; beyond = beyond-back }
+  lent-of Left l =
+      record { count = n; within = within; left = subst (Left (take n xs)) (sym (first-back n xs ys within same)) l; beyond = beyond-back n xs ys within same }
 
   pub closed-with-of : (book after : List ℤ) → (after ≡ closed book (take n xs) .words) × (ys ≡ closed book (take n xs) .statement) → ClosedWith book xs after (ys ++ drop n xs)
   closed-with-of book after e =
-      record { count = n; within = within; book-words = e .0; statement-words = rw first-back (e .1); beyond = beyond-back }
+      record { count = n; within = within; book-words = e .0; statement-words = first-back n xs ys within same ∙ e .1; beyond = beyond-back n xs ys within same }
+
+  pub listed-of : (bytes : List ℕ) → ys ≡ wordsIn (length (take n xs)) bytes → Listed n xs (ys ++ drop n xs) bytes
+  listed-of bytes e =
+      record {
+        counts = counts-back n xs ys within same;
+        words = first-back n xs ys within same ∙ e ∙ ap (λ k. wordsIn k bytes) (length-take-le n xs within);
+        beyond = beyond-back n xs ys within same;
+      }
 
 -- some statement was there
 pub closes-of : {book space after spaceAfter : List ℤ} → ClosedWith book space after spaceAfter → Closes book after

@@ -1,12 +1,16 @@
 // Standard input, field by field, little-endian. What is cut off reads as zeros.
+use integer::least;
 use integer::put_word;
 ghost use mathlib.Core.Path.{_≡_};
-ghost use Prim.Native.Nat.{_+_, _≤_, _<_};
-ghost use lib.ListN.{length};
+ghost use Prim.Native.Nat.{_+_, _*_, _≤_, _<_};
+ghost use lib.ListN.{length, drop};
 ghost use Rattle.io.specs.Counts.{Counts as Counts·bytes};
 ghost use Rattle.rulebook.specs.File.{num};
 ghost use Rattle.replay.specs.Counts.{Counts};
-ghost use Rattle.replay.specs.Fields.{wordIn};
+ghost use Rattle.replay.specs.Fields.{wordIn, wordsIn, Listed};
+
+// 1,200 words.
+const LISTED_BYTES: usize = 9600;
 
 // The byte that starts a frame; 0 at the end of the input.
 pub fn command() -> u8 {
@@ -95,25 +99,38 @@ pub fn count(space: &[i64]) -> usize
     at_most(space.len())
 }
 
-// Words, as many as there is room for.
-fn fill(list: &mut [i64]) {
+// The words that the bytes spell, one after another, as many as there is room for.
+fn words_in(list: &mut [i64], bytes: &[u8])
+    requires { ⌜ 8 * length (now list) ≤ length (now bytes) ⌝ }
+    ensures { λ _. ⌜ now (list .exit) ≡ wordsIn (length (now (list .entry))) (now (bytes .entry)) ⌝ }
+{
     for i in 0..list.len() {
-        put_word(list, i, word());
+        put_word(list, i, word_in(bytes, 8 * i));
     }
 }
 
-// A list of words after its count; it stands at the start of `space`.
-pub fn list(space: &mut [i64]) -> usize
-    ensures { λ r. ⌜ Counts r (now (space .exit)) ⌝ }
+// A list of words after its count, by way of `bytes`; it stands at the start of `space`.
+fn list_by(space: &mut [i64], bytes: &mut [u8]) -> usize
+    ensures { λ r. ⌜ Listed r (now (space .entry)) (now (space .exit)) (now (bytes .exit)) ⌝ }
 {
-    let n = count(space);
-    fill(&mut space[..n]);
+    let n = at_most(least(space.len(), bytes.len() / 8));
+    let end = 8 * n;
+    io::read_full(0, &mut bytes[..end]);
+    words_in(&mut space[..n], bytes);
     n
 }
 
-// A file after its length; it stands at the start of `space`.
+// A list of words after its count, 1,200 at most; it stands at the start of `space`, the words beyond kept.
+pub fn list(space: &mut [i64]) -> usize
+    ensures { λ r. ⌜ Counts r (now (space .exit)) × (drop r (now (space .exit)) ≡ drop r (now (space .entry))) ⌝ }
+{
+    let mut bytes = [0u8; LISTED_BYTES];
+    list_by(space, &mut bytes)
+}
+
+// A file after its length; it stands at the start of `space`, the bytes beyond kept.
 pub fn file(space: &mut [u8]) -> usize
-    ensures { λ r. ⌜ Counts·bytes r (now (space .exit)) ⌝ }
+    ensures { λ r. ⌜ Counts·bytes r (now (space .exit)) × (drop r (now (space .exit)) ≡ drop r (now (space .entry))) ⌝ }
 {
     let n = at_most(space.len());
     io::read_full(0, &mut space[..n]);

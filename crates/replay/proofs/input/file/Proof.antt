@@ -1,6 +1,7 @@
--- `file` meets its contract: the space keeps its length, and a prefix has the length asked.
+-- `file` meets its contract: the bytes read come back before those beyond.
 use borrow.Author.Needs.{needs}
-use Rattle.replay.proofs.Counting.{counts, counts-kept}
+use Rattle.replay.specs.FrameLaws.{counts-back, beyond-back}
+use Rattle.replay.proofs.Counting.{counts}
 use Rattle.replay.proofs.input.file.Statement.{statement}
 use Rattle.replay.proofs.input.file.Tie as tie
 
@@ -20,7 +21,11 @@ same-length : tie.Need-same-length
 same-length c = search needs
 
 returns : tie.Need-returns
-returns c = counts-kept _ (c .before .before .before .before .before .before .args .space .now) _ (same-length c) (c .before .before .before .before .at-most .ensures)
+returns c =
+    let a = c .before .before .before .before in
+    let xs = a .before .before .args .space .now in
+    let ys = c .before .before .read-full .last .1 .0 in
+    (counts-back _ xs ys (a .at-most .ensures) (same-length c), beyond-back _ xs ys (a .at-most .ensures) (same-length c))
 
 pub file-spec : {M : Type 1} → statement M
 file-spec =
