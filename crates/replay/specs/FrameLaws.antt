@@ -9,7 +9,7 @@ use lib.Seq.{take-at, drop-at, length-take-le}
 use Rattle.rulebook.specs.Close.{closed}
 use Rattle.rulebook.specs.Calls.{shareCall}
 use Rattle.replay.specs.Fields.{wordsIn, Listed}
-use Rattle.replay.specs.Frames.{Lent, ClosedWith, Closes, Shares}
+use Rattle.replay.specs.Frames.{Lent, Submits, Closes, SubmittedFrom, ClosedWith, SharedFrom}
 
 -- n first words, or bytes, of xs came back as ys
 module _ {A : Type 0} (n : ℕ) (xs ys : List A) (within : n ≤ length xs) (same : length (ys ++ drop n xs) ≡ length xs) where
@@ -42,10 +42,22 @@ module _ (n : ℕ) (xs ys : List ℤ) (within : n ≤ length xs) (same : length 
         beyond = beyond-back n xs ys within same;
       }
 
+  pub shared-of : {r s : ℤ} (m : ℕ) (uegqs uegqsAfter : List ℤ) → r ≡ s → m ≤ length uegqsAfter → drop m uegqsAfter ≡ drop m uegqs → ys ≡ shareCall r (take m uegqsAfter) (take n xs) .output → SharedFrom s uegqs xs uegqsAfter (ys ++ drop n xs)
+  shared-of m uegqs uegqsAfter e h b w =
+      record {
+        listed = m;
+        listed-within = h;
+        listed-beyond = b;
+        count = n;
+        within = within;
+        words = first-back n xs ys within same ∙ w ∙ ap (λ x. shareCall x (take m uegqsAfter) (take n xs) .output) e;
+        beyond = beyond-back n xs ys within same;
+      }
+
 -- some statement was there
 pub closes-of : {book space after spaceAfter : List ℤ} → ClosedWith book space after spaceAfter → Closes book after
 closes-of {space = space} w = record { statement = take (w .count) space; words = w .book-words }
 
--- some UEGQ were there
-pub shares-of : {r s : ℤ} {before after : List ℤ} (uegq : List ℤ) → r ≡ s → after ≡ shareCall r uegq before .output → Shares s before after
-shares-of {before = before} uegq e w = record { uegq = uegq; words = w ∙ ap (λ x. shareCall x uegq before .output) e }
+-- some file was there
+pub submits-of : {book after : List ℤ} {space spaceAfter : List ℕ} → SubmittedFrom book after space spaceAfter → Submits book after
+submits-of {spaceAfter = spaceAfter} s = record { file = take (s .count) spaceAfter; words = s .book-words }

@@ -58,7 +58,14 @@ pub data Ran (start : List ℤ) : List ℤ → Type 0 where
   begun : Ran start start
   next : {book after : List ℤ} → Ran start book → Framed book after → Ran start after
 
--- ---- Words lent beside the book
+-- ---- Words and bytes lent beside the book
+
+-- a submission of the first bytes of a space, as they were read into it
+pub record SubmittedFrom (book bookAfter : List ℤ) (space spaceAfter : List ℕ) : Type 0 where
+  pub count : ℕ
+  pub within : count ≤ length spaceAfter
+  pub book-words : bookAfter ≡ submitted book (take count spaceAfter) .words
+  pub beyond : drop count spaceAfter ≡ drop count space
 
 -- a close with the first words of a space as its statement
 pub record ClosedWith (book space bookAfter spaceAfter : List ℤ) : Type 0 where
@@ -68,7 +75,12 @@ pub record ClosedWith (book space bookAfter spaceAfter : List ℤ) : Type 0 wher
   pub statement-words : take count spaceAfter ≡ closed book (take count space) .statement
   pub beyond : drop count spaceAfter ≡ drop count space
 
--- shares of some UEGQ
-pub record Shares (r : ℤ) (before after : List ℤ) : Type 0 where
-  pub uegq : List ℤ
-  pub words : after ≡ shareCall r uegq before .output
+-- shares of the UEGQ that were read to the start of one space, in the first words of another
+pub record SharedFrom (r : ℤ) (uegqs space uegqsAfter spaceAfter : List ℤ) : Type 0 where
+  pub listed : ℕ
+  pub listed-within : listed ≤ length uegqsAfter
+  pub listed-beyond : drop listed uegqsAfter ≡ drop listed uegqs
+  pub count : ℕ
+  pub within : count ≤ length space
+  pub words : take count spaceAfter ≡ shareCall r (take listed uegqsAfter) (take count space) .output
+  pub beyond : drop count spaceAfter ≡ drop count space

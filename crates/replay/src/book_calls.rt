@@ -9,7 +9,7 @@ ghost use mathlib.Core.Path.{_≡_};
 ghost use lib.ListN.{set};
 ghost use Rattle.rulebook.specs.Submit.{submitted};
 ghost use Rattle.rulebook.specs.Close.{closed};
-ghost use Rattle.replay.specs.Frames.{Lent, Opens, Submits, Closes, ClosedWith, Poked};
+ghost use Rattle.replay.specs.Frames.{Lent, Opens, Submits, Closes, SubmittedFrom, ClosedWith, Poked};
 
 // Three tranches, four facilities, residual and NCC rows of a day of 32 accounts are fewer.
 const FILE_BYTES: usize = 131072;
@@ -69,7 +69,7 @@ fn submit_lent(lent: &mut [i64], file: &[u8])
 }
 
 fn submit_from(lent: &mut [i64], space: &mut [u8])
-    ensures { λ _. ⌜ Submits (now (lent .entry)) (now (lent .exit)) ⌝ }
+    ensures { λ _. ⌜ SubmittedFrom (now (lent .entry)) (now (lent .exit)) (now (space .entry)) (now (space .exit)) ⌝ }
 {
     let n = input::file(space);
     submit_lent(lent, &space[..n]);

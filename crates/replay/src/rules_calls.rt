@@ -6,7 +6,7 @@ use robijan::rules_calls::robijan_share;
 use robijan::rules_calls::robijan_tranche;
 ghost use mathlib.Core.Path.{_≡_};
 ghost use Rattle.rulebook.specs.Calls.{shareCall};
-ghost use Rattle.replay.specs.Frames.{Lent, Shares};
+ghost use Rattle.replay.specs.Frames.{SharedFrom};
 
 const LIST_WORDS: usize = 40;
 
@@ -44,7 +44,7 @@ fn share_to(r: i64, uegq: &[i64], lent: &mut [i64])
 }
 
 fn share_from(r: i64, uegqs: &mut [i64], space: &mut [i64])
-    ensures { λ _. ⌜ Lent (Shares r) (now (space .entry)) (now (space .exit)) ⌝ }
+    ensures { λ _. ⌜ SharedFrom r (now (uegqs .entry)) (now (space .entry)) (now (uegqs .exit)) (now (space .exit)) ⌝ }
 {
     let m = input::list(uegqs);
     let n = input::count(space);

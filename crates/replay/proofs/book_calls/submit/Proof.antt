@@ -1,6 +1,6 @@
 -- `submit` meets its contract: the words lent come back before those beyond.
 use Rattle.replay.specs.Frames.{Submits}
-use Rattle.replay.specs.FrameLaws.{lent-of}
+use Rattle.replay.specs.FrameLaws.{lent-of, submits-of}
 use borrow.Author.Needs.{needs}
 use Rattle.replay.proofs.book_calls.submit.Statement.{statement}
 use Rattle.replay.proofs.book_calls.submit.Tie as tie
@@ -26,7 +26,7 @@ same-length c = search needs
 returns : tie.Need-returns
 returns c =
     let s = c .before .before .before .before .before in
-    lent-of _ (s .before .before .args .book .now) _ (s .count .ensures .0) (same-length c) Submits (c .before .before .submit-from .ensures)
+    lent-of _ (s .before .before .args .book .now) _ (s .count .ensures .0) (same-length c) Submits (submits-of (c .before .before .submit-from .ensures))
 
 pub submit-spec : {M : Type 1} → statement M
 submit-spec =

@@ -1,8 +1,7 @@
 -- `share_from` meets its contract: the words lent come back before those beyond.
 use mir.Syntax.{w64}
 use mir.ValLaws.{toZ-ofZ}
-use Rattle.replay.specs.Frames.{Shares}
-use Rattle.replay.specs.FrameLaws.{lent-of, shares-of}
+use Rattle.replay.specs.FrameLaws.{shared-of}
 use borrow.Author.Needs.{needs}
 use Rattle.replay.proofs.rules_calls.share_from.Statement.{statement}
 use Rattle.replay.proofs.rules_calls.share_from.Tie as tie
@@ -38,8 +37,8 @@ returns : tie.Need-returns
 returns c =
     let n = c .before .before .before .before in
     let s = n .before .before .before .before .before in
-    lent-of _ (s .args .space .now) _ (n .count .ensures .0) (same-length-2 c) (Shares (s .args .r))
-    (shares-of _ (toZ-ofZ w64 (s .args .r) (s .fits .r)) (c .before .share-to .ensures))
+    let m = n .before .before .before in
+    shared-of _ (s .args .space .now) _ (n .count .ensures .0) (same-length-2 c) _ _ _ (toZ-ofZ w64 (s .args .r) (s .fits .r)) (m .list .ensures .0 .0) (m .list .ensures .1) (c .before .share-to .ensures)
 
 pub share-from-spec : {M : Type 1} → statement M
 share-from-spec =
