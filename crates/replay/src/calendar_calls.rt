@@ -9,6 +9,8 @@ use robijan::calendar_calls::robijan_final_statement;
 use robijan::calendar_calls::robijan_residual_due;
 use robijan::calendar_calls::robijan_statement_day;
 use robijan::calendar_calls::robijan_weekday;
+ghost use mathlib.Core.Path.{_≡_};
+ghost use Rattle.replay.specs.Commands.{calendarCommand};
 
 const HOLIDAYS: usize = 1200;
 
@@ -111,7 +113,9 @@ fn month_to_due() {
 }
 
 // A calendar call; false for a byte that is none.
-pub fn calendar_call(command: u8) -> bool {
+pub fn calendar_call(command: u8) -> bool
+    ensures { λ r. ⌜ r ≡ calendarCommand command ⌝ }
+{
     match command {
         b'd' => day_to_date(),
         b'y' => date_to_day(),

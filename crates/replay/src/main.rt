@@ -27,6 +27,8 @@ use calendar_calls::calendar_call;
 use rules_calls::price;
 use rules_calls::share;
 use rules_calls::tranche;
+ghost use mathlib.Core.Path.{_≡_};
+ghost use Rattle.replay.specs.Commands.{bookless};
 ghost use Rattle.replay.specs.Frames.{Framed, Ran};
 
 // The words of the one book: as many as N = 4, L = 75, H = 92 take, and some beyond. The largest book of all, 6,188,672 words, is more than
@@ -34,7 +36,9 @@ ghost use Rattle.replay.specs.Frames.{Framed, Ran};
 const BOOK_WORDS: usize = 802000;
 
 // A call on no book; false for a byte that is none.
-fn call_without_book(command: u8) -> bool {
+fn call_without_book(command: u8) -> bool
+    ensures { λ r. ⌜ r ≡ bookless command ⌝ }
+{
     match command {
         b'V' => price(),
         b'R' => share(),

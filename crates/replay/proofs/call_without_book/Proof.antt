@@ -1,0 +1,50 @@
+-- `call_without_book` meets its contract: each arm is one of the bytes, and the rest are the calendar's.
+use borrow.Author.Tests.{ne-eqb}
+use Rattle.replay.specs.Commands.{bookless}
+use borrow.Author.Needs.{needs}
+use Rattle.replay.proofs.call_without_book.Statement.{statement}
+use Rattle.replay.proofs.call_without_book.Tie as tie
+
+price-requires : tie.Need-price-requires
+price-requires c κs = search needs
+
+share-requires : tie.Need-share-requires
+share-requires c κs = search needs
+
+tranche-requires : tie.Need-tranche-requires
+tranche-requires c κs = search needs
+
+calendar-call-requires : tie.Need-calendar-call-requires
+calendar-call-requires c κs = search needs
+
+returns : tie.Need-returns
+unfolding bookless
+returns c =
+    let m = c .before .before .args .command in
+    let n = c .before .match .rest in
+    rw (ne-eqb m 86 (n .0 .0 .1), ne-eqb m 82 (n .0 .1), ne-eqb m 84 (n .1)) (c .calendar-call .ensures)
+
+returns-2 : tie.Need-returns-2
+unfolding bookless
+returns-2 c = rw (c .before .match .keys1)
+
+returns-3 : tie.Need-returns-3
+unfolding bookless
+returns-3 c = rw (c .before .match .keys2)
+
+returns-4 : tie.Need-returns-4
+unfolding bookless
+returns-4 c = rw (c .before .match .keys3)
+
+pub call-without-book-spec : {M : Type 1} → statement M
+call-without-book-spec =
+    tie.close
+    (tie.spec
+    price-requires
+    share-requires
+    tranche-requires
+    calendar-call-requires
+    returns
+    returns-2
+    returns-3
+    returns-4)
