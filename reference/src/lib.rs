@@ -6,9 +6,9 @@
 //!
 //! `history` tells a list of calls from their arguments and answers alone,
 //! `generate` makes cases from a fixed seed, `checker` runs one against the
-//! other, and `variant` holds the wrong books which the cases have to show.
-//! `frames` and `player` are the form of the test program `replay`'s input and
-//! output.
+//! other, and `variant` holds the wrong books and programs which the cases have
+//! to show. `frames` and `player` are the form of the test program `replay`'s
+//! input and output, `stored` has all the cases that are kept as files.
 
 pub mod book;
 pub mod calendar;
@@ -23,6 +23,7 @@ pub mod player;
 pub mod reference_price;
 pub mod settle;
 pub mod share;
+pub mod stored;
 pub mod submission;
 pub mod tranche;
 pub mod units;

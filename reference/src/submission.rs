@@ -22,16 +22,19 @@ pub fn submit_in(context: Context, book: &mut [i64], file: &[u8]) -> Answer {
     if context.is(Variant::RefusesEverything) {
         return Answer::at(NOT_WELL_FORMED, 0);
     }
-    let rows = match judge_file(&shape, file) {
-        Ok(rows) => rows,
-        Err(refusal) => return refusal,
+    let mut rows = Vec::new();
+    let judged = judge_file(&shape, file, &mut rows);
+    let stored = match context.variant {
+        Variant::StoresNothing => false,
+        Variant::StoresRowsOfRefusedFile => true,
+        _ => judged.is_ok(),
     };
-    if !context.is(Variant::StoresNothing) {
+    if stored {
         for row in rows {
             store(book, &shape, &row, &file[row.values.clone()]);
         }
     }
-    Answer::ACCEPTED
+    judged.err().unwrap_or(Answer::ACCEPTED)
 }
 
 #[derive(Clone, Copy)]
@@ -69,10 +72,10 @@ struct Row {
     values: Range<usize>,
 }
 
-/// The fields in file order; a refusal names the first one at fault.
-fn judge_file(shape: &Shape, file: &[u8]) -> Result<Vec<Row>, Answer> {
+/// The fields in file order; a refusal names the first one at fault, and
+/// `rows` has those before it.
+fn judge_file(shape: &Shape, file: &[u8], rows: &mut Vec<Row>) -> Result<(), Answer> {
     let mut reader = Reader { file, position: 0 };
-    let mut rows = Vec::new();
     for section in SECTIONS {
         // By slot, a bit for each account whose row was given.
         let mut given = [0_u32; MOST_SLOTS];
@@ -83,7 +86,7 @@ fn judge_file(shape: &Shape, file: &[u8]) -> Result<Vec<Row>, Answer> {
     if reader.position < file.len() {
         return Err(Answer::at(TRAILING_BYTES, reader.position));
     }
-    Ok(rows)
+    Ok(())
 }
 
 fn judge_row(

@@ -1,9 +1,12 @@
-//! Wrong ways to keep the book. The generated cases must show each of them.
+//! Wrong ways to keep the book and to run `settle`. The stored cases must show
+//! each of them.
 
 #[derive(Clone, Copy, Debug, Default, PartialEq, Eq)]
 pub enum Variant {
     #[default]
     Right,
+
+    // The book.
     /// Rounds each interval's amount to cents, not the day's sum.
     RoundsEachInterval,
     /// Weighs the reference price with IEQ itself, negative ones too.
@@ -16,6 +19,8 @@ pub enum Variant {
     PostsZerosAfterFirstDay,
     /// Accepts files and stores none of their rows.
     StoresNothing,
+    /// Stores the rows before the one that a file is refused for.
+    StoresRowsOfRefusedFile,
     /// Reports a datum absent without searching the flags.
     SaysAbsentUnsearched,
     /// Counts 48 residuals an account at every close.
@@ -23,20 +28,188 @@ pub enum Variant {
     /// Writes the first day's statement only: lent again, it stands for all days.
     OneStatementForAllDays,
     RefusesEverything,
+
+    // `settle`: its opening.
+    ExchangesLagAndHorizon,
+    ExchangesAccountsAndLag,
+    ReadsFirstDayBigEndian,
+    /// First days above 32,767 are negative.
+    ReadsFirstDaySigned,
+    BookOf3000Words,
+    BookOf5071Words,
+    /// N = 1 with L + H = 4 fits.
+    BookOf5448Words,
+    BookOfAnySize,
+    /// Performs the items on a book that is all zero.
+    ReadsOnAfterRefusedOpening,
+    SaysBadAtRefusedOpening,
+    /// Takes the opening's missing bytes for zeros.
+    FillsCutOpening,
+    SilentOnEmptyInput,
+
+    // `settle`: its items.
+    EndsAfterFirstItem,
+    EndsAtRefusedSubmission,
+    EndsAtRefusedClose,
+    EndsWithFinishedBook,
+    IgnoresUnknownCommands,
+    TakesLowerCaseCommands,
+    SkipsLineFeeds,
+    ReadsOnly65536Bytes,
+    /// Goes on at the byte after the position that `bad` names.
+    GoesOnAfterBad,
+    /// Ends without a line at an item cut short.
+    IgnoresCutItem,
+    /// Submits as much of a cut file as there is.
+    SubmitsCutFile,
+    /// Goes on at the byte that a file was refused for.
+    GoesOnInRefusedFile,
+
+    // `settle`: a file's length.
+    LongestFileOf1000,
+    LongestFileOf16383,
+    LongestFileOf16385,
+    FilesOfAnyLength,
+    /// Submits 16,384 bytes of a longer file and goes on after them.
+    CutsLongFile,
+    ReadsLengthBigEndian,
+    /// Takes lengths above 32,767, being negative, for 0.
+    ReadsLengthSigned,
+    /// The length counts its own two bytes.
+    LengthCountsItself,
+    SaysBadAtEmptyFile,
+    AcceptsEmptyFile,
+
+    // `settle`: the position after `bad`.
+    BadWithoutPosition,
+    /// The items' positions do not advance.
+    BadAtFirstItem,
+    BadAtSubmitByte,
+    /// Names a submission by its file's first byte.
+    BadAtFile,
+    BadAtInputEnd,
+    /// Counts positions from the first byte after the opening.
+    CountsFromAfterOpening,
+    CountsFromOne,
+    CountsItems,
+    PositionsOf16Bits,
+    /// Prints nothing but `bad` for an input with a bad item.
+    DropsLinesBeforeBad,
+
+    // `settle`: its other lines.
+    OpensWithoutPosition,
+    MisspellsSubmit,
+    SubmitsWithoutPosition,
+    PrintsPositionBeforeNumber,
+    /// Counts a submission's position from the input's start.
+    PrintsPositionInInput,
+    RefusesCloseWithoutPosition,
+    ClosesWithPosition,
+    PrintsCountBeforeDay,
+    OmitsCountOfZero,
+    PrintsNextDay,
+    OmitsMsslAmount,
+    PrintsMsslAmountFirst,
+    /// The MSSL's amount is the sum, not minus the sum.
+    PrintsMsslAmountUnnegated,
+    /// Prints the amounts of 32 accounts.
+    PrintsWholeStatement,
+    PrintsAmountsUnsigned,
+    PrintsAmountsOf32Bits,
+    PrintsBalances,
+    /// Has no room for the MSSL's amount where N = 2.
+    StatementOfTwoWords,
+    EndsLinesWithSpace,
+    OmitsLastLineFeed,
 }
 
-pub const WRONG: [Variant; 10] = [
+/// The wrong books.
+pub const WRONG_BOOKS: [Variant; 11] = [
     Variant::RoundsEachInterval,
     Variant::WeighsNegativeIeq,
     Variant::PricesResidualAtClosingDay,
     Variant::LoadsResidualWithClosingDayHedges,
     Variant::PostsZerosAfterFirstDay,
     Variant::StoresNothing,
+    Variant::StoresRowsOfRefusedFile,
     Variant::SaysAbsentUnsearched,
     Variant::InventsResidualCount,
     Variant::OneStatementForAllDays,
     Variant::RefusesEverything,
 ];
+
+/// The wrong programs `settle`, which keep the right book.
+pub const WRONG_SETTLES: [Variant; 64] = [
+    Variant::ExchangesLagAndHorizon,
+    Variant::ExchangesAccountsAndLag,
+    Variant::ReadsFirstDayBigEndian,
+    Variant::ReadsFirstDaySigned,
+    Variant::BookOf3000Words,
+    Variant::BookOf5071Words,
+    Variant::BookOf5448Words,
+    Variant::BookOfAnySize,
+    Variant::ReadsOnAfterRefusedOpening,
+    Variant::SaysBadAtRefusedOpening,
+    Variant::FillsCutOpening,
+    Variant::SilentOnEmptyInput,
+    Variant::EndsAfterFirstItem,
+    Variant::EndsAtRefusedSubmission,
+    Variant::EndsAtRefusedClose,
+    Variant::EndsWithFinishedBook,
+    Variant::IgnoresUnknownCommands,
+    Variant::TakesLowerCaseCommands,
+    Variant::SkipsLineFeeds,
+    Variant::ReadsOnly65536Bytes,
+    Variant::GoesOnAfterBad,
+    Variant::IgnoresCutItem,
+    Variant::SubmitsCutFile,
+    Variant::GoesOnInRefusedFile,
+    Variant::LongestFileOf1000,
+    Variant::LongestFileOf16383,
+    Variant::LongestFileOf16385,
+    Variant::FilesOfAnyLength,
+    Variant::CutsLongFile,
+    Variant::ReadsLengthBigEndian,
+    Variant::ReadsLengthSigned,
+    Variant::LengthCountsItself,
+    Variant::SaysBadAtEmptyFile,
+    Variant::AcceptsEmptyFile,
+    Variant::BadWithoutPosition,
+    Variant::BadAtFirstItem,
+    Variant::BadAtSubmitByte,
+    Variant::BadAtFile,
+    Variant::BadAtInputEnd,
+    Variant::CountsFromAfterOpening,
+    Variant::CountsFromOne,
+    Variant::CountsItems,
+    Variant::PositionsOf16Bits,
+    Variant::DropsLinesBeforeBad,
+    Variant::OpensWithoutPosition,
+    Variant::MisspellsSubmit,
+    Variant::SubmitsWithoutPosition,
+    Variant::PrintsPositionBeforeNumber,
+    Variant::PrintsPositionInInput,
+    Variant::RefusesCloseWithoutPosition,
+    Variant::ClosesWithPosition,
+    Variant::PrintsCountBeforeDay,
+    Variant::OmitsCountOfZero,
+    Variant::PrintsNextDay,
+    Variant::OmitsMsslAmount,
+    Variant::PrintsMsslAmountFirst,
+    Variant::PrintsMsslAmountUnnegated,
+    Variant::PrintsWholeStatement,
+    Variant::PrintsAmountsUnsigned,
+    Variant::PrintsAmountsOf32Bits,
+    Variant::PrintsBalances,
+    Variant::StatementOfTwoWords,
+    Variant::EndsLinesWithSpace,
+    Variant::OmitsLastLineFeed,
+];
+
+/// All wrong variants.
+pub fn wrong() -> impl Iterator<Item = Variant> {
+    WRONG_BOOKS.into_iter().chain(WRONG_SETTLES)
+}
 
 /// What a call is told beside its arguments: which variant of the book it keeps.
 #[derive(Clone, Copy, Debug, Default)]

@@ -9,7 +9,7 @@ use reference::reference_price::{reference_price, reference_price_in};
 use reference::settle::{settle, settle_in};
 use reference::share::share_in;
 use reference::tranche::tranche_in;
-use reference::variant::{Context, Variant, WRONG};
+use reference::variant::{Context, Variant, WRONG_BOOKS};
 use std::collections::BTreeSet;
 
 const LISTS: usize = 60;
@@ -42,11 +42,10 @@ fn the_right_book_differs_nowhere() {
 
 #[test]
 fn each_wrong_book_differs_and_is_rejected() {
-    for variant in WRONG {
+    for variant in WRONG_BOOKS {
         let (breaches, differing) = shown(variant);
         assert!(differing > 0, "{variant:?}");
         let expected = match variant {
-            Variant::Right => unreachable!(),
             Variant::RoundsEachInterval
             | Variant::WeighsNegativeIeq
             | Variant::PricesResidualAtClosingDay
@@ -54,8 +53,10 @@ fn each_wrong_book_differs_and_is_rejected() {
             | Variant::PostsZerosAfterFirstDay => Some(Breach::Balance),
             Variant::StoresNothing | Variant::SaysAbsentUnsearched => Some(Breach::MissingDatum),
             Variant::InventsResidualCount => Some(Breach::ResidualCount),
+            Variant::StoresRowsOfRefusedFile => Some(Breach::RefusalChanged),
             // The list's theorem says nothing of statements nor of refusals.
             Variant::OneStatementForAllDays | Variant::RefusesEverything => None,
+            _ => unreachable!("no wrong book"),
         };
         match expected {
             Some(breach) => assert!(breaches.contains(&breach), "{variant:?}: {breaches:?}"),
@@ -75,7 +76,7 @@ fn each_wrong_book_differs_and_is_rejected() {
 
 #[test]
 fn each_wrong_book_is_shown_by_settle() {
-    for variant in WRONG {
+    for variant in WRONG_BOOKS {
         let mut rng = Rng::new(0x5E77);
         let differs = (0..200).any(|_| {
             let (input, _) = input(&mut rng);

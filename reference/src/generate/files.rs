@@ -158,6 +158,30 @@ impl Draft {
     }
 }
 
+/// A row with the same values in each interval.
+pub fn even_row(key: Key, count: u8, interval: &[i64]) -> DraftRow {
+    DraftRow {
+        key,
+        count,
+        values: interval.repeat(48),
+    }
+}
+
+/// The row without tender tranches, or with one facility only.
+pub fn slim(row: DraftRow) -> DraftRow {
+    let (kept, width) = match row.key.0 {
+        VESTING => (0, 2 + 2 * usize::from(row.count)),
+        METER => (1, 2 * usize::from(row.count)),
+        _ => return row,
+    };
+    let pairs = row.values.chunks_exact(width).flat_map(|pairs| &pairs[..2]);
+    DraftRow {
+        key: row.key,
+        count: kept,
+        values: pairs.copied().collect(),
+    }
+}
+
 fn draft_row(rng: &mut Rng, style: Style, accounts: usize, key: Key) -> DraftRow {
     let section = key.0;
     let count = match section {

@@ -1,9 +1,14 @@
-//! Inputs of `settle` with the output that each must give.
+//! Inputs of `settle`, some with the output that each must give.
 
+use super::files::{Draft, DraftRow};
 use super::lists::{list_on, Call};
 use super::Rng;
 use crate::history::{History, Opening};
-use crate::numbers::ACCEPTED;
+use crate::numbers::{Answer, ACCEPTED};
+use crate::settle::{CLOSE, SUBMIT};
+
+/// The books that fit 5,072 words: N, L and H.
+pub const SHAPES: [(u64, u64, u64); 4] = [(1, 1, 1), (1, 1, 2), (1, 2, 1), (2, 1, 1)];
 
 /// The opening bytes of `settle`.
 pub fn opening_bytes(opening: Opening) -> Vec<u8> {
@@ -18,16 +23,97 @@ pub fn opening_bytes(opening: Opening) -> Vec<u8> {
 }
 
 pub fn submit_bytes(file: &[u8]) -> Vec<u8> {
-    let mut bytes = vec![0x53];
+    let mut bytes = vec![SUBMIT];
     bytes.extend((file.len() as u16).to_le_bytes());
     bytes.extend(file);
     bytes
 }
 
+/// An input in the making, of any bytes.
+#[derive(Clone)]
+pub struct Input(Vec<u8>);
+
+impl Input {
+    pub fn open(accounts: u8, lag: u8, horizon: u8, first_day: u16) -> Input {
+        let [low, high] = first_day.to_le_bytes();
+        Input(vec![accounts, lag, horizon, low, high])
+    }
+
+    pub fn close(self) -> Input {
+        self.closes(1)
+    }
+
+    pub fn closes(self, count: usize) -> Input {
+        self.bytes(&vec![CLOSE; count])
+    }
+
+    pub fn submit(self, file: &[u8]) -> Input {
+        self.bytes(&submit_bytes(file))
+    }
+
+    pub fn submit_rows(self, rows: &[DraftRow]) -> Input {
+        let rows = rows.to_vec();
+        self.submit(&Draft { rows }.bytes())
+    }
+
+    pub fn bytes(mut self, bytes: &[u8]) -> Input {
+        self.0.extend(bytes);
+        self
+    }
+
+    pub fn finish(self) -> Vec<u8> {
+        self.0
+    }
+}
+
+/// An input with the output that its history tells.
+pub struct Told {
+    pub input: Vec<u8>,
+    pub output: String,
+    pub history: History,
+}
+
+impl Told {
+    /// Starts with an opening that is accepted.
+    pub fn open(opening: Opening) -> Told {
+        Told {
+            input: opening_bytes(opening),
+            output: String::from("open 0 0\n"),
+            history: History::new(opening),
+        }
+    }
+
+    pub fn submit(&mut self, file: &[u8], expected: Answer) {
+        self.input.extend(submit_bytes(file));
+        self.history.submitted(file, expected.number);
+        self.output += &format!("submit {} {}\n", expected.number, expected.position);
+    }
+
+    pub fn close(&mut self) {
+        self.input.push(CLOSE);
+        let words = self.history.accounts() + 1;
+        let (answer, cents) = self.history.expected_close(words);
+        self.history.closed(words, &answer);
+        if answer.number == ACCEPTED {
+            self.output += &format!("close 0 {} {}", answer.day, answer.residual_count);
+            let cents = cents.iter().map(|cents| format!(" {cents}"));
+            self.output.extend(cents);
+            self.output += "\n";
+        } else {
+            self.output += &format!("close {} {}\n", answer.number, answer.position);
+        }
+    }
+
+    /// Ends with an item that is bad, what follows not being read.
+    fn bad(&mut self, bytes: &[u8], position: usize) {
+        self.input.extend(bytes);
+        self.output += &format!("bad {position}\n");
+    }
+}
+
 /// An input of some commands, perhaps with a bad ending, and its output.
 pub fn input(rng: &mut Rng) -> (Vec<u8>, String) {
-    // The books that fit 5,072 words.
-    let (accounts, lag, horizon) = rng.pick(&[(1, 1, 1), (1, 1, 2), (1, 2, 1), (2, 1, 1)]);
+    let (accounts, lag, horizon) = rng.pick(&SHAPES);
     let first_day = rng.pick(&[9_497, 20_000, 36_521, 36_524]);
     let opening = Opening {
         accounts,
@@ -35,66 +121,41 @@ pub fn input(rng: &mut Rng) -> (Vec<u8>, String) {
         horizon,
         first_day,
     };
-    let mut input = opening_bytes(opening);
-    let mut output = String::from("open 0 0\n");
-    let mut history = History::new(opening);
+    let mut told = Told::open(opening);
     let steps = rng.below(30);
     for call in list_on(rng, opening, steps).calls {
         match call {
-            Call::Submit { file, expected } => {
-                input.extend(submit_bytes(&file));
-                history.submitted(&file, expected.number);
-                output += &format!("submit {} {}\n", expected.number, expected.position);
-            }
+            Call::Submit { file, expected } => told.submit(&file, expected),
+            // The program has room for every statement.
             Call::Close { statement_words } if statement_words <= accounts as usize => {}
-            Call::Close { statement_words } => {
-                input.push(0x43);
-                let (answer, cents) = history.expected_close(statement_words);
-                history.closed(statement_words, &answer);
-                if answer.number == ACCEPTED {
-                    output += &format!("close 0 {} {}", answer.day, answer.residual_count);
-                    output.extend(cents.iter().map(|cents| format!(" {cents}")));
-                    output += "\n";
-                } else {
-                    output += &format!("close {} {}\n", answer.number, answer.position);
-                }
-            }
+            Call::Close { .. } => told.close(),
         }
     }
-    end(rng, &mut input, &mut output);
-    (input, output)
+    end(rng, &mut told);
+    (told.input, told.output)
 }
 
 /// Ends the input well, or with an item that is bad.
-fn end(rng: &mut Rng, input: &mut Vec<u8>, output: &mut String) {
-    let at = input.len();
-    let bad = match rng.below(6) {
+fn end(rng: &mut Rng, told: &mut Told) {
+    let at = told.input.len();
+    match rng.below(6) {
         0 => {
-            input.push(rng.pick(&[0, 0x42, 0x44, 0x52, 0x54, 0x63, 0x73, 255]));
-            input.extend([0x43, 0x43]);
-            at
+            let unknown = rng.pick(&[0, 0x42, 0x44, 0x52, 0x54, 0x63, 0x73, 255]);
+            told.bad(&[unknown, CLOSE, CLOSE], at);
         }
         // A length cut short.
         1 => {
-            input.extend([0x53, 8]);
-            input.truncate(at + 1 + rng.below(2));
-            at + 1
+            let there = 1 + rng.below(2);
+            told.bad(&[SUBMIT, 8][..there], at + 1);
         }
         // A file cut short.
         2 => {
-            let length = rng.between(1, 16_384) as u16;
-            input.push(0x53);
-            input.extend(length.to_le_bytes());
-            let there = rng.below(length.into());
-            input.extend(vec![0; there]);
-            at + 1
+            let length = rng.between(1, 16_384) as usize;
+            let there = rng.below(length);
+            told.bad(&submit_bytes(&vec![0; length])[..3 + there], at + 1);
         }
         // A length above the longest, its file there.
-        3 => {
-            input.extend(submit_bytes(&vec![0; 16_385]));
-            at + 1
-        }
-        _ => return,
-    };
-    *output += &format!("bad {bad}\n");
+        3 => told.bad(&submit_bytes(&[0; 16_385]), at + 1),
+        _ => {}
+    }
 }

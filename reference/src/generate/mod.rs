@@ -5,6 +5,8 @@ pub mod cases;
 pub mod files;
 pub mod inputs;
 pub mod lists;
+pub mod runs;
+pub mod settle_inputs;
 
 /// The splitmix64 generator.
 pub struct Rng(u64);

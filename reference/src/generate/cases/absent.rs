@@ -1,9 +1,9 @@
 //! Closes that lack a datum, at every interval and account of the search, and
 //! books that lack a row of a closed day.
 
-use super::desk::{even_row, opening, Desk};
+use super::desk::{opening, Desk};
 use super::Script;
-use crate::generate::files::{DraftRow, Style};
+use crate::generate::files::{even_row, DraftRow, Style};
 use crate::history::{Key, METER, NCC, RESIDUAL, VESTING};
 
 pub(super) fn write(script: &mut Script) {

@@ -1,10 +1,10 @@
 //! Closes that are accepted: half cents, revisions, books of uneven intervals,
 //! the last days.
 
-use super::desk::{even_row, opening, Desk};
+use super::desk::{opening, Desk};
 use super::Script;
 use crate::generate::books::{word_case, DAY_BOUND};
-use crate::generate::files::Style;
+use crate::generate::files::{even_row, Style};
 use crate::history::{METER, NCC, RESIDUAL, VESTING};
 
 pub(super) fn write(script: &mut Script) {

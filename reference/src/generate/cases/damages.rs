@@ -1,8 +1,8 @@
 //! Files with a single fault, at fields all over the file.
 
-use super::desk::{opening, slim, Desk};
+use super::desk::{opening, Desk};
 use super::Script;
-use crate::generate::files::{every_damage, Draft, Style};
+use crate::generate::files::{every_damage, slim, Draft, Style};
 use crate::history::{Key, METER, NCC, RESIDUAL, VESTING};
 
 /// Faults tried of each file.

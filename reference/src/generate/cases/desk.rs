@@ -3,8 +3,8 @@
 use super::Script;
 use crate::book::size;
 use crate::frames::Frame;
-use crate::generate::files::{Draft, DraftRow, Style};
-use crate::history::{History, Key, Opening, METER, VESTING};
+use crate::generate::files::{slim, Draft, DraftRow, Style};
+use crate::history::{History, Key, Opening};
 use crate::numbers::ACCEPTED;
 
 pub(super) struct Desk<'a> {
@@ -22,30 +22,6 @@ pub(super) fn opening(accounts: u64, lag: u64, horizon: u64, first_day: u64) -> 
         lag,
         horizon,
         first_day,
-    }
-}
-
-/// A row with the same values in each interval.
-pub(super) fn even_row(key: Key, count: u8, interval: &[i64]) -> DraftRow {
-    DraftRow {
-        key,
-        count,
-        values: interval.repeat(48),
-    }
-}
-
-/// The row without tender tranches, or with one facility only.
-pub(super) fn slim(row: DraftRow) -> DraftRow {
-    let (kept, width) = match row.key.0 {
-        VESTING => (0, 2 + 2 * usize::from(row.count)),
-        METER => (1, 2 * usize::from(row.count)),
-        _ => return row,
-    };
-    let pairs = row.values.chunks_exact(width).flat_map(|pairs| &pairs[..2]);
-    DraftRow {
-        key: row.key,
-        count: kept,
-        values: pairs.copied().collect(),
     }
 }
 

@@ -1,9 +1,9 @@
 //! Every example and figure of the specification that a call shows.
 
-use super::desk::{even_row, opening, Desk};
+use super::desk::{opening, Desk};
 use super::Script;
 use crate::frames::Frame;
-use crate::generate::files::{Draft, Style};
+use crate::generate::files::{even_row, Draft, Style};
 use crate::history::{METER, VESTING};
 
 const WORDS: usize = 5_072;

@@ -1,8 +1,8 @@
 //! Large books: 32 accounts, a lag of 75 days, a horizon of 92.
 
-use super::desk::{even_row, opening, Desk};
+use super::desk::{opening, Desk};
 use super::Script;
-use crate::generate::files::Style;
+use crate::generate::files::{even_row, Style};
 use crate::history::{Key, METER, NCC, RESIDUAL, VESTING};
 
 pub(super) fn write(script: &mut Script) {

@@ -1,10 +1,10 @@
 //! Books with a single word off, and words that are no book.
 
-use super::desk::{even_row, opening, Desk};
+use super::desk::{opening, Desk};
 use super::Script;
 use crate::frames::Frame;
 use crate::generate::books::word_case;
-use crate::generate::files::{Draft, STYLES};
+use crate::generate::files::{even_row, Draft, STYLES};
 use crate::history::{METER, NCC, RESIDUAL, VESTING};
 
 const EIGHT_ZEROS: [u8; 8] = [0; 8];
