@@ -20,7 +20,7 @@ same-length : tie.Need-same-length
 same-length c = search needs
 
 returns : tie.Need-returns
-returns c = 
+returns c =
     let m = c .before .before in
     let e = m .read-on3 .ensures in
     let l = same-length c in

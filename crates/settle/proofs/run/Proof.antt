@@ -1,16 +1,19 @@
--- `run` is safe and ends: each turn's position is further on than the last one's.
+-- `run` meets its contract: it stands at a turn that it reached. It ends: each turn's position is further on than the last one's.
 use mathlib.Core.Path.{_≡_}
 use Prim.Native.Nat.{_-_, _≤_, _<_}
 use lib.ListN.{length}
 use borrow.Author.Tests.{ltb-true}
 use native.Mathlib.Omega.{arith}
+use Rattle.interpreter.specs.Interpreter.{newWords}
+use Rattle.interpreter.specs.Running.{Stands}
+use Rattle.interpreter.specs.RunningLaws.{stands-begun, stands-next}
 use borrow.Author.Needs.{needs}
 use Rattle.settle.proofs.run.Statement.{statement}
 use Rattle.settle.proofs.run.Tie as tie
 
 abbrev Inv-loop : tie.InvT-loop
 Inv-loop book₀ opening bytes₀ line₀ turn₀ book bytes line turn =
-    (length book ≡ length book₀) × (length bytes ≡ length bytes₀) × (length line ≡ length line₀) × (turn .end ≤ length line) × (turn .accounts ≤ 32)
+    (length book ≡ length book₀) × (length bytes ≡ length bytes₀) × (length line ≡ length line₀) × (turn .end ≤ length line) × (turn .accounts ≤ 32) × Stands newWords opening turn book line
 
 abbrev μ-loop : tie.MeasureT-loop
 μ-loop book₀ opening bytes₀ line₀ turn₀ book bytes line turn = 9000000000000000000 - turn .position
@@ -23,7 +26,10 @@ begin-requires : tie.Need-begin-requires Inv-loop μ-loop
 begin-requires c κs = search needs
 
 loop-holds : tie.Need-loop-holds Inv-loop μ-loop
-loop-holds c = search needs
+loop-holds c =
+    let b = c .before .before .before in
+    let g = b .before .before .before .before .before .before in
+    (search needs, search needs, search needs, search needs, search needs, stands-begun (rw (g .pre .0) at (b .begin .ensures)))
 
 print-requires : tie.Need-print-requires Inv-loop μ-loop
 print-requires c κs = search needs
@@ -38,10 +44,15 @@ step-requires c κs =
 loop-less : tie.Need-loop-less Inv-loop μ-loop
 loop-less c =
     let s = c .before .before .before .before .before in
-    omega (arith, place (s .before .before .before .before), s .step .ensures .2)
+    omega (arith, place (s .before .before .before .before), s .step .ensures .done .further)
 
 loop-again : tie.Need-loop-again Inv-loop μ-loop
-loop-again c = search needs
+loop-again c =
+    let s = c .before .before .before .before .before in
+    let t = s .before .before .before .before in
+    let l = t .before .before .before .before .before .before in
+    let d = s .step .ensures .done in
+    (search needs, search needs, search needs, d .printed .within, d .few, stands-next (l .loop .inv .5) (t .before .before .if2 .taken) (s .step .ensures))
 
 same-length : tie.Need-same-length Inv-loop μ-loop
 same-length c = search needs

@@ -1,4 +1,4 @@
--- `step` is safe: what was read lies within the lent bytes.
+-- `step` meets its contract: what was read lies within the lent bytes, and is performed.
 use mathlib.Core.Path.{sym}
 use lib.Seq.{length-take-le}
 use borrow.Author.Needs.{needs}
@@ -27,7 +27,10 @@ same-length-3 : tie.Need-same-length-3
 same-length-3 c = search needs
 
 returns : tie.Need-returns
-returns c = search needs
+returns c =
+    let p = c .before .before .before in
+    let r = p .before .before .before .before .before .before in
+    record { read = _; item = r .read-item .ensures .1; done = p .perform .ensures }
 
 pub step-spec : {M : Type 1} → statement M
 step-spec =
