@@ -4,33 +4,41 @@ use mathlib.Core.Bool.{true}
 use mathlib.Core.List.{List}
 use Prim.Native.Nat.{ℕ}
 use lib.IntN.{ℤ}
-use lib.ListN.{length, take}
+use lib.ListN.{length, take, drop}
 use Rattle.console.specs.Input.{itemBytes}
 use Rattle.interpreter.specs.declared.Turn.{Turn as Code·Turn}
 use Rattle.interpreter.specs.Interpreter.{Turn, beginning, turn, Performs}
 
--- the turns that a run may reach: the opening's; and while the last one says so, that of some item's bytes, on what the last one handed on
-pub data Reached (book : List ℤ) (opening : List ℕ) : Turn → Type 0 where
-  begun : Reached book opening (beginning book opening)
-  next : {t : Turn} (read : List ℕ) → Reached book opening t → t .more ≡ true → itemBytes read ≡ read → Reached book opening (turn (t .accounts) (t .position) (t .book) read)
+-- which bytes are read for the item at a position: some item's, or those of an input that is at hand
+abbrev pub SomeItem : ℕ → List ℕ → Type 0
+SomeItem position read = itemBytes read ≡ read
 
--- what a run leaves: the book and the line of a turn that it reached
-pub record Leaves (book : List ℤ) (opening : List ℕ) (bookAfter : List ℤ) (lineAfter : List ℕ) : Type 0 where
-  pub last : Turn
-  pub reached : Reached book opening last
-  pub bookLeft : bookAfter ≡ last .book
-  pub printed : take (length (last .line)) lineAfter ≡ last .line
+abbrev pub RestOf : List ℕ → ℕ → List ℕ → Type 0
+RestOf s position read = read ≡ drop position s
 
--- and between two turns, with what the last one handed on
-pub record Stands (book : List ℤ) (opening : List ℕ) (r : Code·Turn) (bookNow : List ℤ) (lineNow : List ℕ) : Type 0 where
-  pub left : Leaves book opening bookNow lineNow
-  pub ended : r .end ≡ length (left .last .line)
-  pub counted : r .accounts ≡ left .last .accounts
-  pub placed : r .position ≡ left .last .position
-  pub goesOn : r .more ≡ left .last .more
+module _ (Read : ℕ → List ℕ → Type 0) where
+  -- the turns that a run reaches: the opening's; and while the last one says so, that of the bytes read, on what the last one handed on
+  pub data Reached (book : List ℤ) (opening : List ℕ) : Turn → Type 0 where
+    begun : Reached book opening (beginning book opening)
+    next : {t : Turn} (read : List ℕ) → Reached book opening t → t .more ≡ true → Read (t .position) read → Reached book opening (turn (t .accounts) (t .position) (t .book) read)
 
--- what a step promises: some item's bytes were read, and performed
-pub record Steps (accounts position : ℕ) (book : List ℤ) (line : List ℕ) (r : Code·Turn) (bookAfter : List ℤ) (lineAfter : List ℕ) : Type 0 where
-  pub read : List ℕ
-  pub item : itemBytes read ≡ read
-  pub done : Performs accounts position book read line r bookAfter lineAfter
+  -- what a run leaves: the book and the line of a turn that it reached
+  pub record Leaves (book : List ℤ) (opening : List ℕ) (bookAfter : List ℤ) (lineAfter : List ℕ) : Type 0 where
+    pub last : Turn
+    pub reached : Reached book opening last
+    pub bookLeft : bookAfter ≡ last .book
+    pub printed : take (length (last .line)) lineAfter ≡ last .line
+
+  -- and between two turns, with what the last one handed on
+  pub record Stands (book : List ℤ) (opening : List ℕ) (r : Code·Turn) (bookNow : List ℤ) (lineNow : List ℕ) : Type 0 where
+    pub left : Leaves book opening bookNow lineNow
+    pub ended : r .end ≡ length (left .last .line)
+    pub counted : r .accounts ≡ left .last .accounts
+    pub placed : r .position ≡ left .last .position
+    pub goesOn : r .more ≡ left .last .more
+
+  -- what a step promises: bytes were read, and performed
+  pub record Steps (accounts position : ℕ) (book : List ℤ) (line : List ℕ) (r : Code·Turn) (bookAfter : List ℤ) (lineAfter : List ℕ) : Type 0 where
+    pub read : List ℕ
+    pub item : Read position read
+    pub done : Performs accounts position book read line r bookAfter lineAfter

@@ -13,6 +13,7 @@ ghost use Prim.Native.Nat.{_≤_, _<_};
 ghost use lib.ListN.{length, drop};
 ghost use Rattle.console.specs.Lines.{lineRoom};
 ghost use Rattle.interpreter.specs.Interpreter.{newWords, Performs};
+ghost use Rattle.interpreter.specs.Running.{RestOf, Leaves};
 
 // The longest input.
 const FRAME_BYTES: usize = 40000;
@@ -58,6 +59,7 @@ fn print(line: &[u8], end: usize) -> bool
 // An input on a new book.
 fn run(book: &mut [i64], s: &[u8], line: &mut [u8])
     requires { ⌜ (now book ≡ newWords) × (length (now s) ≤ 40000) × (lineRoom ≤ length (now line)) ⌝ }
+    ensures { λ _. ⌜ Leaves (RestOf (now (s .entry))) newWords (now (s .entry)) (now (book .exit)) (now (line .exit)) ⌝ }
 {
     let mut turn = begin(book, s, line);
     while print(line, turn.end) && turn.more {

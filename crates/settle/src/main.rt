@@ -16,7 +16,7 @@ ghost use lib.ListN.{length, take};
 ghost use Rattle.console.specs.Input.{openingBytes, longestItem, itemBytes, WithinItem};
 ghost use Rattle.console.specs.Lines.{lineRoom};
 ghost use Rattle.interpreter.specs.Interpreter.{newWords};
-ghost use Rattle.interpreter.specs.Running.{Leaves, Steps};
+ghost use Rattle.interpreter.specs.Running.{SomeItem, Leaves, Steps};
 
 // More positions than any input has: a proved loop has to end.
 const LIMIT: u64 = 9_000_000_000_000_000_000;
@@ -50,7 +50,7 @@ fn print(line: &[u8], end: usize) -> bool
 // The next item.
 fn step(book: &mut [i64], turn: Turn, bytes: &mut [u8], line: &mut [u8]) -> Turn
     requires { ⌜ (turn .accounts ≤ 32) × (turn .position < 2 ^ 63) × (longestItem ≤ length (now bytes)) × (lineRoom ≤ length (now line)) ⌝ }
-    ensures { λ r. ⌜ Steps (turn .accounts) (turn .position) (now (book .entry)) (now (line .entry)) r (now (book .exit)) (now (line .exit)) ⌝ }
+    ensures { λ r. ⌜ Steps SomeItem (turn .accounts) (turn .position) (now (book .entry)) (now (line .entry)) r (now (book .exit)) (now (line .exit)) ⌝ }
 {
     let got = read_item(bytes);
     perform(book, turn, &bytes[..got], line)
@@ -59,7 +59,7 @@ fn step(book: &mut [i64], turn: Turn, bytes: &mut [u8], line: &mut [u8]) -> Turn
 // The opening, and then item after item while the last one says so.
 fn run(book: &mut [i64], opening: &[u8], bytes: &mut [u8], line: &mut [u8])
     requires { ⌜ (now book ≡ newWords) × (length (now opening) ≤ openingBytes) × (longestItem ≤ length (now bytes)) × (lineRoom ≤ length (now line)) ⌝ }
-    ensures { λ _. ⌜ Leaves newWords (now (opening .entry)) (now (book .exit)) (now (line .exit)) ⌝ }
+    ensures { λ _. ⌜ Leaves SomeItem newWords (now (opening .entry)) (now (book .exit)) (now (line .exit)) ⌝ }
 {
     let mut turn = begin(book, opening, line);
     while print(line, turn.end) && turn.more && turn.position < LIMIT {

@@ -1,16 +1,19 @@
--- `run` is safe and ends: where it goes on, each turn's position is further on in the input than the last one's.
-use mathlib.Core.Path.{_≡_}
+-- `run` meets its contract: it stands at a turn that the input reaches. It ends: where it goes on, each turn's position is further on in the input than the last one's.
+use mathlib.Core.Path.{_≡_, refl}
 use mathlib.Core.Bool.{true}
 use Prim.Native.Nat.{_+_, _-_, _≤_}
-use lib.ListN.{length, length-drop}
+use lib.ListN.{length, drop, length-drop}
 use native.Mathlib.Omega.{arith}
+use Rattle.interpreter.specs.Interpreter.{newWords}
+use Rattle.interpreter.specs.Running.{RestOf, Stands}
+use Rattle.interpreter.specs.RunningLaws.{stands-begun, stands-next}
 use borrow.Author.Needs.{needs}
 use Rattle.replay_settle.proofs.run.Statement.{statement}
 use Rattle.replay_settle.proofs.run.Tie as tie
 
 abbrev Inv-loop : tie.InvT-loop
 Inv-loop book₀ s line₀ turn₀ book line turn =
-    (length book ≡ length book₀) × (length line ≡ length line₀) × (turn .end ≤ length line) × (turn .accounts ≤ 32) × (turn .more ≡ true → turn .position ≤ length s)
+    (length book ≡ length book₀) × (length line ≡ length line₀) × (turn .end ≤ length line) × (turn .accounts ≤ 32) × (turn .more ≡ true → turn .position ≤ length s) × Stands (RestOf s) newWords s turn book line
 
 abbrev μ-loop : tie.MeasureT-loop
 μ-loop book₀ s line₀ turn₀ book line turn = length s + 1 - turn .position
@@ -21,7 +24,8 @@ begin-requires c κs = search needs
 loop-holds : tie.Need-loop-holds Inv-loop μ-loop
 loop-holds c =
     let b = c .before .before .before in
-    (search needs, search needs, search needs, search needs, λ m. omega (arith, b .begin .ensures .within m))
+    let g = b .before .before .before .before .before in
+    (search needs, search needs, search needs, search needs, λ m. omega (arith, b .begin .ensures .within m), stands-begun (RestOf (g .args .s .now)) (rw (g .pre .0) at (b .begin .ensures)))
 
 print-requires : tie.Need-print-requires Inv-loop μ-loop
 print-requires c κs = search needs
@@ -47,7 +51,7 @@ loop-again c =
     let l = t .before .before .before .before in
     let g = l .before .before .before .before .before .before .before .before .before in
     let h = l .loop .inv .4 (t .if2 .taken) in
-    (search needs, search needs, search needs, search needs, λ m. omega (arith, r .item .ensures .within m, length-drop (l .loop .turn .position) (g .args .s .now), h))
+    (search needs, search needs, search needs, search needs, λ m. omega (arith, r .item .ensures .within m, length-drop (l .loop .turn .position) (g .args .s .now), h), stands-next (RestOf (g .args .s .now)) (l .loop .inv .5) (t .if2 .taken) (record { read = drop (l .loop .turn .position) (g .args .s .now); item = refl; done = r .item .ensures }))
 
 same-length : tie.Need-same-length Inv-loop μ-loop
 same-length c = search needs

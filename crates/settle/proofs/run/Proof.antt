@@ -5,7 +5,7 @@ use lib.ListN.{length}
 use borrow.Author.Tests.{ltb-true}
 use native.Mathlib.Omega.{arith}
 use Rattle.interpreter.specs.Interpreter.{newWords}
-use Rattle.interpreter.specs.Running.{Stands}
+use Rattle.interpreter.specs.Running.{SomeItem, Stands}
 use Rattle.interpreter.specs.RunningLaws.{stands-begun, stands-next}
 use borrow.Author.Needs.{needs}
 use Rattle.settle.proofs.run.Statement.{statement}
@@ -13,7 +13,7 @@ use Rattle.settle.proofs.run.Tie as tie
 
 abbrev Inv-loop : tie.InvT-loop
 Inv-loop book₀ opening bytes₀ line₀ turn₀ book bytes line turn =
-    (length book ≡ length book₀) × (length bytes ≡ length bytes₀) × (length line ≡ length line₀) × (turn .end ≤ length line) × (turn .accounts ≤ 32) × Stands newWords opening turn book line
+    (length book ≡ length book₀) × (length bytes ≡ length bytes₀) × (length line ≡ length line₀) × (turn .end ≤ length line) × (turn .accounts ≤ 32) × Stands SomeItem newWords opening turn book line
 
 abbrev μ-loop : tie.MeasureT-loop
 μ-loop book₀ opening bytes₀ line₀ turn₀ book bytes line turn = 9000000000000000000 - turn .position
@@ -29,7 +29,7 @@ loop-holds : tie.Need-loop-holds Inv-loop μ-loop
 loop-holds c =
     let b = c .before .before .before in
     let g = b .before .before .before .before .before .before in
-    (search needs, search needs, search needs, search needs, search needs, stands-begun (rw (g .pre .0) at (b .begin .ensures)))
+    (search needs, search needs, search needs, search needs, search needs, stands-begun SomeItem (rw (g .pre .0) at (b .begin .ensures)))
 
 print-requires : tie.Need-print-requires Inv-loop μ-loop
 print-requires c κs = search needs
@@ -52,7 +52,7 @@ loop-again c =
     let t = s .before .before .before .before in
     let l = t .before .before .before .before .before .before in
     let d = s .step .ensures .done in
-    (search needs, search needs, search needs, d .printed .within, d .few, stands-next (l .loop .inv .5) (t .before .before .if2 .taken) (s .step .ensures))
+    (search needs, search needs, search needs, d .printed .within, d .few, stands-next SomeItem (l .loop .inv .5) (t .before .before .if2 .taken) (s .step .ensures))
 
 same-length : tie.Need-same-length Inv-loop μ-loop
 same-length c = search needs
