@@ -10,3 +10,7 @@ calendarCommand c = eqb c 100 || (eqb c 121 || (eqb c 119 || (eqb c 115 || (eqb 
 -- V, R, T, and those of the calendar
 unfoldable pub bookless : ℕ → Bool
 bookless c = eqb c 86 || (eqb c 82 || (eqb c 84 || calendarCommand c))
+
+-- P, O, S, C, and those that need no book
+unfoldable pub starts : ℕ → Bool
+starts c = eqb c 80 || (eqb c 79 || (eqb c 83 || (eqb c 67 || bookless c)))

@@ -23,7 +23,9 @@ pub signed-below : (low high : ℕ) → low < 4294967296 → high < 2147483648 �
 unfolding signed64
 signed-below low high l h = rw (lt-ltb (low + 4294967296 * high) 9223372036854775808 (omega arith))
 
-pub signed-above : (low high : ℕ) → low < 4294967296 → 2147483648 ≤ high → high < 4294967296 → signed64 (low + 4294967296 * high) ≡ negsuc 9223372036854775807 +ℤ pos (low + 4294967296 * (high - 2147483648))
+pub signed-above : (low high : ℕ)
+    → low < 4294967296 → 2147483648 ≤ high → high < 4294967296
+    → signed64 (low + 4294967296 * high) ≡ negsuc 9223372036854775807 +ℤ pos (low + 4294967296 * (high - 2147483648))
 unfolding signed64
 signed-above low high l g h =
     let n = low + 4294967296 * high in

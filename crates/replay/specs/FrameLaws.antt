@@ -30,7 +30,8 @@ module _ (n : ℕ) (xs ys : List ℤ) (within : n ≤ length xs) (same : length 
   lent-of Left l =
       record { count = n; within = within; left = subst (Left (take n xs)) (sym (first-back n xs ys within same)) l; beyond = beyond-back n xs ys within same }
 
-  pub closed-with-of : (book after : List ℤ) → (after ≡ closed book (take n xs) .words) × (ys ≡ closed book (take n xs) .statement) → ClosedWith book xs after (ys ++ drop n xs)
+  pub closed-with-of : (book after : List ℤ)
+      → (after ≡ closed book (take n xs) .words) × (ys ≡ closed book (take n xs) .statement) → ClosedWith book xs after (ys ++ drop n xs)
   closed-with-of book after e =
       record { count = n; within = within; book-words = e .0; statement-words = first-back n xs ys within same ∙ e .1; beyond = beyond-back n xs ys within same }
 
@@ -42,7 +43,9 @@ module _ (n : ℕ) (xs ys : List ℤ) (within : n ≤ length xs) (same : length 
         beyond = beyond-back n xs ys within same;
       }
 
-  pub shared-of : {r s : ℤ} (m : ℕ) (uegqs uegqsAfter : List ℤ) → r ≡ s → m ≤ length uegqsAfter → drop m uegqsAfter ≡ drop m uegqs → ys ≡ shareCall r (take m uegqsAfter) (take n xs) .output → SharedFrom s uegqs xs uegqsAfter (ys ++ drop n xs)
+  pub shared-of : {r s : ℤ} (m : ℕ) (uegqs uegqsAfter : List ℤ)
+      → r ≡ s → m ≤ length uegqsAfter → drop m uegqsAfter ≡ drop m uegqs → ys ≡ shareCall r (take m uegqsAfter) (take n xs) .output
+      → SharedFrom s uegqs xs uegqsAfter (ys ++ drop n xs)
   shared-of m uegqs uegqsAfter e h b w =
       record {
         listed = m;

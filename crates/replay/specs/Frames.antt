@@ -1,7 +1,9 @@
 -- What a frame leaves of the book: one word written, or what the library promises of the words lent to it. The fields themselves are what the
 -- input has, so a promise says that there are some. Assumes nothing.
 use mathlib.Core.Path.{_≡_}
+use mathlib.Core.Bool.{Bool}
 use mathlib.Core.List.{List}
+use mathlib.Core.Logic.{_≢_}
 use Prim.Native.Nat.{ℕ, _≤_}
 use lib.IntN.{ℤ}
 use lib.ListN.{length, set, take, drop}
@@ -10,6 +12,7 @@ use Rattle.rulebook.specs.Opening.{opened}
 use Rattle.rulebook.specs.Submit.{submitted}
 use Rattle.rulebook.specs.Close.{closed}
 use Rattle.rulebook.specs.Calls.{shareCall}
+use Rattle.replay.specs.Commands.{starts}
 
 -- ---- The first words of a list, lent
 
@@ -45,18 +48,24 @@ pub record Poked (before after : List ℤ) : Type 0 where
   pub value : ℤ
   pub words : after ≡ set before index value
 
--- one frame
-pub data Framed (before after : List ℤ) : Type 0 where
-  kept : after ≡ before → Framed before after
-  poking : Poked before after → Framed before after
-  opening : Lent Opens before after → Framed before after
-  submission : Lent Submits before after → Framed before after
-  closing : Lent Closes before after → Framed before after
+-- one frame, by the byte that starts it: P, O, S, C, and any other, which leaves the book as it was
+pub data Framed (command : ℕ) (before after : List ℤ) : Type 0 where
+  poking : command ≡ 80 → Poked before after → Framed command before after
+  opening : command ≡ 79 → Lent Opens before after → Framed command before after
+  submission : command ≡ 83 → Lent Submits before after → Framed command before after
+  closing : command ≡ 67 → Lent Closes before after → Framed command before after
+  kept : command ≢ 80 → command ≢ 79 → command ≢ 83 → command ≢ 67 → after ≡ before → Framed command before after
 
--- frames, one after another
+-- a frame that was read, and whether its byte starts one
+pub record Stepped (more : Bool) (before after : List ℤ) : Type 0 where
+  pub command : ℕ
+  pub framed : Framed command before after
+  pub more-is : more ≡ starts command
+
+-- frames, one after another; since the input may write any word, this says of the whole what it says of each, and no more
 pub data Ran (start : List ℤ) : List ℤ → Type 0 where
   begun : Ran start start
-  next : {book after : List ℤ} → Ran start book → Framed book after → Ran start after
+  next : {book after : List ℤ} {more : Bool} → Ran start book → Stepped more book after → Ran start after
 
 -- ---- Words and bytes lent beside the book
 

@@ -28,8 +28,8 @@ use rules_calls::price;
 use rules_calls::share;
 use rules_calls::tranche;
 ghost use mathlib.Core.Path.{_≡_};
-ghost use Rattle.replay.specs.Commands.{bookless};
-ghost use Rattle.replay.specs.Frames.{Framed, Ran};
+ghost use Rattle.replay.specs.Commands.{bookless, starts};
+ghost use Rattle.replay.specs.Frames.{Framed, Stepped, Ran};
 
 // The words of the one book: as many as N = 4, L = 75, H = 92 take, and some beyond. The largest book of all, 6,188,672 words, is more than
 // a stack of 8 MB has.
@@ -48,11 +48,10 @@ fn call_without_book(command: u8) -> bool
     true
 }
 
-// One frame; false at the end of the input, or at a byte that starts none.
-fn step(book: &mut [i64]) -> bool
-    ensures { λ _. ⌜ Framed (now (book .entry)) (now (book .exit)) ⌝ }
+// One frame, by its byte; false for a byte that starts none.
+fn frame(book: &mut [i64], command: u8) -> bool
+    ensures { λ r. ⌜ Framed command (now (book .entry)) (now (book .exit)) × (r ≡ starts command) ⌝ }
 {
-    let command = input::command();
     match command {
         b'P' => poke(book),
         b'O' => open(book),
@@ -61,6 +60,14 @@ fn step(book: &mut [i64]) -> bool
         _ => return call_without_book(command),
     }
     true
+}
+
+// The next frame; false at the end of the input, or at a byte that starts none.
+fn step(book: &mut [i64]) -> bool
+    ensures { λ r. ⌜ Stepped r (now (book .entry)) (now (book .exit)) ⌝ }
+{
+    let command = input::command();
+    frame(book, command)
 }
 
 // The frames, one after another.

@@ -31,7 +31,15 @@ unfolding calendarCommand
 returns c =
     let m = c .before .args .command in
     let n = c .match .rest in
-    rw (ne-eqb m 100 (n .0 .0 .0 .0 .0 .0 .1), ne-eqb m 121 (n .0 .0 .0 .0 .0 .1), ne-eqb m 119 (n .0 .0 .0 .0 .1), ne-eqb m 115 (n .0 .0 .0 .1), ne-eqb m 98 (n .0 .0 .1), ne-eqb m 102 (n .0 .1), ne-eqb m 109 (n .1))
+    rw (
+      ne-eqb m 100 (n .0 .0 .0 .0 .0 .0 .1),
+      ne-eqb m 121 (n .0 .0 .0 .0 .0 .1),
+      ne-eqb m 119 (n .0 .0 .0 .0 .1),
+      ne-eqb m 115 (n .0 .0 .0 .1),
+      ne-eqb m 98 (n .0 .0 .1),
+      ne-eqb m 102 (n .0 .1),
+      ne-eqb m 109 (n .1),
+    )
 
 returns-2 : tie.Need-returns-2
 unfolding calendarCommand

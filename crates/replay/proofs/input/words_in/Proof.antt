@@ -47,7 +47,8 @@ loop-again c =
     let w = c .before .before .word-in in
     let g = c .before .before .before .before .before .before .before .args in
     let e = got (w .result) (w .ok) ∙ w .ensures in
-    (refl, omega arith, omega (arith, c .before .put-word .kept, l .inv .2), c .before .put-word .ensures ∙ filled-step (l .i) (spelled (g .bytes .now)) (g .list .now) (omega arith) (l .inv .3) e)
+    let f = filled-step (l .i) (spelled (g .bytes .now)) (g .list .now) (omega arith) (l .inv .3) e in
+    (refl, omega arith, omega (arith, c .before .put-word .kept, l .inv .2), c .before .put-word .ensures ∙ f)
 
 same-length : tie.Need-same-length Inv-loop μ-loop
 same-length c = c .before .loop .inv .2

@@ -38,7 +38,8 @@ returns c =
     let n = c .before .before .before .before in
     let s = n .before .before .before .before .before in
     let m = n .before .before .before in
-    shared-of _ (s .args .space .now) _ (n .count .ensures .0) (same-length-2 c) _ _ _ (toZ-ofZ w64 (s .args .r) (s .fits .r)) (m .list .ensures .0 .0) (m .list .ensures .1) (c .before .share-to .ensures)
+    let r = toZ-ofZ w64 (s .args .r) (s .fits .r) in
+    shared-of _ (s .args .space .now) _ (n .count .ensures .0) (same-length-2 c) _ _ _ r (m .list .ensures .0 .0) (m .list .ensures .1) (c .before .share-to .ensures)
 
 pub share-from-spec : {M : Type 1} → statement M
 share-from-spec =

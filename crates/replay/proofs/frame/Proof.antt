@@ -1,12 +1,11 @@
--- `step` meets its contract: what each call left, and the book kept by a call without it.
+-- `frame` meets its contract: what each call left, and the book kept by any other byte.
 use mathlib.Core.Path.{refl}
+use borrow.Author.Tests.{ne-eqb}
+use Rattle.replay.specs.Commands.{starts}
 use Rattle.replay.specs.Frames.{kept, poking, opening, submission, closing}
 use borrow.Author.Needs.{needs}
-use Rattle.replay.proofs.step.Statement.{statement}
-use Rattle.replay.proofs.step.Tie as tie
-
-command-requires : tie.Need-command-requires
-command-requires c κs = search needs
+use Rattle.replay.proofs.frame.Statement.{statement}
+use Rattle.replay.proofs.frame.Tie as tie
 
 poke-requires : tie.Need-poke-requires
 poke-requires c κs = search needs
@@ -24,37 +23,46 @@ call-without-book-requires : tie.Need-call-without-book-requires
 call-without-book-requires c κs = search needs
 
 returns : tie.Need-returns
-returns c = kept refl
+unfolding starts
+returns c =
+    let m = c .before .before .args .command in
+    let n = c .before .match .rest in (
+      kept (n .0 .0 .0 .1) (n .0 .0 .1) (n .0 .1) (n .1) refl,
+      rw (ne-eqb m 80 (n .0 .0 .0 .1), ne-eqb m 79 (n .0 .0 .1), ne-eqb m 83 (n .0 .1), ne-eqb m 67 (n .1)) (c .call-without-book .ensures),
+    )
 
 same-length : tie.Need-same-length
 same-length c = search needs
 
 returns-2 : tie.Need-returns-2
-returns-2 c = poking (c .before .poke .ensures)
+unfolding starts
+returns-2 c = let e = c .before .before .before .match .keys1 in (poking e (c .before .poke .ensures), rw e)
 
 same-length-2 : tie.Need-same-length-2
 same-length-2 c = search needs
 
 returns-3 : tie.Need-returns-3
-returns-3 c = opening (c .before .«open» .ensures)
+unfolding starts
+returns-3 c = let e = c .before .before .before .match .keys2 in (opening e (c .before .«open» .ensures), rw e)
 
 same-length-3 : tie.Need-same-length-3
 same-length-3 c = search needs
 
 returns-4 : tie.Need-returns-4
-returns-4 c = submission (c .before .submit .ensures)
+unfolding starts
+returns-4 c = let e = c .before .before .before .match .keys3 in (submission e (c .before .submit .ensures), rw e)
 
 same-length-4 : tie.Need-same-length-4
 same-length-4 c = search needs
 
 returns-5 : tie.Need-returns-5
-returns-5 c = closing (c .before .close .ensures)
+unfolding starts
+returns-5 c = let e = c .before .before .before .match .keys4 in (closing e (c .before .close .ensures), rw e)
 
-pub step-spec : {M : Type 1} → statement M
-step-spec =
+pub frame-spec : {M : Type 1} → statement M
+frame-spec =
     tie.close
     (tie.spec
-    command-requires
     poke-requires
     open-requires
     submit-requires
