@@ -9,7 +9,7 @@ use Rattle.integer.specs.Words.{part}
 use Rattle.rulebook.specs.declared.Terms.{Terms}
 use Rattle.rulebook.specs.Units.{lastDay, intervals}
 use Rattle.rulebook.specs.Layout.{ring}
-use Rattle.rulebook.specs.RingLaws.{turn-of}
+use Rattle.rulebook.specs.WindowWalk.{turn-of}
 use Rattle.book.specs.Parts.{intervalLength, slotFits}
 
 -- a slot's words, n accounts

@@ -15,8 +15,8 @@ use Rattle.rulebook.specs.declared.Terms.{Terms}
 use Rattle.rulebook.specs.Units.{lastDay, intervals}
 use Rattle.rulebook.specs.Layout.{balanceWord, intervalWords, accountWords, intervalSize, ring, base, size}
 use Rattle.rulebook.specs.TestLaws.{all-same, all-yes, all-at, tests-same}
-use Rattle.rulebook.specs.WindowWalk.{windowSlot, windowSlotFits}
-use Rattle.rulebook.specs.RingLaws.{turn-of, turn-inside, turned, places-apart}
+use Rattle.rulebook.specs.WindowWalk.{windowSlot, windowSlotFits, turn-of}
+use Rattle.rulebook.specs.RingLaws.{turn-inside, turned, places-apart}
 use Rattle.rulebook.specs.WalkLaws.{days-are-places}
 use Rattle.rulebook.specs.WellFormed as rule
 use Rattle.rulebook.specs.WellFormed.{closedRowsThere, slotBlank, daysFit}

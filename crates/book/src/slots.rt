@@ -10,7 +10,7 @@ ghost use Rattle.rulebook.specs.Units.{intervals, lastDay};
 ghost use Rattle.rulebook.specs.Shares.{mostAccounts};
 ghost use Rattle.rulebook.specs.Layout.{ring};
 ghost use Rattle.rulebook.specs.Terms.{InTerms};
-ghost use Rattle.rulebook.specs.RingLaws.{turn-of};
+ghost use Rattle.rulebook.specs.WindowWalk.{turn-of};
 ghost use Rattle.book.specs.Parts.{intervalLength, intervalsFit, slotFits};
 ghost use Rattle.book.specs.Slots.{slotLength, isDay, slotsFit};
 

@@ -14,7 +14,7 @@ use Rattle.rulebook.specs.DayAmount.{residualLoad, rvq, residualAmount, residua
 use Rattle.rulebook.specs.BookData.{bookData, termsOf, nextDay}
 use Rattle.rulebook.specs.WellFormed.{wellFormed}
 use Rattle.rulebook.specs.Close.{posted}
-use Rattle.rulebook.specs.SizeLaws.{SizedDay}
+use Rattle.rulebook.specs.Bounds.{SizedDay}
 use Rattle.rulebook.specs.AmountLaws.{Alike, vesting-same, residual-same}
 use Rattle.rulebook.specs.BookSizeLaws.{close-sized}
 use Rattle.amounts.specs.declared.day.Residuals.{Residuals}

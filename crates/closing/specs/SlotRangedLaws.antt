@@ -21,14 +21,13 @@ use Rattle.rulebook.specs.Units.{lastDay, between, inRange, positive, mostPrice
 use Rattle.rulebook.specs.Shares.{leastResidual}
 use Rattle.rulebook.specs.Sections.{kindOf, accountsOf, Figure, BVQ, TVQ, UEGQ, MQ, NccLoad, figureSection, figurePlace}
 use Rattle.rulebook.specs.DayAmount.{residualDue, residualDay}
-use Rattle.rulebook.specs.Layout.{width, wordName, figureIndex, flagIndex, flagWord}
+use Rattle.rulebook.specs.Layout.{width, wordName, figureIndex, flagIndex, flagWord, InWindow}
 use Rattle.rulebook.specs.BookData.{entriesOf, entryNamed, bookData, termsOf, nextDay}
 use Rattle.rulebook.specs.WellFormed.{isZero, rowFits, wellFormed}
 use Rattle.rulebook.specs.Close.{absentFlag, missingAt, firstMissing}
+use Rattle.rulebook.specs.Bounds.{Sized}
 use Rattle.rulebook.specs.TestLaws.{T-path, and-left}
 use Rattle.rulebook.specs.RowWordLaws.{Usable}
-use Rattle.rulebook.specs.LayoutLaws.{InWindow}
-use Rattle.rulebook.specs.SizeLaws.{Sized}
 use Rattle.rulebook.specs.RangeLaws.{RangedEntries, data-sized, even}
 use Rattle.rulebook.specs.RowFlagLaws.{wordFlagged, rowFlagged, row-by-flag, natural}
 use Rattle.rulebook.specs.FormedLaws.{opened-of, next-of, formed-fit}

@@ -21,12 +21,11 @@ use Rattle.rulebook.specs.declared.Terms.{Terms}
 use Rattle.rulebook.specs.declared.CloseAnswer.the-variants.{Finished, NoRoom}
 use Rattle.rulebook.specs.Units.{lastDay}
 use Rattle.rulebook.specs.DayAmount.{msslAmount}
-use Rattle.rulebook.specs.Layout.{flagIndex, flagWord, balanceWord, msslWord}
+use Rattle.rulebook.specs.Layout.{flagIndex, flagWord, balanceWord, msslWord, InWindow}
 use Rattle.rulebook.specs.BookData.{Entries, entriesOf, termsOf, nextDay}
 use Rattle.rulebook.specs.WellFormed.{isZero, rowFits, wellFormed, dayBound}
 use Rattle.rulebook.specs.Close.{closed, settled, closeRefused, firstMissing, missingAt, absentFlag, posted, postedToMssl, dayClosed}
 use Rattle.rulebook.specs.TestLaws.{below-suc, T-path}
-use Rattle.rulebook.specs.LayoutLaws.{InWindow}
 use Rattle.rulebook.specs.LedgerLaws.{Ledger, Holds}
 use Rattle.rulebook.specs.KeptLaws.{absent-fits}
 use Rattle.rulebook.specs.FormLaws.{Fit, ring-pos, fits-same, well-formed}

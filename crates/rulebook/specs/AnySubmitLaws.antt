@@ -19,7 +19,7 @@ use Rattle.rulebook.specs.BookData.{termsOf, nextDay}
 use Rattle.rulebook.specs.WellFormed.{isZero, rowFits, wellFormed}
 use Rattle.rulebook.specs.File.{Row, fileRows}
 use Rattle.rulebook.specs.Judging.{limitsOf, judged}
-use Rattle.rulebook.specs.Submit.{entry, rowsStored, taken, submitted}
+use Rattle.rulebook.specs.Submit.{entry, rowsStored, taken, submitted, entryOr}
 use Rattle.rulebook.specs.History.{lastFor}
 use Rattle.rulebook.specs.TestLaws.{T-path}
 use Rattle.rulebook.specs.LedgerLaws.{Ledger, IsFor, overlaid, submittedTo, rows-held}
@@ -27,15 +27,15 @@ use Rattle.rulebook.specs.SoundLaws.{Sound, file-sound}
 use Rattle.rulebook.specs.KeptLaws.{there-fits, flag-more, nonzero}
 use Rattle.rulebook.specs.FormLaws.{Fit, ring-pos, fits-same, well-formed}
 use Rattle.rulebook.specs.FormedLaws.{ledgerOf, formed-holds, formed-fit, opened-of, next-of}
-use Rattle.rulebook.specs.StepLaws.{last-one, sound-day, storable, over, overlaid-last}
+use Rattle.rulebook.specs.StepLaws.{last-one, sound-day, storable, overlaid-last}
 
 module _ (o : Terms) (b : Ledger) (q : Fit o b) (h : 1 ≤ o .horizon) (rs : List Row) (x : Each (Sound (limitsOf o (o .first + b .closed))) rs) where
   -- what stands in a row after the file: an old row's words, or a sound row's
   by-row : (P : (ℕ → ℤ) → Type 0) (s : Section) (a d i : ℕ) → P (b .entries s a d i)
-      → ((r : Row) → Sound (limitsOf o (o .first + b .closed)) r → IsFor s a d r → P (entry r i)) → P (over (lastFor rs s a d) (b .entries s a d) i)
+      → ((r : Row) → Sound (limitsOf o (o .first + b .closed)) r → IsFor s a d r → P (entry r i)) → P (entryOr (lastFor rs s a d) (b .entries s a d) i)
   by-row P s a d i old new = go (lastFor rs s a d) refl
     where
-      go : (y : Option Row) → lastFor rs s a d ≡ y → P (over y (b .entries s a d) i)
+      go : (y : Option Row) → lastFor rs s a d ≡ y → P (entryOr y (b .entries s a d) i)
       go none e = old
       go (some r) e = let z = last-one (Sound (limitsOf o (o .first + b .closed))) rs s a d r x e in new r (z .0) (z .1)
 
@@ -45,7 +45,7 @@ module _ (o : Terms) (b : Ledger) (q : Fit o b) (h : 1 ≤ o .horizon) (rs : Lis
 
   pub file-fit : Fit o (submittedTo rs b)
   file-fit = record {
-    rows = λ s a d i hd ha hi. fits-same s (overlaid rs (b .entries) s a d i) (over (lastFor rs s a d) (b .entries s a d) i) (λ j hj. overlaid-last rs (b .entries) s a d i j)
+    rows = λ s a d i hd ha hi. fits-same s (overlaid rs (b .entries) s a d i) (entryOr (lastFor rs s a d) (b .entries s a d) i) (λ j hj. overlaid-last rs (b .entries) s a d i j)
         (by-row (λ f. T (rowFits s f)) s a d i (q .rows s a d i hd ha hi) (λ r y z. subst (λ (c : Section). T (rowFits c (entry r i))) (z .section) (there-fits r (y .ranged) (entry r i) i hi (λ j hj. refl))));
     undated = λ s a d i j hd l ha hi hj. overlaid-last rs (b .entries) s a d i j ∙ by-row (λ f. f j ≡ pos 0) s a d i (q .undated s a d i j hd l ha hi hj)
         (λ r y z. absurd (omega (arith, sound-day o (b .closed) h r y .dated, z .day)));

@@ -4,34 +4,20 @@ use Prim.Native.Nat.{ℕ, suc, _+_, _-_, _*_, _≤_, _<_}
 use native.Mathlib.Nat.{suc-mul, mul-add, mul-le-mul, mul-le-mul-right}
 use native.Mathlib.Omega.{arith}
 use lib.Dec.{T, leb→le}
-use lib.IntN.{ℤ, natAbs, _+ℤ_}
+use lib.IntN.{ℤ, natAbs}
 use Rattle.integer.specs.IntegerLaws.{abs-add, abs-neg}
 use Rattle.integer.specs.Words.{word}
-use Rattle.rulebook.specs.Units.{lastDay, mostLoad}
+use Rattle.rulebook.specs.Units.{lastDay}
 use Rattle.rulebook.specs.DayAmount.{residualDue, residualDay, postedAmount, msslAmount}
-use Rattle.rulebook.specs.Layout.{balanceWord, msslWord}
+use Rattle.rulebook.specs.Layout.{balanceWord, msslWord, InWindow}
 use Rattle.rulebook.specs.BookData.{entriesOf, bookData, termsOf, nextDay}
 use Rattle.rulebook.specs.WellFormed.{wellFormed, dayBound}
-use Rattle.rulebook.specs.LayoutLaws.{InWindow}
+use Rattle.rulebook.specs.Bounds.{SizedDay, CloseSized}
 use Rattle.rulebook.specs.FormLaws.{ring-pos}
-use Rattle.rulebook.specs.SizeLaws.{SizedDay, posted-size, posted-sum-size}
+use Rattle.rulebook.specs.SizeLaws.{posted-size, posted-sum-size}
 use Rattle.rulebook.specs.RangeLaws.{RangedEntries, data-sized, load-sized}
 use Rattle.rulebook.specs.SlotLaws.{entries-ranged}
 use Rattle.rulebook.specs.FormedLaws.{opened-of, next-of, walk-of, balance-at, mssl-at}
-
--- what a close of the book reads, posts and leaves
-pub record CloseSized (w : List ℤ) : Type 0 where
-  -- the data of D, and where a residual is due those of r
-  pub now : SizedDay (termsOf w .accounts) (bookData (termsOf w) w) (nextDay w)
-  pub then : T (residualDue (termsOf w) (nextDay w)) → SizedDay (termsOf w .accounts) (bookData (termsOf w) w) (residualDay (termsOf w) (nextDay w))
-  pub loads : T (residualDue (termsOf w) (nextDay w)) → (i : ℕ) → i < 48 → bookData (termsOf w) w .load (residualDay (termsOf w) (nextDay w)) i ≤ mostLoad
-  -- the posted amounts, and the MSSL's
-  pub posted : (a : ℕ) → a < termsOf w .accounts → natAbs (postedAmount (termsOf w) (bookData (termsOf w) w) a (nextDay w)) ≤ 4800000000000
-  pub mssl : natAbs (msslAmount (termsOf w) (bookData (termsOf w) w) (nextDay w)) ≤ 153600000000000
-  -- the grown balances
-  pub balances : (a : ℕ) → a < termsOf w .accounts
-      → natAbs (word w (balanceWord a) +ℤ postedAmount (termsOf w) (bookData (termsOf w) w) a (nextDay w)) ≤ 129734400000000000
-  pub msslBalance : natAbs (word w msslWord +ℤ msslAmount (termsOf w) (bookData (termsOf w) w) (nextDay w)) ≤ 4151500800000000000
 
 module _ (w : List ℤ) (t : T (wellFormed w)) where
   -- every figure of every day of the window is in its range

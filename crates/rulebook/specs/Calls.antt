@@ -1,9 +1,10 @@
 -- What the calls on no book return, and the words that they leave: reference price, shares, tranches. Assumes nothing.
-use mathlib.Core.Bool.{Bool, cond, _&&_}
+use mathlib.Core.Path.{_≡_}
+use mathlib.Core.Bool.{Bool, true, cond, _&&_}
 use mathlib.Core.List.{List}
-use Prim.Native.Nat.{ℕ}
+use Prim.Native.Nat.{ℕ, _≤_}
 use lib.Dec.{leb, eqb}
-use lib.IntN.{ℤ, pos}
+use lib.IntN.{ℤ, pos, natAbs}
 use lib.ListN.{length}
 use Rattle.integer.specs.Integer.{minus}
 use Rattle.integer.specs.Below.{all, sumℕ}
@@ -26,6 +27,14 @@ unfoldable pub priceInput : List ℤ → List ℤ → Bool
 priceInput mep ieq =
     (leb 1 (length mep) && leb (length mep) mostFacilities) && (eqb (length ieq) (length mep) && (allInRange Price mep && allInRange Injection ieq))
 
+-- what accepted lists satisfy
+pub record PricesIn (mep ieq : List ℤ) : Type 0 where
+  pub some : 1 ≤ length mep
+  pub few : length mep ≤ mostFacilities
+  pub same : length ieq ≡ length mep
+  pub prices : allInRange Price mep ≡ true
+  pub injections : allInRange Injection ieq ≡ true
+
 unfoldable pub priceCall : List ℤ → List ℤ → PriceReturned
 priceCall mep ieq =
     cond (priceInput mep ieq) (priceAccepted (referencePrice (length mep) (word mep) (word ieq))) priceRefused
@@ -35,6 +44,12 @@ priceCall mep ieq =
 unfoldable pub shareInput : ℤ → List ℤ → Bool
 shareInput r uegq =
     between (minus leastResidual) (pos mostResidual) r && ((leb 1 (length uegq) && leb (length uegq) mostAccounts) && allInRange Quantity uegq)
+
+-- what an accepted R and list satisfy
+pub record SharesIn (r : ℤ) (uegq : List ℤ) : Type 0 where
+  pub residual : natAbs r ≤ leastResidual
+  pub few : length uegq ≤ mostAccounts
+  pub quantities : allInRange Quantity uegq ≡ true
 
 -- S
 abbrev pub spareGeneration : List ℤ → ℕ

@@ -5,21 +5,20 @@ use mathlib.Core.List.{List}
 use Prim.Native.Nat.{ℕ, _*_, _≤_, _<_}
 use borrow.Author.Tests.{leb-true, eqb-true}
 use lib.Dec.{leb, eqb}
-use lib.IntN.{ℤ, pos, natAbs}
+use lib.IntN.{ℤ, pos}
 use lib.ListN.{length}
-use native.Mathlib.Omega.{arith}
 use Rattle.integer.specs.Integer.{minus}
 use Rattle.integer.specs.IntegerLaws.{int, parts}
 use Rattle.integer.specs.Below.{all, sumℕ}
 use Rattle.integer.specs.BelowLaws.{and-true, all-at, sumℕ-le}
 use Rattle.integer.specs.Words.{word}
 use Rattle.rulebook.specs.declared.Kind.{Kind}
-use Rattle.rulebook.specs.declared.Kind.the-variants.{Quantity, Injection, Price}
+use Rattle.rulebook.specs.declared.Kind.the-variants.{Quantity, Price}
 use Rattle.rulebook.specs.Units.{between, inRange, asQuantity, mostQuantity}
 use Rattle.rulebook.specs.UnitsLaws.{between-true, quantity-range}
 use Rattle.rulebook.specs.ReferencePrice.{mostFacilities}
 use Rattle.rulebook.specs.Shares.{mostAccounts, leastResidual, mostResidual}
-use Rattle.rulebook.specs.Calls.{allInRange, priceInput, shareInput}
+use Rattle.rulebook.specs.Calls.{allInRange, priceInput, PricesIn, shareInput, SharesIn}
 
 -- each word of a list in range is in range
 pub in-range-at : (kind : Kind) (xs : List ℤ) → allInRange kind xs ≡ true → (i : ℕ) → i < length xs → inRange kind (word xs i) ≡ true
@@ -32,11 +31,6 @@ quantities-below xs n h = sumℕ-le n mostQuantity (λ i. asQuantity (word xs i)
 
 -- ---- What an accepted call's input satisfies
 
-pub record SharesIn (r : ℤ) (uegq : List ℤ) : Type 0 where
-  pub residual : natAbs r ≤ leastResidual
-  pub few : length uegq ≤ mostAccounts
-  pub quantities : allInRange Quantity uegq ≡ true
-
 pub shares-in : (r : ℤ) (uegq : List ℤ) → shareInput r uegq ≡ true → SharesIn r uegq
 unfolding shareInput
 shares-in r uegq e =
@@ -45,13 +39,6 @@ shares-in r uegq e =
     let z = and-true (leb 1 (length uegq)) _ (y .0) in
     let b = between-true (minus leastResidual) (pos mostResidual) r (x .0) in
     record { residual = omega (int, b .0, b .1, parts r); few = leb-true (length uegq) mostAccounts (z .1); quantities = y .1 }
-
-pub record PricesIn (mep ieq : List ℤ) : Type 0 where
-  pub some : 1 ≤ length mep
-  pub few : length mep ≤ mostFacilities
-  pub same : length ieq ≡ length mep
-  pub prices : allInRange Price mep ≡ true
-  pub injections : allInRange Injection ieq ≡ true
 
 pub prices-in : (mep ieq : List ℤ) → priceInput mep ieq ≡ true → PricesIn mep ieq
 unfolding priceInput

@@ -18,12 +18,12 @@ use Rattle.rulebook.specs.declared.Section.{Section}
 use Rattle.rulebook.specs.declared.Terms.{Terms}
 use Rattle.rulebook.specs.DayAmount.{residualDue}
 use Rattle.rulebook.specs.Sections.{accountsOf}
-use Rattle.rulebook.specs.Layout.{stored, width, place, intervalSize, ring, base, size, slot, intervalWord, rowWord, intervalWords, accountWords, markWord, accountsWord, lagWord, horizonWord, firstDayWord, nextDayWord, msslWord, balanceWord, accountSpare, headerSpare}
+use Rattle.rulebook.specs.Layout.{stored, width, place, intervalSize, ring, base, size, slot, intervalWord, rowWord, intervalWords, accountWords, markWord, accountsWord, lagWord, horizonWord, firstDayWord, nextDayWord, msslWord, balanceWord, accountSpare, headerSpare, InWindow}
 use Rattle.rulebook.specs.BookData.{Entries}
 use Rattle.rulebook.specs.Close.{posted, postedToMssl, balancesGrown, slotBlanked, dayClosed}
 use Rattle.rulebook.specs.TestLaws.{below-suc}
 use Rattle.rulebook.specs.WindowWalk.{windowSlot}
-use Rattle.rulebook.specs.LayoutLaws.{InWindow, days-apart, interval-apart, interval-inside, row-inside, slot-inside, remainder}
+use Rattle.rulebook.specs.LayoutLaws.{days-apart, interval-apart, interval-inside, row-inside, slot-inside, remainder}
 use Rattle.rulebook.specs.WordLaws.{stored-in, stored-out, length-stored}
 use Rattle.rulebook.specs.LedgerLaws.{Holds, Padding, padding-fits}
 

@@ -21,7 +21,7 @@ use Rattle.rulebook.specs.declared.CloseAnswer.the-variants.{Finished, N
 use Rattle.rulebook.specs.Units.{lastDay, positive}
 use Rattle.rulebook.specs.DayAmount.{residualDue, residualDay, postedAmount, msslAmount}
 use Rattle.rulebook.specs.Terms.{InTerms}
-use Rattle.rulebook.specs.Layout.{flagIndex}
+use Rattle.rulebook.specs.Layout.{flagIndex, InWindow}
 use Rattle.rulebook.specs.BookData.{entriesOf, bookData, dataOf}
 use Rattle.rulebook.specs.WellFormed.{dayBound}
 use Rattle.rulebook.specs.File.{Row}
@@ -31,7 +31,6 @@ use Rattle.rulebook.specs.History.{latest, close, Event, closes, inForce
 use Rattle.rulebook.specs.Demand3.{vestingOf, meterOf}
 use Rattle.rulebook.specs.AmountLaws.{Agree, posted-same}
 use Rattle.rulebook.specs.RowWordLaws.{flag-inside}
-use Rattle.rulebook.specs.LayoutLaws.{InWindow}
 use Rattle.rulebook.specs.LedgerLaws.{entriesIn, entryOf, held-same}
 use Rattle.rulebook.specs.KeptLaws.{none-or}
 use Rattle.rulebook.specs.FormLaws.{ring-pos}

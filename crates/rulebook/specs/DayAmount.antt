@@ -1,11 +1,11 @@
 -- Document 01, "Day amount": the data by name, and the formula over them. Assumes nothing.
 use mathlib.Core.Bool.{Bool, cond}
-use Prim.Native.Nat.{ℕ, _+_, _-_}
+use Prim.Native.Nat.{ℕ, _+_, _-_, _≤_, _<_, min}
 use lib.Dec.{leb}
 use lib.IntN.{ℤ, pos, negℤ, _+ℤ_, _-ℤ_, _*ℤ_}
 use Rattle.integer.specs.Below.{sumℕ, sumℤ}
 use Rattle.rulebook.specs.declared.Terms.{Terms}
-use Rattle.rulebook.specs.Units.{intervals, nearest, thousandthsPerCent}
+use Rattle.rulebook.specs.Units.{intervals, nearest, positive, thousandthsPerCent}
 use Rattle.rulebook.specs.ReferencePrice.{referencePrice}
 use Rattle.rulebook.specs.Shares.{share}
 use Rattle.rulebook.specs.Tranches.{tranche1, tranche2}
@@ -69,6 +69,13 @@ module _ (load n : ℕ) (x : ℕ → AccountData) where
       (x a .rvp1 -ℤ referencePriceOf (x a)) *ℤ pos (tranche1 (rvq a) (x a .bvq) (x a .mq))
       +ℤ (x a .rvp2 -ℤ referencePriceOf (x a)) *ℤ pos (tranche2 (rvq a) (x a .bvq) (x a .mq))
 
+-- the shares of n accounts with these data, of an interval with this NCC load: at most the spare generation and the residual load, zero if
+-- negative; short of the smaller by fewer kWh than there are accounts
+pub record IntervalShares (load n : ℕ) (x : ℕ → AccountData) : Type 0 where
+  pub spare : sumℕ n (rvq load n x) ≤ sumℕ n (λ a. x a .uegq)
+  pub residual : sumℕ n (rvq load n x) ≤ positive (residualLoad load n x)
+  pub short : 0 < n → min (sumℕ n (λ a. x a .uegq)) (positive (residualLoad load n x)) < sumℕ n (rvq load n x) + n
+
 -- ---- The day
 
 module _ (o : Terms) where
@@ -97,3 +104,7 @@ module _ (o : Terms) where
   -- the MSSL gets minus the sum of the posted amounts
   unfoldable pub msslAmount : SettlementData → ℕ → ℤ
   msslAmount x D = negℤ (sumℤ (o .accounts) (λ a. postedAmount x a D))
+
+  -- its exact amount, to which that is near: minus the sum of the exact amounts
+  unfoldable pub msslExact : SettlementData → ℕ → ℤ
+  msslExact x D = negℤ (sumℤ (o .accounts) (λ a. exactAmount x a D))

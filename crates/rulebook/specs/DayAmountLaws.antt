@@ -1,26 +1,18 @@
 -- An interval's shares, and posting: posted cents times 1,000 are within 500 thousandths of the exact amount, and the MSSL's within N × 500. Assumes nothing.
 use mathlib.Core.Path.{_≡_}
-use Prim.Native.Nat.{ℕ, _+_, _*_, _≤_, _<_, min}
+use Prim.Native.Nat.{ℕ, _*_, _≤_, _<_}
 use native.Mathlib.Omega.{arith}
 use lib.Dec.{lit<}
 use lib.IntN.{ℤ, pos, negℤ, natAbs, _+ℤ_, _-ℤ_, _*ℤ_}
-use Rattle.integer.specs.Integer.{positive}
 use Rattle.integer.specs.IntegerLaws.{abs-neg}
-use Rattle.integer.specs.Below.{sumℕ, sumℤ}
+use Rattle.integer.specs.Below.{sumℤ}
 use Rattle.integer.specs.BelowLaws.{abs-sumℤ, sumℤ-linear}
 use Rattle.integer.specs.Ring.{as-diff, diffs, ring}
 use Rattle.integer.specs.NearestLaws.{nearest-is}
 use Rattle.rulebook.specs.declared.Terms.{Terms}
 use Rattle.rulebook.specs.Units.{thousandthsPerCent}
-use Rattle.rulebook.specs.DayAmount.{AccountData, SettlementData, residualLoad, rvq, exactAmount, postedAmount, msslAmount}
+use Rattle.rulebook.specs.DayAmount.{AccountData, SettlementData, residualLoad, rvq, IntervalShares, exactAmount, postedAmount, msslAmount, msslExact}
 use Rattle.rulebook.specs.SharesLaws.{share-total}
-
--- the shares of n accounts with these data, of an interval with this NCC load: at most the spare generation and the residual load, zero if
--- negative; short of the smaller by fewer kWh than there are accounts
-pub record IntervalShares (load n : ℕ) (x : ℕ → AccountData) : Type 0 where
-  pub spare : sumℕ n (rvq load n x) ≤ sumℕ n (λ a. x a .uegq)
-  pub residual : sumℕ n (rvq load n x) ≤ positive (residualLoad load n x)
-  pub short : 0 < n → min (sumℕ n (λ a. x a .uegq)) (positive (residualLoad load n x)) < sumℕ n (rvq load n x) + n
 
 pub interval-shares : (load n : ℕ) (x : ℕ → AccountData) → IntervalShares load n x
 unfolding rvq
@@ -33,11 +25,7 @@ module _ (o : Terms) (x : SettlementData) (D : ℕ) where
   unfolding postedAmount
   posted-within a = omega (arith, nearest-is (exactAmount o x a D) 1000 (lit< tt) .within)
 
-  -- the MSSL's exact amount: minus the sum of the exact amounts
-  unfoldable pub msslExact : ℤ
-  msslExact = negℤ (sumℤ (o .accounts) (λ a. exactAmount o x a D))
-
-  pub mssl-within : natAbs (pos thousandthsPerCent *ℤ msslAmount o x D -ℤ msslExact) ≤ o .accounts * 500
+  pub mssl-within : natAbs (pos thousandthsPerCent *ℤ msslAmount o x D -ℤ msslExact o x D) ≤ o .accounts * 500
   unfolding msslAmount msslExact
   mssl-within =
       let n = o .accounts in

@@ -17,6 +17,11 @@ pub record WindowDay (o : Terms) (C d : ℕ) : Type 0 where
   pub from : windowFrom o C ≤ d
   pub to : d ≤ windowTo o C
 
+-- slot v is of one day of the window, or of none
+pub data SlotDay (o : Terms) (C v : ℕ) : Type 0 where
+  ofDay : (d : ℕ) → WindowDay o C d → slot o d ≡ v → ((d′ : ℕ) → WindowDay o C d′ → slot o d′ ≡ v → d′ ≡ d) → SlotDay o C v
+  ofNone : ((d : ℕ) → WindowDay o C d → slot o d ≡ v → ⊥) → SlotDay o C v
+
 -- ---- An interval's words
 
 -- at least low, at most high

@@ -16,13 +16,12 @@ use Rattle.rulebook.specs.declared.Terms.{Terms}
 use Rattle.rulebook.specs.Units.{lastDay, between, positive}
 use Rattle.rulebook.specs.Terms.{InTerms}
 use Rattle.rulebook.specs.Sections.{accountsOf}
-use Rattle.rulebook.specs.Layout.{width, place, ring, size, intervalSize, slot, intervalWord, rowWord, markWord, accountsWord, lagWord, horizonWord, firstDayWord, nextDayWord, msslWord, balanceWord, accountSpare, headerSpare, headerSpares, accountSpares}
+use Rattle.rulebook.specs.Layout.{width, place, ring, size, intervalSize, slot, intervalWord, rowWord, markWord, accountsWord, lagWord, horizonWord, firstDayWord, nextDayWord, msslWord, balanceWord, accountSpare, headerSpare, headerSpares, accountSpares, InWindow}
 use Rattle.rulebook.specs.BookData.{termsOf, nextDay, entriesOf}
 use Rattle.rulebook.specs.WellFormed.{isZero, rowFits, isThere, intervalBlank, slotBlank, intervalFits, closedRowsThere, accountFits, balanceFits, headerFits, fits, wellFormed, dayBound, daysFit}
 use Rattle.rulebook.specs.TestLaws.{and-left, and-right, all-at}
-use Rattle.rulebook.specs.WindowWalk.{windowSlot, windowSlotFits}
-use Rattle.rulebook.specs.LayoutLaws.{InWindow}
-use Rattle.rulebook.specs.RingLaws.{turn-of, turned, turn-inside}
+use Rattle.rulebook.specs.WindowWalk.{windowSlot, windowSlotFits, turn-of}
+use Rattle.rulebook.specs.RingLaws.{turned, turn-inside}
 use Rattle.rulebook.specs.WalkLaws.{days-walk}
 use Rattle.rulebook.specs.LedgerLaws.{Ledger, Holds, Padding, padding-fits}
 use Rattle.rulebook.specs.KeptLaws.{absent-fits}

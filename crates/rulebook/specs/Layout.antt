@@ -2,7 +2,7 @@
 -- the first words in order, and `FormedBook` and `Leaves`, which say them again in document 01's figures. Assumes nothing.
 use mathlib.Core.Bool.{Bool, true, false}
 use mathlib.Core.List.{List, [], _∷_}
-use Prim.Native.Nat.{ℕ, zero, suc, _+_, _-_, _*_, _%_, min, max}
+use Prim.Native.Nat.{ℕ, zero, suc, _+_, _-_, _*_, _%_, _≤_, _<_, min, max}
 use lib.IntN.{ℤ}
 use lib.Dec.{eqb}
 use lib.ListN.{length, getD, set}
@@ -208,6 +208,12 @@ module _ (o : Terms) where
 
   abbrev pub windowDays : ℕ → ℕ
   windowDays C = suc (windowTo C) - windowFrom C
+
+  -- the same with k = C − F days closed, and to C + H − 1 even past 36,524
+  pub record InWindow (k d : ℕ) : Type 0 where
+    pub begun : o .first ≤ d
+    pub kept : o .first + k ≤ d + o .lag
+    pub ahead : d < o .first + k + o .horizon
 
   -- word m of interval i of slot t
   unfoldable pub intervalWord : ℕ → ℕ → ℕ → ℕ

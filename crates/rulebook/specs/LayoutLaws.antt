@@ -1,7 +1,7 @@
 -- Where words stand: no two words of the book have one index, and no two days of a window of L + H days one slot. Assumes nothing.
 use mathlib.Core.Path.{_≡_, refl, sym, ap, _∙_, subst}
 use mathlib.Core.List.{List}
-use Prim.Native.Nat.{ℕ, zero, _+_, _-_, _*_, _/_, _%_, _≤_, _<_}
+use Prim.Native.Nat.{ℕ, zero, _+_, _-_, _*_, _/_, _%_, _<_}
 use native.Mathlib.Nat.{div-add-mod', mul-comm, add-left-cancel, mod-lt}
 use native.Mathlib.Omega.{arith}
 use lib.Arith.{digits-div, digits-mod, digits-lt}
@@ -10,7 +10,7 @@ use Rattle.rulebook.specs.declared.Section.{Section}
 use Rattle.rulebook.specs.declared.Section.the-variants.{Vesting, Meter, Residual, Ncc}
 use Rattle.rulebook.specs.declared.Terms.{Terms}
 use Rattle.rulebook.specs.Sections.{accountsOf}
-use Rattle.rulebook.specs.Layout.{width, place, intervalSize, ring, base, size, slot, intervalWord, rowWord, Word, tableOf, accountTable, tablePlace, accountPlace, intervalWords, accountWords}
+use Rattle.rulebook.specs.Layout.{width, place, intervalSize, ring, base, size, slot, InWindow, intervalWord, rowWord, Word, tableOf, accountTable, tablePlace, accountPlace, intervalWords, accountWords}
 use Rattle.rulebook.specs.RowWordLaws.{row-word, places-apart}
 
 -- two digits of a number are its own
@@ -117,14 +117,8 @@ module _ (o : Terms) where
       let x = interval-apart (slot o d) (slot o d′) hi hi′ (row-inside (o .accounts) s a j ha hj) (row-inside (o .accounts) s′ a′ j′ ha′ hj′) e in
       record { slots = x .0; interval = x .1; row = row-words-apart (o .accounts) s s′ a a′ j j′ ha ha′ hj hj′ (x .2) }
 
-  -- the window: days of the book from C − L to C + H − 1, with k = C − F closed
-  pub record InWindow (k d : ℕ) : Type 0 where
-    pub begun : o .first ≤ d
-    pub kept : o .first + k ≤ d + o .lag
-    pub ahead : d < o .first + k + o .horizon
-
   -- two days of the window share no slot
-  pub days-apart : (k d d′ : ℕ) → InWindow k d → InWindow k d′ → slot o d ≡ slot o d′ → d ≡ d′
+  pub days-apart : (k d d′ : ℕ) → InWindow o k d → InWindow o k d′ → slot o d ≡ slot o d′ → d ≡ d′
   unfolding slot ring
   days-apart k d d′ h h′ e =
       let n : ℕ = k - o .lag in

@@ -13,7 +13,9 @@ use Rattle.rulebook.specs.declared.Section.the-variants.{Vesting, Meter,
 use Rattle.rulebook.specs.declared.Terms.{Terms}
 use Rattle.rulebook.specs.DayAmount.{postedAmount}
 use Rattle.rulebook.specs.Sections.{Figure, BVQ, BVP, TVQ, TVP, MEP, IEQ, UEGQ, MQ, RVP1, RVP2, NccLoad}
-use Rattle.rulebook.specs.BookData.{bookData}
+use Rattle.rulebook.specs.Layout.{size}
+use Rattle.rulebook.specs.BookData.{bookData, termsOf}
+use Rattle.rulebook.specs.Close.{closed}
 use Rattle.rulebook.specs.Numbers.{Answer}
 use Rattle.rulebook.specs.NamedRows.{NamedRow}
 use Rattle.rulebook.specs.Companion.{KeptFrom}
@@ -87,3 +89,10 @@ pub record SubmitLeaves (o : Terms) (rows : List NamedRow) (before after : List 
   -- every word that no row names is as it was, and no word comes or goes
   pub others : (n : ℕ) → Each (NotNamed o n) rows → word after n ≡ word before n
   pub long : length after ≡ length before
+
+-- ---- Any close
+
+-- accepted or not, of a well-formed book: the words beyond the book, and beyond a statement, are as they were
+pub record CloseKeeps (w statement : List ℤ) : Type 0 where
+  pub book : KeptFrom (size (termsOf w)) w (closed w statement .words)
+  pub written : KeptFrom (termsOf w .accounts + 1) statement (closed w statement .statement)

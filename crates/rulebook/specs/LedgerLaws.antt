@@ -15,7 +15,7 @@ use Rattle.rulebook.specs.declared.Section.{Section}
 use Rattle.rulebook.specs.declared.Section.the-variants.{Vesting, Meter, Residual, Ncc}
 use Rattle.rulebook.specs.declared.Terms.{Terms}
 use Rattle.rulebook.specs.Sections.{accountsOf}
-use Rattle.rulebook.specs.Layout.{width, place, intervalSize, ring, base, size, slot, intervalWord, rowWord, Word, spare, isSpare, tableOf, intervalTable, accountTable, tablePlace, accountPlace, intervalWords, accountWords, markWord, accountsWord, lagWord, horizonWord, firstDayWord, nextDayWord, msslWord, balanceWord, accountSpare, headerSpare, headerSpares, accountSpares}
+use Rattle.rulebook.specs.Layout.{width, place, intervalSize, ring, base, size, slot, intervalWord, rowWord, Word, spare, isSpare, tableOf, intervalTable, accountTable, tablePlace, accountPlace, intervalWords, accountWords, markWord, accountsWord, lagWord, horizonWord, firstDayWord, nextDayWord, msslWord, balanceWord, accountSpare, headerSpare, headerSpares, accountSpares, InWindow}
 use Rattle.rulebook.specs.BookData.{Entries}
 use Rattle.rulebook.specs.File.{Row}
 use Rattle.rulebook.specs.Submit.{entry, rowStored, rowsStored}
@@ -24,7 +24,7 @@ use Rattle.rulebook.specs.TestLaws.{and-left, and-right, and-both}
 use Rattle.rulebook.specs.SectionsLaws.{same-section, section-self}
 use Rattle.rulebook.specs.RowWordLaws.{row-word, not-spare}
 use Rattle.rulebook.specs.WindowWalk.{windowSlot}
-use Rattle.rulebook.specs.LayoutLaws.{rows-apart, InWindow, days-apart, window-apart, interval-apart, row-inside, account-words-apart}
+use Rattle.rulebook.specs.LayoutLaws.{rows-apart, days-apart, window-apart, interval-apart, row-inside, account-words-apart}
 use Rattle.rulebook.specs.WordLaws.{row-out, row-in, length-rowStored}
 
 -- the words of an interval that belong to no row

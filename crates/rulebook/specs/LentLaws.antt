@@ -19,23 +19,23 @@ use Rattle.rulebook.specs.declared.Section.{Section}
 use Rattle.rulebook.specs.declared.SubmitAnswer.the-variants.{IllFormed}
 use Rattle.rulebook.specs.Units.{lastDay}
 use Rattle.rulebook.specs.Sections.{accountsOf}
-use Rattle.rulebook.specs.Layout.{width, rowWord, size}
+use Rattle.rulebook.specs.Layout.{width, rowWord, size, InWindow}
 use Rattle.rulebook.specs.BookData.{entriesOf, termsOf, nextDay}
 use Rattle.rulebook.specs.WellFormed.{wellFormed}
 use Rattle.rulebook.specs.File.{fileRows}
 use Rattle.rulebook.specs.Judging.{limitsOf, judged}
-use Rattle.rulebook.specs.Submit.{rowsStored, taken, submitted}
+use Rattle.rulebook.specs.Submit.{rowsStored, taken, submitted, entryOr}
 use Rattle.rulebook.specs.Close.{Closing, closed, settled, closeRefused, firstMissing}
 use Rattle.rulebook.specs.Numbers.{accepted, ofSubmit, ofClose}
 use Rattle.rulebook.specs.History.{lastFor}
 use Rattle.rulebook.specs.Companion.{KeptFrom}
+use Rattle.rulebook.specs.Leaves.{CloseKeeps}
 use Rattle.rulebook.specs.TestLaws.{T-path}
-use Rattle.rulebook.specs.LayoutLaws.{InWindow}
 use Rattle.rulebook.specs.LedgerLaws.{Storable, rows-held}
 use Rattle.rulebook.specs.SoundLaws.{Sound, file-sound}
 use Rattle.rulebook.specs.FormLaws.{ring-pos}
 use Rattle.rulebook.specs.FormedLaws.{ledgerOf, formed-holds, opened-of, next-of}
-use Rattle.rulebook.specs.StepLaws.{storable, over, overlaid-last}
+use Rattle.rulebook.specs.StepLaws.{storable, overlaid-last}
 use Rattle.rulebook.specs.BeyondLaws.{kept-all, rows-beyond, closed-beyond, statement-beyond}
 
 -- ---- Submissions
@@ -54,7 +54,7 @@ module _ (w : List ℤ) (file : List ℕ) (t : T (wellFormed w)) (e : judged (li
 
   -- a day's words are the last row's for their section, account and day, or as they were
   pub submitted-rows : (s : Section) (a d i j : ℕ) → InWindow (termsOf w) (nextDay w - termsOf w .first) d → a < accountsOf s (termsOf w .accounts) → i < 48 → j < width s
-      → word (submitted w file .words) (rowWord (termsOf w) s a d i j) ≡ over (lastFor (fileRows file) s a d) (entriesOf (termsOf w) w s a d) i j
+      → word (submitted w file .words) (rowWord (termsOf w) s a d i j) ≡ entryOr (lastFor (fileRows file) s a d) (entriesOf (termsOf w) w s a d) i j
   submitted-rows s a d i j hd ha hi hj = rw stored-words
       (rows-held (termsOf w) (ring-pos (termsOf w) (opened-of w t)) (fileRows file) (ledgerOf w) w rows-storable (formed-holds w t) .held s a d i j hd ha hi hj
       ∙ overlaid-last (fileRows file) (entriesOf (termsOf w) w) s a d i j)
@@ -92,10 +92,6 @@ refused-close w statement n = go (wellFormed w) (ltb lastDay (nextDay w)) (ltb (
     go true false true x y = (refl, refl)
     go true false false (At n) y = (refl, refl)
     go true false false Nothing y = absurd (y refl)
-
-pub record CloseKeeps (w statement : List ℤ) : Type 0 where
-  pub book : KeptFrom (size (termsOf w)) w (closed w statement .words)
-  pub written : KeptFrom (termsOf w .accounts + 1) statement (closed w statement .statement)
 
 pub closed-words-beyond : (w statement : List ℤ) → T (wellFormed w) → CloseKeeps w statement
 unfolding closed settled

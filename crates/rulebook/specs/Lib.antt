@@ -10,6 +10,7 @@ pub mod Layout
 pub mod BookData
 pub mod WellFormed
 pub mod FormedBook
+pub mod WindowWalk
 pub mod Opening
 pub mod File
 pub mod Judging
@@ -30,6 +31,7 @@ pub mod Companion
 pub mod SearchOrder
 pub mod CloseTable
 pub mod Leaves
+pub mod Bounds
 -- what is proved
 pub mod Theorems
 pub mod FileTheorems
@@ -63,7 +65,6 @@ pub mod TestLaws
 pub mod SectionsLaws
 pub mod RowWordLaws
 pub mod LayoutLaws
-pub mod WindowWalk
 pub mod RingLaws
 pub mod WalkLaws
 pub mod WindowLaws

@@ -12,10 +12,10 @@ use Rattle.rulebook.specs.Units.{mostQuantity, mostLoad, mostPrice, inRa
 use Rattle.rulebook.specs.Sections.{kindOf, valueInRange, accountsOf, Figure, BVQ, BVP, TVQ, TVP, MEP, IEQ, UEGQ, MQ, RVP1, RVP2, NccLoad, figureSection, figurePlace}
 use Rattle.rulebook.specs.Layout.{flagIndex}
 use Rattle.rulebook.specs.BookData.{Entries, entryNamed, dataOf}
+use Rattle.rulebook.specs.Bounds.{SizedDay}
 use Rattle.rulebook.specs.UnitsLaws.{quantity-range, load-range, price-range, injection-range}
 use Rattle.rulebook.specs.TestLaws.{T-path}
 use Rattle.rulebook.specs.RowWordLaws.{Usable}
-use Rattle.rulebook.specs.SizeLaws.{SizedDay}
 
 -- the words of day d are in range
 pub record RangedEntries (n : ℕ) (c : Entries) (d : ℕ) : Type 0 where

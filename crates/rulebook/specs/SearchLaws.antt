@@ -19,7 +19,7 @@ use Rattle.rulebook.specs.declared.Terms.{Terms}
 use Rattle.rulebook.specs.DayAmount.{residualDue}
 use Rattle.rulebook.specs.Terms.{InTerms}
 use Rattle.rulebook.specs.Sections.{accountsOf}
-use Rattle.rulebook.specs.Layout.{flagIndex, rowWord, flagWord}
+use Rattle.rulebook.specs.Layout.{flagIndex, rowWord, flagWord, InWindow}
 use Rattle.rulebook.specs.WellFormed.{isZero}
 use Rattle.rulebook.specs.File.{Row}
 use Rattle.rulebook.specs.Close.{absentFlag, missingAt, firstMissing}
@@ -27,7 +27,6 @@ use Rattle.rulebook.specs.History.{RowsInForce}
 use Rattle.rulebook.specs.Demand3.{Needed, vestingOf, meterOf, nccOf, residualOf}
 use Rattle.rulebook.specs.Companion.{flagLacking}
 use Rattle.rulebook.specs.RowWordLaws.{flag-inside}
-use Rattle.rulebook.specs.LayoutLaws.{InWindow}
 use Rattle.rulebook.specs.LedgerLaws.{entriesIn, entryOf, Holds}
 use Rattle.rulebook.specs.KeptLaws.{Kept, none-or, flag-more, nonzero}
 use Rattle.rulebook.specs.FormLaws.{zero-yes}

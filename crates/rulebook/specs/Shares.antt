@@ -1,8 +1,8 @@
 -- Document 01, "Shares and tranches": the share (RVQ) of the residual load R (003, 2.5.8.1). Assumes nothing.
 use mathlib.Core.Bool.{cond, _||_}
-use Prim.Native.Nat.{ℕ, _*_, _/_}
+use Prim.Native.Nat.{ℕ, _+_, _*_, _/_, _≤_, _<_, min}
 use lib.Dec.{eqb}
-use lib.IntN.{ℤ, pos}
+use lib.IntN.{ℤ, pos, _*ℤ_}
 use lib.Signed.{leZ}
 use Rattle.integer.specs.Below.{sumℕ}
 use Rattle.rulebook.specs.Units.{positive}
@@ -24,3 +24,22 @@ shareOf r s u = cond (leZ r (pos 0) || eqb s 0) 0 (cond (leZ (pos s) r) u (posit
 -- the share of account a of n; S is the sum of UEGQ
 unfoldable pub share : ℤ → ℕ → (ℕ → ℕ) → ℕ → ℕ
 share r n uegq a = shareOf r (sumℕ n uegq) (uegq a)
+
+-- ---- What the rule says of it
+
+-- q is not above the rule's Min{Max(R × UEGQ / S, 0), UEGQ}, for S above 0
+pub record NotAbove (r : ℤ) (s u q : ℕ) : Type 0 where
+  pub quotient : q * s ≤ positive (r *ℤ pos u)
+  pub cap : q ≤ u
+
+-- q is the rule's share rounded down: the greatest whole number not above it
+pub record RuleShare (r : ℤ) (s u q : ℕ) : Type 0 where
+  pub fits : NotAbove r s u q
+  pub greatest : (p : ℕ) → NotAbove r s u p → p ≤ q
+
+-- with S the spare generation and max(R, 0) the residual load: the shares total at most each, and fall short of the smaller by fewer kWh
+-- than there are accounts
+pub record ShareTotal (r : ℤ) (n : ℕ) (uegq : ℕ → ℕ) : Type 0 where
+  pub spare : sumℕ n (share r n uegq) ≤ sumℕ n uegq
+  pub residual : sumℕ n (share r n uegq) ≤ positive r
+  pub short : 0 < n → min (sumℕ n uegq) (positive r) < sumℕ n (share r n uegq) + n

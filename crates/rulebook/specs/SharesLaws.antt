@@ -2,7 +2,7 @@
 use mathlib.Core.Path.{_≡_, refl, sym, ap, _∙_}
 use mathlib.Core.Bool.{Bool, true, false, cond, _||_}
 use mathlib.Core.Logic.{_⊎_, inl, inr, ⊎-elim}
-use Prim.Native.Nat.{ℕ, zero, suc, _+_, _*_, _/_, _≤_, _<_, min}
+use Prim.Native.Nat.{ℕ, zero, suc, _+_, _*_, _/_, _≤_, _<_}
 use native.Mathlib.Nat.{div-add-mod, mod-lt, mul-add, suc-mul, mul-comm, mul-zero, zero-mul, mul-le-mul, le-refl, le-of-mul-le-mul-left, lt-of-mul-lt-mul-left, div-le-of-le-mul}
 use native.Mathlib.Omega.{arith}
 use borrow.Author.Tests.{eq-eqb, ne-eqb}
@@ -13,7 +13,7 @@ use Rattle.integer.specs.Integer.{positive}
 use Rattle.integer.specs.IntegerLaws.{int, parts, le-true, le-false, neg-parts}
 use Rattle.integer.specs.Below.{fold, sumℕ}
 use Rattle.integer.specs.BelowLaws.{lt-or-le, sumℕ-cong}
-use Rattle.rulebook.specs.Shares.{shareOf, share}
+use Rattle.rulebook.specs.Shares.{shareOf, share, RuleShare, ShareTotal}
 
 -- ---- The three cases
 
@@ -41,16 +41,6 @@ unfolding shareOf
 share-part r s u h k = rw (not-none r s h (omega arith), le-false (pos s) r (omega (int, parts r)))
 
 -- ---- One share
-
--- q is not above the rule's Min{Max(R × UEGQ / S, 0), UEGQ}, for S above 0
-pub record NotAbove (r : ℤ) (s u q : ℕ) : Type 0 where
-  pub quotient : q * s ≤ positive (r *ℤ pos u)
-  pub cap : q ≤ u
-
--- q is the rule's share rounded down: the greatest whole number not above it
-pub record RuleShare (r : ℤ) (s u q : ℕ) : Type 0 where
-  pub fits : NotAbove r s u q
-  pub greatest : (p : ℕ) → NotAbove r s u p → p ≤ q
 
 positive-mul : (r : ℤ) (u : ℕ) → positive (r *ℤ pos u) ≡ positive r * u
 positive-mul (pos n) u = refl
@@ -116,13 +106,6 @@ unfolding share
 share-cong r n u u′ a ha h = rw (sumℕ-cong n u u′ h, h a ha)
 
 -- ---- An interval's total
-
--- with S the spare generation and max(R, 0) the residual load: the shares total at most each, and fall short of the smaller by fewer kWh
--- than there are accounts
-pub record ShareTotal (r : ℤ) (n : ℕ) (uegq : ℕ → ℕ) : Type 0 where
-  pub spare : sumℕ n (share r n uegq) ≤ sumℕ n uegq
-  pub residual : sumℕ n (share r n uegq) ≤ positive r
-  pub short : 0 < n → min (sumℕ n uegq) (positive r) < sumℕ n (share r n uegq) + n
 
 -- n quotients of r times u a by s
 quotients-say : (n r s : ℕ) (u : ℕ → ℕ) → 0 < s

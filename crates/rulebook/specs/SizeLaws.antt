@@ -16,25 +16,12 @@ use Rattle.rulebook.specs.ReferencePrice.{weight}
 use Rattle.rulebook.specs.Tranches.{tranche1, tranche2}
 use Rattle.rulebook.specs.DayAmount.{AccountData, SettlementData, referencePriceOf, vestedQuantity, vestingAmount, residualLoad, rvq, residualAmount, residualDue, residualDay, intervalAmount, exactAmount, postedAmount}
 use Rattle.rulebook.specs.WellFormed.{dayBound}
+use Rattle.rulebook.specs.Bounds.{Sized, SizedDay}
 use Rattle.rulebook.specs.ReferencePriceLaws.{price-size}
 use Rattle.rulebook.specs.SharesLaws.{share-le}
 use Rattle.rulebook.specs.TranchesLaws.{tranche-split}
 
 -- ---- One account's interval
-
--- an account's data in range
-pub record Sized (x : AccountData) : Type 0 where
-  pub bvq : x .bvq ≤ mostQuantity
-  pub bvp : natAbs (x .bvp) ≤ mostPrice
-  pub tvq : (t : ℕ) → t < 3 → x .tvq t ≤ mostQuantity
-  pub tvp : (t : ℕ) → t < 3 → natAbs (x .tvp t) ≤ mostPrice
-  pub few : x .facilities ≤ 4
-  pub mep : (f : ℕ) → f < 4 → natAbs (x .mep f) ≤ mostPrice
-  pub ieq : (f : ℕ) → f < 4 → natAbs (x .ieq f) ≤ mostQuantity
-  pub uegq : x .uegq ≤ mostQuantity
-  pub mq : x .mq ≤ mostQuantity
-  pub rvp1 : natAbs (x .rvp1) ≤ mostPrice
-  pub rvp2 : natAbs (x .rvp2) ≤ mostPrice
 
 module _ (x : AccountData) (h : Sized x) where
   -- the first n facilities: weights, weighted sum, sum of MEP
@@ -141,10 +128,6 @@ module _ (load n : ℕ) (x : ℕ → AccountData) (h : (b : ℕ) → b < n → S
         omega (arith, abs-add ((x a .rvp1 -ℤ referencePriceOf (x a)) *ℤ pos t) ((x a .rvp2 -ℤ referencePriceOf (x a)) *ℤ pos u))
 
 -- ---- The day
-
--- the accounts' data of day d are in range
-abbrev pub SizedDay : ℕ → SettlementData → ℕ → Type 0
-SizedDay n x d = (a i : ℕ) → a < n → i < 48 → Sized (x .account a d i)
 
 posted-bound : (z : ℤ) → natAbs z ≤ 4800000000000000 → natAbs (nearest z 1000) ≤ 4800000000000
 posted-bound z h = rw nearest-abs (omega arith)

@@ -16,15 +16,14 @@ use Rattle.rulebook.specs.declared.Section.{Section}
 use Rattle.rulebook.specs.declared.Section.the-variants.{Vesting, Meter, Residual, Ncc}
 use Rattle.rulebook.specs.declared.Terms.{Terms}
 use Rattle.rulebook.specs.Units.{lastDay}
-use Rattle.rulebook.specs.Layout.{flagIndex}
+use Rattle.rulebook.specs.Layout.{flagIndex, InWindow}
 use Rattle.rulebook.specs.BookData.{Entries}
 use Rattle.rulebook.specs.WellFormed.{isZero, dayBound}
 use Rattle.rulebook.specs.File.{Row}
 use Rattle.rulebook.specs.Judging.{openFrom, limitsOf}
-use Rattle.rulebook.specs.Submit.{entry}
+use Rattle.rulebook.specs.Submit.{entry, entryOr}
 use Rattle.rulebook.specs.History.{latest, RowsInForce, isFor, lastFor}
 use Rattle.rulebook.specs.TestLaws.{below-suc}
-use Rattle.rulebook.specs.LayoutLaws.{InWindow}
 use Rattle.rulebook.specs.LedgerLaws.{entriesIn, entryOf, Ledger, IsFor, is-for, Storable, replaced, overlaid}
 use Rattle.rulebook.specs.SoundLaws.{Ranged, Sound}
 use Rattle.rulebook.specs.KeptLaws.{Kept, row-fits, none-or, flag-more, nonzero}
@@ -86,16 +85,12 @@ kept-same {o} {k} {rows} {rows′} {balance} e h = subst (λ (r : RowsInForce). 
 abbrev pub newer : List Row → RowsInForce → RowsInForce
 newer rs rows s a d = latest (lastFor rs s a d) (rows s a d)
 
-abbrev pub over : Option Row → (ℕ → ℕ → ℤ) → ℕ → ℕ → ℤ
-over none f i j = f i j
-over (some r) f i j = entry r i j
-
-pub overlaid-last : (rs : List Row) (g : Entries) (s : Section) (a d i j : ℕ) → overlaid rs g s a d i j ≡ over (lastFor rs s a d) (g s a d) i j
+pub overlaid-last : (rs : List Row) (g : Entries) (s : Section) (a d i j : ℕ) → overlaid rs g s a d i j ≡ entryOr (lastFor rs s a d) (g s a d) i j
 unfolding overlaid lastFor
 overlaid-last [] g s a d i j = refl
 overlaid-last (r ∷ rs) g s a d i j = overlaid-last rs (replaced r g) s a d i j ∙ step (lastFor rs s a d) (isFor s a d r)
   where
-    step : (x : Option Row) (b : Bool) → over x (λ i j. cond b (entry r i j) (g s a d i j)) i j ≡ over (latest x (cond b (some r) none)) (g s a d) i j
+    step : (x : Option Row) (b : Bool) → entryOr x (λ i j. cond b (entry r i j) (g s a d i j)) i j ≡ entryOr (latest x (cond b (some r) none)) (g s a d) i j
     step none true = unfold latest in refl
     step none false = unfold latest in refl
     step (some q) b = unfold latest in refl
@@ -103,7 +98,7 @@ overlaid-last (r ∷ rs) g s a d i j = overlaid-last rs (replaced r g) s a d i j
 pub newer-entries : (rs : List Row) (rows : RowsInForce) (s : Section) (a d i j : ℕ) → overlaid rs (entriesIn rows) s a d i j ≡ entriesIn (newer rs rows) s a d i j
 newer-entries rs rows s a d i j = overlaid-last rs (entriesIn rows) s a d i j ∙ step (lastFor rs s a d)
   where
-    step : (x : Option Row) → over x (entriesIn rows s a d) i j ≡ entryOf (latest x (rows s a d)) i j
+    step : (x : Option Row) → entryOr x (entriesIn rows s a d) i j ≡ entryOf (latest x (rows s a d)) i j
     step none = unfold latest in refl
     step (some q) = unfold latest in refl
 

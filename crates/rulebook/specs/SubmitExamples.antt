@@ -15,20 +15,18 @@ use Rattle.rulebook.specs.declared.Section.the-variants.{Vesting, Meter,
 use Rattle.rulebook.specs.declared.Terms.{Terms}
 use Rattle.rulebook.specs.declared.Verdict.the-variants.{Accepted}
 use Rattle.rulebook.specs.Sections.{accountsOf}
-use Rattle.rulebook.specs.Layout.{width, base, ring, intervalSize, slot, intervalWord, rowWord}
+use Rattle.rulebook.specs.Layout.{width, base, ring, intervalSize, slot, intervalWord, rowWord, InWindow}
 use Rattle.rulebook.specs.BookData.{termsOf, nextDay, entriesOf}
 use Rattle.rulebook.specs.WellFormed.{wellFormed}
 use Rattle.rulebook.specs.Opening.{newBook}
 use Rattle.rulebook.specs.File.{num, signed32, valueAt, rowEnd, rowPos, sectionEnd, sectionRows, fileRows, Row, numberOf, figureOf}
 use Rattle.rulebook.specs.Judging.{upTo, fieldIn, value, key, given, rest, rowAfter, judgedRow, judgedSection, limitsOf, judged}
-use Rattle.rulebook.specs.Submit.{entry, entryStored, rowStored, rowsStored, submitted}
+use Rattle.rulebook.specs.Submit.{entry, entryStored, rowStored, rowsStored, submitted, entryOr}
 use Rattle.rulebook.specs.History.{closes, latest, lastFor}
 use Rattle.rulebook.specs.Examples.{one, two, in-two, zeros}
 use Rattle.rulebook.specs.LayoutExamples.{places}
-use Rattle.rulebook.specs.LayoutLaws.{InWindow}
 use Rattle.rulebook.specs.IndexLaws.{row-run}
 use Rattle.rulebook.specs.WordLaws.{row-in, row-out, length-rowStored}
-use Rattle.rulebook.specs.StepLaws.{over}
 use Rattle.rulebook.specs.LentLaws.{submitted-rows}
 use Rattle.rulebook.specs.StateLaws.{terms, next}
 use Rattle.rulebook.specs.StartLaws.{new-state, new-formed}
@@ -143,7 +141,7 @@ stored-rows = record {
   otherSlot = λ w m x y. row-out two dayBefore 48 w m (λ i j hi hj e. omega (arith, e, row-run two Vesting 1 9497 i j hj));
 }
 
--- ---- Computed, over words that are all 9: what still is 9 was not written
+-- ---- Computed, entryOr words that are all 9: what still is 9 was not written
 
 abbrev nines : ℕ → List ℤ
 nines n = replicate n (pos 9)
@@ -232,15 +230,15 @@ begun-as {w} b P x = subst (λ (o : Terms). P o (nextDay w)) (sym (b .terms)) (s
 
 module _ (w : List ℤ) (b : Begun w) (s : Section) (a i : ℕ) (ha : a < accountsOf s 2) (hi : i < 48) where
   -- word j of a row of 9,497 at interval i
-  after-word : (j : ℕ) → j < width s → word (after w) (rowWord two s a 9497 i j) ≡ over (lastFor (fileRows file) s a 9497) (entriesOf two w s a 9497) i j
+  after-word : (j : ℕ) → j < width s → word (after w) (rowWord two s a 9497 i j) ≡ entryOr (lastFor (fileRows file) s a 9497) (entriesOf two w s a 9497) i j
   after-word j hj =
-      subst (λ (o : Terms). word (after w) (rowWord o s a 9497 i j) ≡ over (lastFor (fileRows file) s a 9497) (entriesOf o w s a 9497) i j) (b .terms)
+      subst (λ (o : Terms). word (after w) (rowWord o s a 9497 i j) ≡ entryOr (lastFor (fileRows file) s a 9497) (entriesOf o w s a 9497) i j) (b .terms)
       (submitted-rows w file (b .formed) (begun-as b (λ o C. judged (limitsOf o C) file ≡ Accepted) file-accepted) s a 9497 i j
       (begun-as b (λ o C. InWindow o (C - o .first) 9497) (omega arith)) (begun-as b (λ o C. a < accountsOf s (o .accounts)) ha) hi hj)
 
   after-words : (at : ℕ) → rowWord two s a 9497 i 0 ≡ at
-      → wordsFrom at (width s) (after w) ≡ tabulate (width s) (over (lastFor (fileRows file) s a 9497) (entriesOf two w s a 9497) i)
-  after-words at e = words-of at (width s) (after w) (over (lastFor (fileRows file) s a 9497) (entriesOf two w s a 9497) i)
+      → wordsFrom at (width s) (after w) ≡ tabulate (width s) (entryOr (lastFor (fileRows file) s a 9497) (entriesOf two w s a 9497) i)
+  after-words at e = words-of at (width s) (after w) (entryOr (lastFor (fileRows file) s a 9497) (entriesOf two w s a 9497) i)
       (λ j hj. ap (word (after w)) (omega (arith, e, row-run two s a 9497 i j hj)) ∙ after-word j hj)
 
 pub submitted-file : SubmittedFile

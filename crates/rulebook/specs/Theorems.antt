@@ -14,18 +14,19 @@ use Rattle.rulebook.specs.declared.Terms.{Terms}
 use Rattle.rulebook.specs.declared.Section.{Section}
 use Rattle.rulebook.specs.declared.Verdict.the-variants.{Accepted}
 use Rattle.rulebook.specs.Units.{lastDay, nearest}
-use Rattle.rulebook.specs.Shares.{shareOf}
-use Rattle.rulebook.specs.DayAmount.{AccountData, SettlementData, exactAmount, postedAmount, msslAmount}
+use Rattle.rulebook.specs.Shares.{shareOf, ShareTotal, RuleShare}
+use Rattle.rulebook.specs.Tranches.{TrancheSplit}
+use Rattle.rulebook.specs.DayAmount.{AccountData, SettlementData, exactAmount, postedAmount, msslAmount, IntervalShares, msslExact}
 use Rattle.rulebook.specs.Terms.{InTerms}
 use Rattle.rulebook.specs.Sections.{accountsOf}
-use Rattle.rulebook.specs.Layout.{ring, slot, size, width, rowWord}
+use Rattle.rulebook.specs.Layout.{ring, slot, size, width, rowWord, InWindow}
 use Rattle.rulebook.specs.BookData.{nextDay, termsOf, entriesOf}
 use Rattle.rulebook.specs.WellFormed.{daysFit, wellFormed}
-use Rattle.rulebook.specs.FormedBook.{WindowDay, FormedBook}
+use Rattle.rulebook.specs.FormedBook.{WindowDay, FormedBook, SlotDay}
 use Rattle.rulebook.specs.Opening.{newBook}
 use Rattle.rulebook.specs.File.{fileRows}
 use Rattle.rulebook.specs.Judging.{limitsOf, judged}
-use Rattle.rulebook.specs.Submit.{submitted}
+use Rattle.rulebook.specs.Submit.{submitted, entryOr}
 use Rattle.rulebook.specs.Close.{closed}
 use Rattle.rulebook.specs.Numbers.{Answer, accepted, ofSubmit, ofClose}
 use Rattle.rulebook.specs.NamedRows.{NamedRow, namedRows}
@@ -35,7 +36,7 @@ use Rattle.rulebook.specs.Demand3.{Demand3OnCalls, Demand3Holds}
 use Rattle.rulebook.specs.Companion.{OpeningHolds, CompanionHolds, KeptFrom}
 use Rattle.rulebook.specs.SearchOrder.{SearchHolds}
 use Rattle.rulebook.specs.CloseTable.{CloseTable}
-use Rattle.rulebook.specs.Leaves.{SubmitLeaves, CloseLeaves}
+use Rattle.rulebook.specs.Leaves.{SubmitLeaves, CloseLeaves, CloseKeeps}
 use Rattle.rulebook.specs.FileTheorems.{FileTheorems, file-theorems}
 use Rattle.rulebook.specs.Figures.{Right, starred, starred-right}
 use Rattle.rulebook.specs.WorkedDay.{WorkedDay, worked-day}
@@ -51,21 +52,20 @@ use Rattle.rulebook.specs.CallExamples.{Openings, openings, LentBooks, l
 use Rattle.rulebook.specs.SubmitExamples.{StoredRows, stored-rows, OverNines, over-nines, SubmittedFile, submitted-file}
 use Rattle.rulebook.specs.HistoryExamples.{Closes, closes-told, NewBooks, new-books}
 use Rattle.rulebook.specs.SearchExamples.{SearchedFlags, searched-flags}
-use Rattle.rulebook.specs.SharesLaws.{ShareTotal, share-total, RuleShare, share-rule}
-use Rattle.rulebook.specs.TranchesLaws.{TrancheSplit, tranche-split}
-use Rattle.rulebook.specs.DayAmountLaws.{IntervalShares, interval-shares, posted-within, msslExact, mssl-within}
-use Rattle.rulebook.specs.LayoutLaws.{InWindow}
+use Rattle.rulebook.specs.SharesLaws.{share-total, share-rule}
+use Rattle.rulebook.specs.TranchesLaws.{tranche-split}
+use Rattle.rulebook.specs.DayAmountLaws.{interval-shares, posted-within, mssl-within}
 use Rattle.rulebook.specs.WindowWalk.{windowSlotFits}
+use Rattle.rulebook.specs.Bounds.{CloseSized}
 use Rattle.rulebook.specs.WalkLaws.{days-are-places}
-use Rattle.rulebook.specs.WindowLaws.{SlotDay, window-days-apart, slot-day}
+use Rattle.rulebook.specs.WindowLaws.{window-days-apart, slot-day}
 use Rattle.rulebook.specs.FormedBookLaws.{formed-book, book-formed}
-use Rattle.rulebook.specs.BookSizeLaws.{CloseSized, close-sized}
+use Rattle.rulebook.specs.BookSizeLaws.{close-sized}
 use Rattle.rulebook.specs.SearchOrderLaws.{search-holds}
 use Rattle.rulebook.specs.CloseTableLaws.{close-table}
-use Rattle.rulebook.specs.StepLaws.{over}
 use Rattle.rulebook.specs.AnySubmitLaws.{submitted-formed}
 use Rattle.rulebook.specs.AnyCloseLaws.{closed-formed}
-use Rattle.rulebook.specs.LentLaws.{CloseKeeps, submitted-beyond, closed-words-beyond, submitted-rows, refused-submit, refused-close}
+use Rattle.rulebook.specs.LentLaws.{submitted-beyond, closed-words-beyond, submitted-rows, refused-submit, refused-close}
 use Rattle.rulebook.specs.LeavesLaws.{submitted-leaves, closed-leaves}
 use Rattle.rulebook.specs.DeterminedLaws.{submit-determined, close-determined}
 use Rattle.rulebook.specs.StartLaws.{opening-told, new-formed}
@@ -102,7 +102,7 @@ pub record Theorems : Type 0 where
   -- an accepted row replaces all it names: each word of each day of the window is the last row's, or as it was
   pub submitStores : (w : List ℤ) (file : List ℕ) → T (wellFormed w) → judged (limitsOf (termsOf w) (nextDay w)) file ≡ Accepted
       → (s : Section) (a d i j : ℕ) → InWindow (termsOf w) (nextDay w - termsOf w .first) d → a < accountsOf s (termsOf w .accounts) → i < 48 → j < width s
-      → word (submitted w file .words) (rowWord (termsOf w) s a d i j) ≡ over (lastFor (fileRows file) s a d) (entriesOf (termsOf w) w s a d) i j
+      → word (submitted w file .words) (rowWord (termsOf w) s a d i j) ≡ entryOr (lastFor (fileRows file) s a d) (entriesOf (termsOf w) w s a d) i j
   -- every word that an accepted file or close leaves, by its index: what is replaced, what grows, what is blanked, and that all else is as it was; the close's
   -- statement, day and count
   pub submitLeaves : (w : List ℤ) (file : List ℕ) → ofSubmit (submitted w file .answer) .number ≡ accepted → SubmitLeaves (termsOf w) (namedRows file) w (submitted w file .words)

@@ -11,12 +11,11 @@ use lib.IntN.{ℤ}
 use Rattle.integer.specs.Below.{all}
 use Rattle.rulebook.specs.declared.Terms.{Terms}
 use Rattle.rulebook.specs.Units.{lastDay}
-use Rattle.rulebook.specs.Layout.{ring, slot, windowFrom, windowDays}
+use Rattle.rulebook.specs.Layout.{ring, slot, windowFrom, windowDays, InWindow}
 use Rattle.rulebook.specs.WellFormed.{slotBlank, intervalFits, closedRowsThere, dayFits, isDated, daysFit}
 use Rattle.rulebook.specs.TestLaws.{and-left, and-right, and-both, or-left, or-right, or-cases, nor-left, nor-right, cond-yes, not-ltb, all-yes, any-yes, all-at, any-at, tests-same}
-use Rattle.rulebook.specs.WindowWalk.{windowSlot, windowSlotFits}
-use Rattle.rulebook.specs.LayoutLaws.{InWindow}
-use Rattle.rulebook.specs.RingLaws.{turn-of, turn-inside, turned, places-apart, place-slot, place-day, placeOf, day-place}
+use Rattle.rulebook.specs.WindowWalk.{windowSlot, windowSlotFits, turn-of}
+use Rattle.rulebook.specs.RingLaws.{turn-inside, turned, places-apart, place-slot, place-day, placeOf, day-place}
 
 module _ (o : Terms) (w : List ℤ) (k : ℕ) (p : 1 ≤ o .horizon) where
   ring-some : zero < ring o

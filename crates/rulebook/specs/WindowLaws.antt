@@ -12,17 +12,13 @@ use Rattle.integer.specs.Below.{all}
 use Rattle.integer.specs.BelowLaws.{either}
 use Rattle.rulebook.specs.declared.Terms.{Terms}
 use Rattle.rulebook.specs.Units.{lastDay}
-use Rattle.rulebook.specs.Layout.{ring, slot, windowFrom, windowDays}
+use Rattle.rulebook.specs.Layout.{ring, slot, windowFrom, windowDays, InWindow}
 use Rattle.rulebook.specs.WellFormed.{slotBlank, dayFits, isDated, daysFit}
-use Rattle.rulebook.specs.FormedBook.{WindowDay}
+use Rattle.rulebook.specs.FormedBook.{WindowDay, SlotDay, ofDay, ofNone}
+use Rattle.rulebook.specs.WindowWalk.{turn-of}
 use Rattle.rulebook.specs.TestLaws.{and-left, and-right, and-both, or-left, or-right, or-cases, all-yes, any-yes, all-at, any-at}
-use Rattle.rulebook.specs.LayoutLaws.{InWindow, days-apart}
-use Rattle.rulebook.specs.RingLaws.{turn-of, turn-inside, turned, places-apart, place-slot, place-day, placeOf, day-place}
-
--- slot v is of one day of the window, or of none
-pub data SlotDay (o : Terms) (C v : ℕ) : Type 0 where
-  ofDay : (d : ℕ) → WindowDay o C d → slot o d ≡ v → ((d′ : ℕ) → WindowDay o C d′ → slot o d′ ≡ v → d′ ≡ d) → SlotDay o C v
-  ofNone : ((d : ℕ) → WindowDay o C d → slot o d ≡ v → ⊥) → SlotDay o C v
+use Rattle.rulebook.specs.LayoutLaws.{days-apart}
+use Rattle.rulebook.specs.RingLaws.{turn-inside, turned, places-apart, place-slot, place-day, placeOf, day-place}
 
 module _ (o : Terms) (C : ℕ) (horizon : 1 ≤ o .horizon) (begun : o .first ≤ C) where
   k : ℕ

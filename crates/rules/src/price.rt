@@ -14,8 +14,7 @@ ghost use Rattle.integer.specs.Words.{word};
 ghost use Rattle.rulebook.specs.Units.{mostPrice, mostQuantity};
 ghost use Rattle.rulebook.specs.ReferencePrice.{weight, average};
 ghost use Rattle.rulebook.specs.Numbers.{priceReturned};
-ghost use Rattle.rulebook.specs.Calls.{priceInput, priceCall};
-ghost use Rattle.rulebook.specs.CallsLaws.{PricesIn};
+ghost use Rattle.rulebook.specs.Calls.{priceInput, priceCall, PricesIn};
 ghost use Rattle.rules.specs.PriceSums.{sumsOf, added, Within};
 
 // The sums of some facilities, of which V is the average: MEP times weight, weight, MEP, and their number.

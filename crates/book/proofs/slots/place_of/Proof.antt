@@ -5,7 +5,7 @@ use native.Mathlib.Nat.{mod-lt}
 use native.Mathlib.Omega.{arith}
 use borrow.Author.Needs.{needs}
 use Rattle.rulebook.specs.Layout.{ring}
-use Rattle.rulebook.specs.RingLaws.{turn-of}
+use Rattle.rulebook.specs.WindowWalk.{turn-of}
 use Rattle.book.proofs.slots.place_of.Statement.{statement}
 use Rattle.book.proofs.slots.place_of.Tie as tie
 

@@ -11,8 +11,8 @@ use Rattle.integer.specs.Below.{fold, all}
 use Rattle.integer.specs.WordsLaws.{row-fits, lent}
 use Rattle.integer.specs.Words.{part}
 use Rattle.rulebook.specs.Layout.{ring}
-use Rattle.rulebook.specs.RingLaws.{turn-of}
 use Rattle.rulebook.specs.declared.Terms.{Terms}
+use Rattle.rulebook.specs.WindowWalk.{turn-of}
 use Rattle.book.specs.LoopLaws.{all-step, length-lent}
 use Rattle.book.specs.Parts.{slotFits}
 use Rattle.book.specs.Slots.{slotLength, isDay, slotsFit}

@@ -10,8 +10,9 @@ use Rattle.integer.specs.IntegerLaws.{int}
 use Rattle.integer.specs.Bits.{got}
 use Rattle.integer.specs.Words.{word}
 use Rattle.rulebook.specs.declared.Kind.the-variants.{Injection, Price}
+use Rattle.rulebook.specs.Calls.{PricesIn}
 use Rattle.rulebook.specs.UnitsLaws.{price-range, injection-range}
-use Rattle.rulebook.specs.CallsLaws.{PricesIn, in-range-at}
+use Rattle.rulebook.specs.CallsLaws.{in-range-at}
 use Rattle.rules.specs.PriceSums.{sumsOf, added, Within, sums-zero, sums-suc, sums-count, sums-within}
 use Rattle.rules.proofs.price.sums_of.Statement.{statement}
 use Rattle.rules.proofs.price.sums_of.Tie as tie
