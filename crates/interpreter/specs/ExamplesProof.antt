@@ -27,7 +27,8 @@ use Rattle.rulebook.specs.Companion.{submitTold, firstLacking, closeTold}
 use Rattle.rulebook.specs.Examples.{one, two, in-one, in-two, zeros}
 use Rattle.rulebook.specs.LayoutExamples.{places}
 use Rattle.rulebook.specs.StartLaws.{new-state}
-use Rattle.rulebook.specs.StateLaws.{State, submit-step}
+use Rattle.rulebook.specs.Ledger.{State}
+use Rattle.rulebook.specs.StateLaws.{submit-step}
 use Rattle.rulebook.specs.CompanionProof.{submit-tells, close-tells}
 use Rattle.console.specs.declared.input.Item.the-variants.{Close, Submit, Bad}
 use Rattle.console.specs.Decimal.{digitsWithin, decimal, signedDecimal}

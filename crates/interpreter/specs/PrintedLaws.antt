@@ -12,7 +12,7 @@ use Rattle.rulebook.specs.Submit.{submitted}
 use Rattle.rulebook.specs.Close.{closed}
 use Rattle.rulebook.specs.History.{Event}
 use Rattle.rulebook.specs.Companion.{submitTold, closeTold}
-use Rattle.rulebook.specs.StateLaws.{State}
+use Rattle.rulebook.specs.Ledger.{State}
 use Rattle.rulebook.specs.CompanionProof.{submit-tells, close-tells}
 use Rattle.console.specs.declared.input.Item.the-variants.{Close, Submit, Bad, End}
 use Rattle.console.specs.Input.{itemOf, wanted}

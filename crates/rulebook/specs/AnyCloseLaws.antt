@@ -25,8 +25,8 @@ use Rattle.rulebook.specs.Layout.{flagIndex, flagWord, balanceWord, mssl
 use Rattle.rulebook.specs.BookData.{Entries, entriesOf, termsOf, nextDay}
 use Rattle.rulebook.specs.WellFormed.{isZero, rowFits, wellFormed, dayBound}
 use Rattle.rulebook.specs.Close.{closed, settled, closeRefused, firstMissing, missingAt, absentFlag, posted, postedToMssl, dayClosed}
+use Rattle.rulebook.specs.Ledger.{Ledger, Holds}
 use Rattle.rulebook.specs.TestLaws.{below-suc, T-path}
-use Rattle.rulebook.specs.LedgerLaws.{Ledger, Holds}
 use Rattle.rulebook.specs.KeptLaws.{absent-fits}
 use Rattle.rulebook.specs.FormLaws.{Fit, ring-pos, fits-same, well-formed}
 use Rattle.rulebook.specs.FormedLaws.{formed-holds, formed-fit, opened-of, next-of}

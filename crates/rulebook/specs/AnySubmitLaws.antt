@@ -21,12 +21,13 @@ use Rattle.rulebook.specs.File.{Row, fileRows}
 use Rattle.rulebook.specs.Judging.{limitsOf, judged}
 use Rattle.rulebook.specs.Submit.{entry, rowsStored, taken, submitted, entryOr}
 use Rattle.rulebook.specs.History.{lastFor}
+use Rattle.rulebook.specs.Ledger.{Ledger, overlaid, submittedTo, ledgerOf}
 use Rattle.rulebook.specs.TestLaws.{T-path}
-use Rattle.rulebook.specs.LedgerLaws.{Ledger, IsFor, overlaid, submittedTo, rows-held}
+use Rattle.rulebook.specs.LedgerLaws.{IsFor, rows-held}
 use Rattle.rulebook.specs.SoundLaws.{Sound, file-sound}
 use Rattle.rulebook.specs.KeptLaws.{there-fits, flag-more, nonzero}
 use Rattle.rulebook.specs.FormLaws.{Fit, ring-pos, fits-same, well-formed}
-use Rattle.rulebook.specs.FormedLaws.{ledgerOf, formed-holds, formed-fit, opened-of, next-of}
+use Rattle.rulebook.specs.FormedLaws.{formed-holds, formed-fit, opened-of, next-of}
 use Rattle.rulebook.specs.StepLaws.{last-one, sound-day, storable, overlaid-last}
 
 module _ (o : Terms) (b : Ledger) (q : Fit o b) (h : 1 ≤ o .horizon) (rs : List Row) (x : Each (Sound (limitsOf o (o .first + b .closed))) rs) where

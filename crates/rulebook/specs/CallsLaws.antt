@@ -15,10 +15,10 @@ use Rattle.integer.specs.Words.{word}
 use Rattle.rulebook.specs.declared.Kind.{Kind}
 use Rattle.rulebook.specs.declared.Kind.the-variants.{Quantity, Price}
 use Rattle.rulebook.specs.Units.{between, inRange, asQuantity, mostQuantity}
+use Rattle.rulebook.specs.Calls.{allInRange, priceInput, PricesIn, shareInput, SharesIn}
 use Rattle.rulebook.specs.UnitsLaws.{between-true, quantity-range}
 use Rattle.rulebook.specs.ReferencePrice.{mostFacilities}
 use Rattle.rulebook.specs.Shares.{mostAccounts, leastResidual, mostResidual}
-use Rattle.rulebook.specs.Calls.{allInRange, priceInput, PricesIn, shareInput, SharesIn}
 
 -- each word of a list in range is in range
 pub in-range-at : (kind : Kind) (xs : List ℤ) → allInRange kind xs ≡ true → (i : ℕ) → i < length xs → inRange kind (word xs i) ≡ true

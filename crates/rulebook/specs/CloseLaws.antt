@@ -20,12 +20,13 @@ use Rattle.rulebook.specs.DayAmount.{residualDue}
 use Rattle.rulebook.specs.Sections.{accountsOf}
 use Rattle.rulebook.specs.Layout.{stored, width, place, intervalSize, ring, base, size, slot, intervalWord, rowWord, intervalWords, accountWords, markWord, accountsWord, lagWord, horizonWord, firstDayWord, nextDayWord, msslWord, balanceWord, accountSpare, headerSpare, InWindow}
 use Rattle.rulebook.specs.BookData.{Entries}
-use Rattle.rulebook.specs.Close.{posted, postedToMssl, balancesGrown, slotBlanked, dayClosed}
-use Rattle.rulebook.specs.TestLaws.{below-suc}
 use Rattle.rulebook.specs.WindowWalk.{windowSlot}
+use Rattle.rulebook.specs.Close.{posted, postedToMssl, balancesGrown, slotBlanked, dayClosed}
+use Rattle.rulebook.specs.Ledger.{Holds, Padding}
+use Rattle.rulebook.specs.TestLaws.{below-suc}
 use Rattle.rulebook.specs.LayoutLaws.{days-apart, interval-apart, interval-inside, row-inside, slot-inside, remainder}
 use Rattle.rulebook.specs.WordLaws.{stored-in, stored-out, length-stored}
-use Rattle.rulebook.specs.LedgerLaws.{Holds, Padding, padding-fits}
+use Rattle.rulebook.specs.LedgerLaws.{padding-fits}
 
 module _ (o : Terms) where
   pub base-fits : base o ≤ size o

@@ -29,9 +29,10 @@ use Rattle.rulebook.specs.Close.{firstMissing, settled, closed, posted, 
 use Rattle.rulebook.specs.Numbers.{ofClose}
 use Rattle.rulebook.specs.History.{latest, close, Event, closes, inForce, acceptedRows, lastFor, formulaBalance, formulaAmount, residualCounts, closingDay, dataInForce}
 use Rattle.rulebook.specs.Demand3.{vestingOf, meterOf}
+use Rattle.rulebook.specs.Ledger.{entriesIn, entryOf, State}
 use Rattle.rulebook.specs.AmountLaws.{Agree, posted-same}
 use Rattle.rulebook.specs.RowWordLaws.{flag-inside}
-use Rattle.rulebook.specs.LedgerLaws.{entriesIn, entryOf, held-same}
+use Rattle.rulebook.specs.LedgerLaws.{held-same}
 use Rattle.rulebook.specs.KeptLaws.{none-or}
 use Rattle.rulebook.specs.FormLaws.{ring-pos}
 use Rattle.rulebook.specs.SizeLaws.{posted-size}
@@ -40,7 +41,7 @@ use Rattle.rulebook.specs.FigureLaws.{rows-ranged, data-agree, rows-agre
 use Rattle.rulebook.specs.CloseLaws.{day-held}
 use Rattle.rulebook.specs.SearchLaws.{all-there, some-missing, today, back}
 use Rattle.rulebook.specs.StepLaws.{day-kept}
-use Rattle.rulebook.specs.StateLaws.{State, formed, terms, next}
+use Rattle.rulebook.specs.StateLaws.{formed, terms, next}
 
 -- a close of D, by whether no day is left, whether there is no room, and what the search found
 abbrev pub closedBy : Terms → List ℤ → ℕ → List ℤ → Bool → Bool → Found → Closing

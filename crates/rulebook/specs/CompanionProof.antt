@@ -31,12 +31,13 @@ use Rattle.rulebook.specs.Numbers.{notWellFormed, whyNumber, ofVerdict, 
 use Rattle.rulebook.specs.History.{Event, closes, inForce, formulaBalance, closingDay, formulaAmount}
 use Rattle.rulebook.specs.Promises.{SubmitPromise, ClosePromise, Run, begun, thenSubmit, thenClose}
 use Rattle.rulebook.specs.Companion.{firstLacking, searchTold, closeTold, SubmitTells, CloseTells, EachTold, CompanionHolds}
+use Rattle.rulebook.specs.Ledger.{State}
 use Rattle.rulebook.specs.SoundLaws.{file-sound}
 use Rattle.rulebook.specs.FormLaws.{ring-pos}
 use Rattle.rulebook.specs.SearchLaws.{search-is}
 use Rattle.rulebook.specs.StepLaws.{storable}
 use Rattle.rulebook.specs.BeyondLaws.{kept-all, rows-beyond, closed-beyond, statement-beyond, statement-amount, statement-mssl}
-use Rattle.rulebook.specs.StateLaws.{State, terms, submit-is}
+use Rattle.rulebook.specs.StateLaws.{terms, submit-is}
 use Rattle.rulebook.specs.CloseStateLaws.{close-is, closedBy, amount-same}
 use Rattle.rulebook.specs.Demand3Proof.{run-state, opening-state}
 

@@ -10,8 +10,8 @@ use Rattle.rulebook.specs.declared.Section.{Section}
 use Rattle.rulebook.specs.declared.Section.the-variants.{Vesting, Meter, Residual, Ncc}
 use Rattle.rulebook.specs.Sections.{accountsOf}
 use Rattle.rulebook.specs.Layout.{spare, isSpare, intervalTable, accountTable, intervalWords, accountWords, accountPlace, tableOf, width, tablePlace, place}
+use Rattle.rulebook.specs.Ledger.{Padding, ofInterval, ofAccount}
 use Rattle.rulebook.specs.RowWordLaws.{Named, account-cover, interval-cover}
-use Rattle.rulebook.specs.LedgerLaws.{Padding, ofInterval, ofAccount}
 
 -- a word of an interval is a row's or padding
 pub data Cover (n m : ℕ) : Type 0 where

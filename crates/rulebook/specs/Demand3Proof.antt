@@ -17,7 +17,8 @@ use Rattle.rulebook.specs.Numbers.{Answer, ofSubmit, ofClose, accepted, 
 use Rattle.rulebook.specs.History.{submit, close, Event, formulaBalance}
 use Rattle.rulebook.specs.Promises.{SubmitPromise, ClosePromise, OpenPromise, Run, begun, thenSubmit, thenClose, historyOf, bookOf}
 use Rattle.rulebook.specs.Demand3.{Demand3, Demand3Holds, Demand3OnCalls}
-use Rattle.rulebook.specs.StateLaws.{State, submit-step}
+use Rattle.rulebook.specs.Ledger.{State}
+use Rattle.rulebook.specs.StateLaws.{submit-step}
 use Rattle.rulebook.specs.CloseStateLaws.{close-step}
 use Rattle.rulebook.specs.StartLaws.{opened-terms, new-state, accepted-opening}
 use Rattle.rulebook.specs.RunLaws.{run-of}

@@ -15,11 +15,10 @@ use Rattle.rulebook.specs.BookData.{Entries, dataOf, entryNamed}
 use Rattle.rulebook.specs.File.{Row, Figure, BVQ, BVP, TVQ, TVP, MEP, IEQ, UEGQ, MQ, RVP1, RVP2, NccLoad, figureSection, figurePlace, numberOf}
 use Rattle.rulebook.specs.Submit.{entry}
 use Rattle.rulebook.specs.History.{RowsInForce, figureIn, countIn, dataInForce}
+use Rattle.rulebook.specs.Ledger.{entryOf, entriesIn, Kept, Ranged}
 use Rattle.rulebook.specs.AmountLaws.{Agree}
 use Rattle.rulebook.specs.RowWordLaws.{Usable, figure-word, flag-inside}
-use Rattle.rulebook.specs.LedgerLaws.{entryOf, entriesIn}
-use Rattle.rulebook.specs.SoundLaws.{Ranged}
-use Rattle.rulebook.specs.KeptLaws.{Kept, zero-ranged, number-ranged, entry-flag, own-figure, entry-figure}
+use Rattle.rulebook.specs.KeptLaws.{zero-ranged, number-ranged, entry-flag, own-figure, entry-figure}
 use Rattle.rulebook.specs.RangeLaws.{RangedEntries}
 
 -- words that agree on day d, with few facilities, agree by name

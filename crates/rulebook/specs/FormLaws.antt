@@ -20,12 +20,12 @@ use Rattle.rulebook.specs.Sections.{accountsOf, mostCount}
 use Rattle.rulebook.specs.Layout.{width, intervalSize, ring, size, slot, intervalWord, rowWord, Word, spare, isSpare, intervalTable, accountTable, intervalWords, accountWords, accountPlace, wordName, flagIndex, msslWord, markWord, accountsWord, lagWord, horizonWord, firstDayWord, nextDayWord, balanceWord, accountSpare, headerSpare, headerSpares, accountSpares, InWindow}
 use Rattle.rulebook.specs.BookData.{termsOf, nextDay}
 use Rattle.rulebook.specs.WellFormed.{isZero, rowFits, rowBlank, rowCounts, wordFits, sparesZero, isThere, intervalBlank, slotBlank, slotRow, accountWordsFit, intervalFits, bothThere, closedRowsThere, accountFits, balanceFits, headerFits, fits, wellFormed, dayBound}
+use Rattle.rulebook.specs.WindowWalk.{windowSlot, windowSlotFits}
+use Rattle.rulebook.specs.Ledger.{Ledger, Holds, Padding, ofInterval, ofAccount}
 use Rattle.rulebook.specs.TestLaws.{all-same, any-same, all-yes, between-yes, cond-yes, and-both, or-cases, nor-left}
 use Rattle.rulebook.specs.RowWordLaws.{flag-inside}
-use Rattle.rulebook.specs.WindowWalk.{windowSlot, windowSlotFits}
 use Rattle.rulebook.specs.RingLaws.{place-slot, place-day}
 use Rattle.rulebook.specs.WalkLaws.{walk-days}
-use Rattle.rulebook.specs.LedgerLaws.{Ledger, Holds, Padding, ofInterval, ofAccount}
 use Rattle.rulebook.specs.CoverLaws.{Cover, ofRow, ofPadding, cover}
 
 pub ring-pos : (o : Terms) → InTerms o → zero < ring o

@@ -19,20 +19,17 @@ use Rattle.rulebook.specs.Sections.{accountsOf}
 use Rattle.rulebook.specs.Layout.{width, place, ring, size, intervalSize, slot, intervalWord, rowWord, markWord, accountsWord, lagWord, horizonWord, firstDayWord, nextDayWord, msslWord, balanceWord, accountSpare, headerSpare, headerSpares, accountSpares, InWindow}
 use Rattle.rulebook.specs.BookData.{termsOf, nextDay, entriesOf}
 use Rattle.rulebook.specs.WellFormed.{isZero, rowFits, isThere, intervalBlank, slotBlank, intervalFits, closedRowsThere, accountFits, balanceFits, headerFits, fits, wellFormed, dayBound, daysFit}
-use Rattle.rulebook.specs.TestLaws.{and-left, and-right, all-at}
 use Rattle.rulebook.specs.WindowWalk.{windowSlot, windowSlotFits, turn-of}
+use Rattle.rulebook.specs.Ledger.{Padding, Holds, ledgerOf}
+use Rattle.rulebook.specs.TestLaws.{and-left, and-right, all-at}
 use Rattle.rulebook.specs.RingLaws.{turned, turn-inside}
 use Rattle.rulebook.specs.WalkLaws.{days-walk}
-use Rattle.rulebook.specs.LedgerLaws.{Ledger, Holds, Padding, padding-fits}
+use Rattle.rulebook.specs.LedgerLaws.{padding-fits}
 use Rattle.rulebook.specs.KeptLaws.{absent-fits}
 use Rattle.rulebook.specs.FormLaws.{Fit, ring-pos}
 use Rattle.rulebook.specs.SlotLaws.{row-in-interval, is-zero, is-number, interval-padding, undated-blank, closed-there, row-fits-at}
 
 -- ---- a well-formed book holds a ledger, and it fits
-
--- the ledger that a book's own words tell
-abbrev pub ledgerOf : List ℤ → Ledger
-ledgerOf w = record { closed = nextDay w - termsOf w .first; entries = entriesOf (termsOf w) w; balance = λ a. word w (balanceWord a); mssl = word w msslWord }
 
 is-natural : (a b : ℕ) (z : ℤ) → T (between (pos a) (pos b) z) → (z ≡ pos (positive z)) × (a ≤ positive z) × (positive z ≤ b)
 is-natural a b (pos n) t = (refl, leb→le a n (and-left (leb a n) (leb n b) t), leb→le n b (and-right (leb a n) (leb n b) t))

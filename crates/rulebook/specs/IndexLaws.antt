@@ -11,8 +11,8 @@ use Rattle.rulebook.specs.declared.Section.the-variants.{Vesting, Meter,
 use Rattle.rulebook.specs.declared.Terms.{Terms}
 use Rattle.rulebook.specs.Sections.{TVQ, TVP, MEP, IEQ}
 use Rattle.rulebook.specs.Layout.{width, tablePlace, place, figureIndex, ring, intervalWord, rowWord}
-use Rattle.rulebook.specs.TestLaws.{all-at, all-yes, tests-same}
 use Rattle.rulebook.specs.WindowWalk.{windowSlot, turn-of}
+use Rattle.rulebook.specs.TestLaws.{all-at, all-yes, tests-same}
 use Rattle.rulebook.specs.RingLaws.{turn-inside, turned, places-apart}
 
 -- ---- Rows

@@ -1,11 +1,11 @@
 -- The rows in force are in range, of days not past the window, and complete for closed days; a book that holds such rows is well formed. Assumes nothing.
 use mathlib.Core.Path.{_≡_, refl, sym, ap, _∙_, subst}
-use mathlib.Core.Logic.{_≢_, _⊎_, inl, inr}
+use mathlib.Core.Logic.{_⊎_, inl, inr}
 use mathlib.Core.Bool.{Bool, true, false, cond, not}
 use mathlib.Core.Option.{Option, none, some}
 use Prim.Native.Nat.{ℕ, zero, suc, _+_, _-_, _*_, _≤_, _<_}
 use native.Mathlib.Omega.{arith}
-use lib.IntN.{ℤ, pos, natAbs}
+use lib.IntN.{ℤ, pos}
 use lib.Dec.{T, leb, ltb, leb→le, le→leb, ltb→lt, not-T}
 use Rattle.integer.specs.Below.{all, any}
 use Rattle.integer.specs.Words.{word}
@@ -13,29 +13,16 @@ use Rattle.rulebook.specs.declared.Section.{Section}
 use Rattle.rulebook.specs.declared.Section.the-variants.{Vesting, Meter, Residual, Ncc}
 use Rattle.rulebook.specs.declared.Kind.{Kind}
 use Rattle.rulebook.specs.declared.Kind.the-variants.{Quantity, Price, Injection, Load}
-use Rattle.rulebook.specs.declared.Terms.{Terms}
-use Rattle.rulebook.specs.Units.{lastDay, inRange}
+use Rattle.rulebook.specs.Units.{inRange}
 use Rattle.rulebook.specs.Sections.{kindOf, perInterval, leastCount, mostCount, valueInRange, sameSection, Figure, figureSection, figurePlace}
 use Rattle.rulebook.specs.Layout.{width, present, Word, flag, figure, spare, flagIndex, figureIndex, wordName}
-use Rattle.rulebook.specs.WellFormed.{dayBound, isZero, rowFits, rowBlank, rowCounts, wordFits}
+use Rattle.rulebook.specs.WellFormed.{isZero, rowFits, rowBlank, rowCounts, wordFits}
 use Rattle.rulebook.specs.File.{Row, numberOf, figureOf}
 use Rattle.rulebook.specs.Submit.{entry, wordOf}
-use Rattle.rulebook.specs.History.{RowsInForce}
+use Rattle.rulebook.specs.Ledger.{entryOf, Ranged}
 use Rattle.rulebook.specs.TestLaws.{or-left, or-right, all-yes, any-yes, between-yes, cond-yes, and-both, and-right, T-path}
 use Rattle.rulebook.specs.SectionsLaws.{section-self}
 use Rattle.rulebook.specs.RowWordLaws.{Usable, figure-word, flag-named}
-use Rattle.rulebook.specs.LedgerLaws.{entryOf}
-use Rattle.rulebook.specs.SoundLaws.{Ranged}
-
-pub record Kept (o : Terms) (k : ℕ) (rows : RowsInForce) (balance : ℕ → ℤ) : Type 0 where
-  pub section : (s : Section) (a d : ℕ) (r : Row) → rows s a d ≡ some r → r .section ≡ s
-  pub ranged : (s : Section) (a d : ℕ) (r : Row) → rows s a d ≡ some r → Ranged r
-  pub ahead : (s : Section) (a d : ℕ) (r : Row) → rows s a d ≡ some r → d < o .first + k + o .horizon
-  pub dated : (s : Section) (a d : ℕ) (r : Row) → rows s a d ≡ some r → d ≤ lastDay
-  pub vestings : (a d : ℕ) → a < o .accounts → o .first ≤ d → d < o .first + k → rows Vesting a d ≢ none
-  pub meters : (a d : ℕ) → a < o .accounts → o .first ≤ d → d < o .first + k → rows Meter a d ≢ none
-  pub bounded : (a : ℕ) → a < o .accounts → natAbs (balance a) ≤ k * dayBound
-  pub begun : o .first + k ≤ suc lastDay
 
 -- ---- a row's words at an interval
 

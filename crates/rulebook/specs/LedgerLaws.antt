@@ -1,9 +1,8 @@
--- A book's words hold a ledger: closed days, figures and balances. Storing a file's rows keeps it so. Assumes nothing.
+-- Words that hold a ledger: storing a file's rows in them is the ledger's own submission. Assumes nothing.
 use mathlib.Core.Path.{_≡_, refl, sym, ap, _∙_, subst}
 use mathlib.Core.Bool.{Bool, true, false, cond}
 use mathlib.Core.List.{List, [], _∷_}
-use mathlib.Core.Option.{Option, none, some}
-use Prim.Native.Nat.{ℕ, zero, _+_, _-_, _*_, _≤_, _<_}
+use Prim.Native.Nat.{ℕ, zero, _+_, _-_, _*_, _<_}
 use native.Mathlib.Nat.{zero-add}
 use native.Mathlib.Omega.{arith}
 use lib.IntN.{ℤ, pos}
@@ -15,49 +14,17 @@ use Rattle.rulebook.specs.declared.Section.{Section}
 use Rattle.rulebook.specs.declared.Section.the-variants.{Vesting, Meter, Residual, Ncc}
 use Rattle.rulebook.specs.declared.Terms.{Terms}
 use Rattle.rulebook.specs.Sections.{accountsOf}
-use Rattle.rulebook.specs.Layout.{width, place, intervalSize, ring, base, size, slot, intervalWord, rowWord, Word, spare, isSpare, tableOf, intervalTable, accountTable, tablePlace, accountPlace, intervalWords, accountWords, markWord, accountsWord, lagWord, horizonWord, firstDayWord, nextDayWord, msslWord, balanceWord, accountSpare, headerSpare, headerSpares, accountSpares, InWindow}
-use Rattle.rulebook.specs.BookData.{Entries}
+use Rattle.rulebook.specs.Layout.{width, place, intervalSize, ring, base, slot, intervalWord, rowWord, Word, spare, isSpare, tableOf, accountTable, tablePlace, accountPlace, intervalWords, accountWords, markWord, accountsWord, lagWord, horizonWord, firstDayWord, nextDayWord, msslWord, balanceWord, accountSpare, headerSpare, InWindow}
+use Rattle.rulebook.specs.WindowWalk.{windowSlot}
 use Rattle.rulebook.specs.File.{Row}
 use Rattle.rulebook.specs.Submit.{entry, rowStored, rowsStored}
-use Rattle.rulebook.specs.History.{isFor, RowsInForce}
+use Rattle.rulebook.specs.History.{isFor}
+use Rattle.rulebook.specs.Ledger.{Padding, ofInterval, ofAccount, Ledger, Holds, overlaid, filed, submittedTo}
 use Rattle.rulebook.specs.TestLaws.{and-left, and-right, and-both}
 use Rattle.rulebook.specs.SectionsLaws.{same-section, section-self}
 use Rattle.rulebook.specs.RowWordLaws.{row-word, not-spare}
-use Rattle.rulebook.specs.WindowWalk.{windowSlot}
 use Rattle.rulebook.specs.LayoutLaws.{rows-apart, days-apart, window-apart, interval-apart, row-inside, account-words-apart}
 use Rattle.rulebook.specs.WordLaws.{row-out, row-in, length-rowStored}
-
--- the words of an interval that belong to no row
-pub data Padding (n : ℕ) : ℕ → Type 0 where
-  ofInterval : (q : ℕ) → q < intervalWords → T (isSpare (getD intervalTable q spare)) → Padding n q
-  ofAccount : (a q : ℕ) → a < n → q < accountWords → T (isSpare (getD accountTable q spare)) → Padding n (accountPlace a q)
-
--- a book told apart from its words: closed days, what stands in each row, and balances in cents
-pub record Ledger : Type 0 where
-  pub closed : ℕ
-  pub entries : Entries
-  pub balance : ℕ → ℤ
-  pub mssl : ℤ
-
--- the words w hold the ledger b
-pub record Holds (o : Terms) (b : Ledger) (w : List ℤ) : Type 0 where
-  pub long : size o ≤ length w
-  pub mark : word w markWord ≡ pos 395
-  pub accounts : word w accountsWord ≡ pos (o .accounts)
-  pub lag : word w lagWord ≡ pos (o .lag)
-  pub horizon : word w horizonWord ≡ pos (o .horizon)
-  pub first : word w firstDayWord ≡ pos (o .first)
-  pub next : word w nextDayWord ≡ pos (o .first + b .closed)
-  pub mssl : word w msslWord ≡ b .mssl
-  pub spare : (n : ℕ) → n < headerSpares → word w (headerSpare n) ≡ pos 0
-  pub balances : (a : ℕ) → a < o .accounts → word w (balanceWord a) ≡ b .balance a
-  pub spares : (a j : ℕ) → a < o .accounts → j < accountSpares → word w (accountSpare a j) ≡ pos 0
-  -- a day of the window: each word of each row
-  pub held : (s : Section) (a d i j : ℕ) → InWindow o (b .closed) d → a < accountsOf s (o .accounts) → i < 48 → j < width s
-      → word w (rowWord o s a d i j) ≡ b .entries s a d i j
-  -- the slots of no day yet, while fewer than L days are closed
-  pub early : (u i m : ℕ) → b .closed + u < o .lag → i < 48 → m < intervalSize o → word w (intervalWord o (windowSlot o (b .closed) u) i m) ≡ pos 0
-  pub padding : (t i m : ℕ) → t < ring o → i < 48 → Padding (o .accounts) m → word w (intervalWord o t i m) ≡ pos 0
 
 -- figures that agree, and balances that agree for the book's accounts
 pub held-same : {o : Terms} {b c : Ledger} {w : List ℤ} → b .closed ≡ c .closed → ((s : Section) (a d i j : ℕ) → b .entries s a d i j ≡ c .entries s a d i j)
@@ -95,28 +62,6 @@ is-for s a d row h = record {
 
 pub for-itself : {s : Section} {a d : ℕ} (row : Row) → IsFor s a d row → T (isFor s a d row)
 for-itself {s} {a} {d} row h = rw (← (h .section), ← (h .account), ← (h .day)) (search (and-both, section-self, eqb-refl))
-
--- what stands in a row's words; a row that is not there is all zeros
-abbrev pub entryOf : Option Row → ℕ → ℕ → ℤ
-entryOf none i j = pos 0
-entryOf (some r) i j = entry r i j
-
-abbrev pub entriesIn : RowsInForce → Entries
-entriesIn rows s a d i j = entryOf (rows s a d) i j
-
--- words with a row's, or a file's rows', over them
-abbrev pub replaced : Row → Entries → Entries
-replaced row g s a d i j = cond (isFor s a d row) (entry row i j) (g s a d i j)
-
-unfoldable pub overlaid : List Row → Entries → Entries
-overlaid [] g = g
-overlaid (r ∷ rs) g = overlaid rs (replaced r g)
-
-abbrev pub filed : Row → Ledger → Ledger
-filed r b = record { closed = b .closed; entries = replaced r (b .entries); balance = b .balance; mssl = b .mssl }
-
-abbrev pub submittedTo : List Row → Ledger → Ledger
-submittedTo rs b = record { closed = b .closed; entries = overlaid rs (b .entries); balance = b .balance; mssl = b .mssl }
 
 -- no row's word is padding, below the intervals, or in the slot of no day
 account-padding : (s : Section) (a j b q : ℕ) → tableOf s ≡ accountTable → j < width s → q < accountWords → T (isSpare (getD accountTable q spare))

@@ -30,11 +30,12 @@ use Rattle.rulebook.specs.Numbers.{accepted, ofSubmit, ofClose}
 use Rattle.rulebook.specs.History.{lastFor}
 use Rattle.rulebook.specs.Companion.{KeptFrom}
 use Rattle.rulebook.specs.Leaves.{CloseKeeps}
+use Rattle.rulebook.specs.Ledger.{ledgerOf}
 use Rattle.rulebook.specs.TestLaws.{T-path}
 use Rattle.rulebook.specs.LedgerLaws.{Storable, rows-held}
 use Rattle.rulebook.specs.SoundLaws.{Sound, file-sound}
 use Rattle.rulebook.specs.FormLaws.{ring-pos}
-use Rattle.rulebook.specs.FormedLaws.{ledgerOf, formed-holds, opened-of, next-of}
+use Rattle.rulebook.specs.FormedLaws.{formed-holds, opened-of, next-of}
 use Rattle.rulebook.specs.StepLaws.{storable, overlaid-last}
 use Rattle.rulebook.specs.BeyondLaws.{kept-all, rows-beyond, closed-beyond, statement-beyond}
 

@@ -32,6 +32,8 @@ pub mod SearchOrder
 pub mod CloseTable
 pub mod Leaves
 pub mod Bounds
+-- between the words and the history: what each call keeps
+pub mod Ledger
 -- what is proved
 pub mod Theorems
 pub mod FileTheorems

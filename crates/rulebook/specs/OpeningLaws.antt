@@ -11,11 +11,12 @@ use Rattle.integer.specs.Words.{word}
 use Rattle.rulebook.specs.declared.Section.{Section}
 use Rattle.rulebook.specs.declared.Terms.{Terms}
 use Rattle.rulebook.specs.Layout.{stored, ring, base, size, slot, intervalWord, rowWord, markWord, accountsWord, lagWord, horizonWord, firstDayWord, nextDayWord, msslWord, balanceWord, accountSpare, headerSpare}
-use Rattle.rulebook.specs.Opening.{header, newBook}
 use Rattle.rulebook.specs.WindowWalk.{windowSlot}
+use Rattle.rulebook.specs.Opening.{header, newBook}
+use Rattle.rulebook.specs.Ledger.{Holds}
 use Rattle.rulebook.specs.LayoutLaws.{interval-inside}
 use Rattle.rulebook.specs.WordLaws.{stored-in, length-stored, row-word-inside}
-use Rattle.rulebook.specs.LedgerLaws.{Holds, padding-fits}
+use Rattle.rulebook.specs.LedgerLaws.{padding-fits}
 use Rattle.rulebook.specs.CloseLaws.{base-fits}
 
 pub sum-zero : (n : ℕ) → sumℤ n (λ a. pos 0) ≡ pos 0

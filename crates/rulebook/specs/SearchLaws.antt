@@ -26,9 +26,9 @@ use Rattle.rulebook.specs.Close.{absentFlag, missingAt, firstMissing}
 use Rattle.rulebook.specs.History.{RowsInForce}
 use Rattle.rulebook.specs.Demand3.{Needed, vestingOf, meterOf, nccOf, residualOf}
 use Rattle.rulebook.specs.Companion.{flagLacking}
+use Rattle.rulebook.specs.Ledger.{entriesIn, entryOf, Holds, Kept}
 use Rattle.rulebook.specs.RowWordLaws.{flag-inside}
-use Rattle.rulebook.specs.LedgerLaws.{entriesIn, entryOf, Holds}
-use Rattle.rulebook.specs.KeptLaws.{Kept, none-or, flag-more, nonzero}
+use Rattle.rulebook.specs.KeptLaws.{none-or, flag-more, nonzero}
 use Rattle.rulebook.specs.FormLaws.{zero-yes}
 
 pub nothing-at : {X : Type 0} {v : ℕ} {x : Found} → x ≡ Nothing → x ≡ At v → X

@@ -18,12 +18,12 @@ use Rattle.rulebook.specs.Sections.{accountsOf, perInterval, leastCount,
 use Rattle.rulebook.specs.Layout.{width, place, ring, intervalSize, slot, intervalWord, rowWord, Word, spare, isSpare, intervalTable, accountTable, accountPlace, wordName, flagIndex, figureIndex, InWindow}
 use Rattle.rulebook.specs.BookData.{entriesOf}
 use Rattle.rulebook.specs.WellFormed.{isZero, rowBlank, wordFits, sparesZero, rowCounts, rowFits, isThere, bothThere, slotRow, accountWordsFit, slotBlank, intervalFits, closedRowsThere}
+use Rattle.rulebook.specs.WindowWalk.{windowSlot, windowSlotFits}
+use Rattle.rulebook.specs.Ledger.{Padding, ofInterval, ofAccount}
 use Rattle.rulebook.specs.TestLaws.{and-left, and-right, or-cases, all-at, any-at}
 use Rattle.rulebook.specs.RowWordLaws.{Usable, figure-word, flag-inside}
-use Rattle.rulebook.specs.WindowWalk.{windowSlot, windowSlotFits}
 use Rattle.rulebook.specs.LayoutLaws.{row-inside}
 use Rattle.rulebook.specs.RingLaws.{placeOf, day-place}
-use Rattle.rulebook.specs.LedgerLaws.{Padding, ofInterval, ofAccount}
 use Rattle.rulebook.specs.KeptLaws.{zero-ranged}
 use Rattle.rulebook.specs.RangeLaws.{RangedEntries}
 

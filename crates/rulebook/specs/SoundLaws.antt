@@ -18,17 +18,11 @@ use Rattle.rulebook.specs.declared.Kind.the-variants.{Quantity, Price, I
 use Rattle.rulebook.specs.declared.Limits.{Limits}
 use Rattle.rulebook.specs.declared.Verdict.the-variants.{Accepted}
 use Rattle.rulebook.specs.Units.{inRange}
-use Rattle.rulebook.specs.Sections.{accountsOf, leastCount, mostCount, perInterval, kindOf, valueInRange}
+use Rattle.rulebook.specs.Sections.{accountsOf, perInterval, kindOf}
 use Rattle.rulebook.specs.File.{Row, rowAt, sectionRows, fileRows, num, valuesPos, valuesIn, countAt, accountAt, valueAt, rowPos, rowsIn, meterPos, residualPos, nccPos}
 use Rattle.rulebook.specs.Judging.{openFrom, judgedSection, judged}
+use Rattle.rulebook.specs.Ledger.{Ranged}
 use Rattle.rulebook.specs.JudgingLaws.{Fine, section-row, sections}
-
--- a row's count and numbers are in range
-pub record Ranged (row : Row) : Type 0 where
-  pub least : leastCount (row .section) ≤ row .count
-  pub most : row .count ≤ mostCount (row .section)
-  pub numbers : (i k : ℕ) → i < 48 → k < perInterval (row .section) (row .count)
-      → T (valueInRange (row .section) k (word (row .numbers) (i * perInterval (row .section) (row .count) + k)))
 
 -- what is true of a row of an accepted file
 pub record Sound (l : Limits) (row : Row) : Type 0 where

@@ -18,13 +18,14 @@ use Rattle.rulebook.specs.Opening.{newBook, opened, Opening}
 use Rattle.rulebook.specs.Numbers.{Answer, accepted, ofOpen}
 use Rattle.rulebook.specs.History.{closes, inForce, formulaBalance, residualCounts}
 use Rattle.rulebook.specs.Companion.{OpenTells, OpeningHolds}
+use Rattle.rulebook.specs.Ledger.{State}
 use Rattle.rulebook.specs.TestLaws.{and-left, and-right, and-both}
 use Rattle.rulebook.specs.LedgerLaws.{held-same}
 use Rattle.rulebook.specs.FormLaws.{ring-pos}
 use Rattle.rulebook.specs.OpeningLaws.{book-new, sum-zero, new-word}
 use Rattle.rulebook.specs.StepLaws.{some-none}
 use Rattle.rulebook.specs.BeyondLaws.{kept-all, new-beyond}
-use Rattle.rulebook.specs.StateLaws.{State, formed}
+use Rattle.rulebook.specs.StateLaws.{formed}
 
 pub opened-terms : (o : Terms) → T (termsFit o) → InTerms o
 unfolding termsFit

@@ -1,9 +1,9 @@
--- What is true of a book after a history, and that each call keeps it so. Assumes nothing.
+-- Each submission keeps what is true of a book after a history. Assumes nothing.
 use mathlib.Core.Path.{_≡_, refl, sym, ap, _∙_, subst}
 use mathlib.Core.Bool.{Bool, true, false, cond}
 use mathlib.Core.List.{List, [], _∷_}
 use mathlib.Core.Option.{Option}
-use Prim.Native.Nat.{ℕ, _-_, _*_}
+use Prim.Native.Nat.{ℕ, _-_}
 use lib.IntN.{ℤ}
 use lib.Dec.{eqb}
 use Rattle.rulebook.specs.declared.Section.{Section}
@@ -22,13 +22,12 @@ use Rattle.rulebook.specs.Judging.{limitsOf, judged}
 use Rattle.rulebook.specs.Submit.{taken, submitted, Submission}
 use Rattle.rulebook.specs.Numbers.{whyNumber, accepted, ofSubmit}
 use Rattle.rulebook.specs.History.{latest, submit, Event, closes, inForce, acceptedRows, lastFor, formulaBalance, residualCounts, closingDay}
-use Rattle.rulebook.specs.Demand3.{EachReported}
+use Rattle.rulebook.specs.Ledger.{entryOf, ledgerAfter, State}
 use Rattle.rulebook.specs.TestLaws.{T-path}
-use Rattle.rulebook.specs.LedgerLaws.{entryOf, Holds, held-same, rows-held}
+use Rattle.rulebook.specs.LedgerLaws.{held-same, rows-held}
 use Rattle.rulebook.specs.SoundLaws.{file-sound}
-use Rattle.rulebook.specs.KeptLaws.{Kept}
 use Rattle.rulebook.specs.FormLaws.{Fit, terms-of, next-day, well-formed, ring-pos}
-use Rattle.rulebook.specs.StepLaws.{storable, ledger, kept-fit, file-kept, kept-same, newer-entries}
+use Rattle.rulebook.specs.StepLaws.{storable, kept-fit, file-kept, kept-same, newer-entries}
 
 pub never-accepted : (why : Why) → eqb (whyNumber why) accepted ≡ false
 never-accepted NotWhole = refl
@@ -37,25 +36,18 @@ never-accepted DayNotOpen = refl
 never-accepted Repeated = refl
 never-accepted Excess = refl
 
--- what is true after a history
-pub record State (o : Terms) (past : List Event) (w : List ℤ) : Type 0 where
-  pub holds : Holds o (ledger o (closes past) (inForce past) (formulaBalance o past)) w
-  pub kept : Kept o (closes past) (inForce past) (formulaBalance o past)
-  pub counted : residualCounts past ≡ 48 * o .accounts * (closes past - o .lag)
-  pub reported : EachReported o past
-
 module _ (o : Terms) (t : InTerms o) (past : List Event) (w : List ℤ) (h : State o past w) where
-  fit : Fit o (ledger o (closes past) (inForce past) (formulaBalance o past))
+  fit : Fit o (ledgerAfter o past)
   fit = kept-fit o (closes past) (inForce past) (formulaBalance o past) (h .kept)
 
   pub formed : wellFormed w ≡ true
-  formed = T-path (wellFormed w) (well-formed o t (ledger o (closes past) (inForce past) (formulaBalance o past)) w (h .holds) fit)
+  formed = T-path (wellFormed w) (well-formed o t (ledgerAfter o past) w (h .holds) fit)
 
   pub terms : termsOf w ≡ o
-  terms = terms-of o t (ledger o (closes past) (inForce past) (formulaBalance o past)) w (h .holds) fit
+  terms = terms-of o t (ledgerAfter o past) w (h .holds) fit
 
   pub next : nextDay w ≡ closingDay o past
-  next = next-day o t (ledger o (closes past) (inForce past) (formulaBalance o past)) w (h .holds) fit
+  next = next-day o t (ledgerAfter o past) w (h .holds) fit
 
   -- ---- submit
   -- what a submission answers and leaves
@@ -70,7 +62,7 @@ module _ (o : Terms) (t : InTerms o) (past : List Event) (w : List ℤ) (h : Sta
       let s = file-sound (limitsOf o (closingDay o past)) (t .accountsFrom) file e in
       record {
         holds = held-same refl (λ s a d i j. newer-entries (fileRows file) (inForce past) s a d i j) (λ a ha. refl) refl
-            (rw terms (rows-held o (ring-pos o t) (fileRows file) (ledger o (closes past) (inForce past) (formulaBalance o past)) w (storable o (closes past) (t .horizonFrom) (fileRows file) s) (h .holds)));
+            (rw terms (rows-held o (ring-pos o t) (fileRows file) (ledgerAfter o past) w (storable o (closes past) (t .horizonFrom) (fileRows file) s) (h .holds)));
         kept = kept-same (λ s a d. refl) (file-kept o (closes past) (inForce past) (formulaBalance o past) (h .kept) (t .horizonFrom) (fileRows file) s);
         counted = h .counted;
         reported = (tt, h .reported);

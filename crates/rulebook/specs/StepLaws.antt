@@ -7,10 +7,10 @@ use mathlib.Core.Option.{Option, none, some}
 use Prim.Native.Nat.{ℕ, suc, _+_, _*_, _≤_, _<_}
 use native.Mathlib.Nat.{suc-mul}
 use native.Mathlib.Omega.{arith}
-use lib.IntN.{ℤ, pos, negℤ, _+ℤ_, natAbs}
+use lib.IntN.{ℤ, pos, _+ℤ_, natAbs}
 use lib.Dec.{T}
 use Rattle.integer.specs.IntegerLaws.{abs-add, abs-neg}
-use Rattle.integer.specs.Below.{sumℤ, Each}
+use Rattle.integer.specs.Below.{Each}
 use Rattle.integer.specs.BelowLaws.{abs-sumℤ}
 use Rattle.rulebook.specs.declared.Section.{Section}
 use Rattle.rulebook.specs.declared.Section.the-variants.{Vesting, Meter, Residual, Ncc}
@@ -23,10 +23,11 @@ use Rattle.rulebook.specs.File.{Row}
 use Rattle.rulebook.specs.Judging.{openFrom, limitsOf}
 use Rattle.rulebook.specs.Submit.{entry, entryOr}
 use Rattle.rulebook.specs.History.{latest, RowsInForce, isFor, lastFor}
+use Rattle.rulebook.specs.Ledger.{entryOf, entriesIn, ledger, replaced, overlaid, Ranged, Kept}
 use Rattle.rulebook.specs.TestLaws.{below-suc}
-use Rattle.rulebook.specs.LedgerLaws.{entriesIn, entryOf, Ledger, IsFor, is-for, Storable, replaced, overlaid}
-use Rattle.rulebook.specs.SoundLaws.{Ranged, Sound}
-use Rattle.rulebook.specs.KeptLaws.{Kept, row-fits, none-or, flag-more, nonzero}
+use Rattle.rulebook.specs.LedgerLaws.{IsFor, is-for, Storable}
+use Rattle.rulebook.specs.SoundLaws.{Sound}
+use Rattle.rulebook.specs.KeptLaws.{row-fits, none-or, flag-more, nonzero}
 use Rattle.rulebook.specs.FormLaws.{Fit}
 
 some-same : {A : Type 0} {a b : A} → some a ≡ some b → a ≡ b
@@ -146,10 +147,6 @@ module _ (o : Terms) (k : ℕ) (rows : RowsInForce) (balance more : ℕ → ℤ)
     bounded = λ a ha. omega (arith, abs-add (balance a) (more a), q .bounded a ha, amounts a ha, suc-mul k dayBound);
     begun = omega arith;
   }
-
--- the ledger that a history tells
-abbrev pub ledger : Terms → ℕ → RowsInForce → (ℕ → ℤ) → Ledger
-ledger o k rows balance = record { closed = k; entries = entriesIn rows; balance = balance; mssl = negℤ (sumℤ (o .accounts) balance) }
 
 module _ (o : Terms) (k : ℕ) (rows : RowsInForce) (balance : ℕ → ℤ) (q : Kept o k rows balance) where
   there : (s : Section) (a d i : ℕ) → rows s a d ≢ none → T (not (isZero (entryOf (rows s a d) i (flagIndex s))))

@@ -23,6 +23,7 @@ use Rattle.rulebook.specs.Layout.{ring, slot, size, width, rowWord, InWi
 use Rattle.rulebook.specs.BookData.{nextDay, termsOf, entriesOf}
 use Rattle.rulebook.specs.WellFormed.{daysFit, wellFormed}
 use Rattle.rulebook.specs.FormedBook.{WindowDay, FormedBook, SlotDay}
+use Rattle.rulebook.specs.WindowWalk.{windowSlotFits}
 use Rattle.rulebook.specs.Opening.{newBook}
 use Rattle.rulebook.specs.File.{fileRows}
 use Rattle.rulebook.specs.Judging.{limitsOf, judged}
@@ -37,6 +38,7 @@ use Rattle.rulebook.specs.Companion.{OpeningHolds, CompanionHolds, KeptF
 use Rattle.rulebook.specs.SearchOrder.{SearchHolds}
 use Rattle.rulebook.specs.CloseTable.{CloseTable}
 use Rattle.rulebook.specs.Leaves.{SubmitLeaves, CloseLeaves, CloseKeeps}
+use Rattle.rulebook.specs.Bounds.{CloseSized}
 use Rattle.rulebook.specs.FileTheorems.{FileTheorems, file-theorems}
 use Rattle.rulebook.specs.Figures.{Right, starred, starred-right}
 use Rattle.rulebook.specs.WorkedDay.{WorkedDay, worked-day}
@@ -55,8 +57,6 @@ use Rattle.rulebook.specs.SearchExamples.{SearchedFlags, searched-flags}
 use Rattle.rulebook.specs.SharesLaws.{share-total, share-rule}
 use Rattle.rulebook.specs.TranchesLaws.{tranche-split}
 use Rattle.rulebook.specs.DayAmountLaws.{interval-shares, posted-within, mssl-within}
-use Rattle.rulebook.specs.WindowWalk.{windowSlotFits}
-use Rattle.rulebook.specs.Bounds.{CloseSized}
 use Rattle.rulebook.specs.WalkLaws.{days-are-places}
 use Rattle.rulebook.specs.WindowLaws.{window-days-apart, slot-day}
 use Rattle.rulebook.specs.FormedBookLaws.{formed-book, book-formed}
