@@ -1,5 +1,6 @@
 // Days, months and years, unsigned.
 use super::DateAnswer;
+use rulebook::units::LAST_DAY;
 ghost use mathlib.Core.Path.{_≡_};
 ghost use mathlib.Core.Bool.{true};
 ghost use Prim.Native.Nat.{_+_, _≤_, _<_};
@@ -8,13 +9,11 @@ ghost use Rattle.rulebook.specs.Units.{lastDay};
 ghost use Rattle.calendar.specs.Calendar.{firstYear, lastYear, isDay, isLeap, daysInYear, daysInMonth, within, isDate, isMonth, daysBeforeYear, daysBeforeMonth, dayOf, dateOf, dueAfter, dateReturned, dateAccepted};
 ghost use Rattle.calendar.specs.Steps.{InYear};
 
-// 31 December 2099.
-pub(crate) const LAST_DAY: usize = 36524;
-
 const FIRST_YEAR: usize = 2000;
 
 const LAST_YEAR: usize = 2099;
 
+// LAST_DAY, for a day as it is given.
 const LAST_DAY_GIVEN: i64 = LAST_DAY as i64;
 
 // A negative number is read as 0.

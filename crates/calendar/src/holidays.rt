@@ -1,8 +1,8 @@
 // Holiday lists and business days.
-use super::dates::LAST_DAY;
 use super::dates::is_day;
 use super::dates::natural;
 use integer::Found;
+use rulebook::units::LAST_DAY;
 ghost use mathlib.Core.Path.{_≡_};
 ghost use mathlib.Core.Bool.{true, cond};
 ghost use Prim.Native.Nat.{_≤_, _<_};

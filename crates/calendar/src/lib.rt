@@ -2,7 +2,6 @@
 mod dates; // days, months and years, unsigned
 mod holidays; // holiday lists and business days
 
-use dates::LAST_DAY;
 use dates::date_in_year;
 use dates::day_number;
 use dates::days_before_year;
@@ -16,6 +15,7 @@ use holidays::is_business_day;
 use holidays::is_proper;
 use holidays::nth_business_day;
 use integer::Found;
+use rulebook::units::LAST_DAY;
 ghost use mathlib.Core.Path.{_≡_};
 ghost use Rattle.calendar.specs.Calendar.{dateReturned, dateTold, dayReturned, dayTold, weekdayReturned, weekdayTold, statementTold, businessReturned, businessTold, upToLastDay, finalStatementTold, residualDueTold};
 

@@ -178,10 +178,18 @@ place Ncc a j = tablePlace Ncc j
 
 -- ---- Slots
 
+-- words of an interval of n accounts: 4 + 24n
+abbrev pub intervalLength : ℕ → ℕ
+intervalLength n = intervalWords + accountWords * n
+
+-- and of a slot
+abbrev pub slotLength : ℕ → ℕ
+slotLength n = intervals * intervalLength n
+
 module _ (o : Terms) where
   -- words of an interval: 4 + 24N
   unfoldable pub intervalSize : ℕ
-  intervalSize = intervalWords + accountWords * o .accounts
+  intervalSize = intervalLength (o .accounts)
 
   -- how many slots
   unfoldable pub ring : ℕ

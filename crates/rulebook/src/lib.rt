@@ -1,4 +1,7 @@
-// The rule book: document 01 in definitions, chapter by chapter, in specs/. Here are the types that its definitions and the code share.
+// The rule book: document 01 in definitions, chapter by chapter, in specs/. Here are the types that its definitions and the code share, and the
+// figures that the code has of it.
+pub mod units; // units.rt: days, intervals, ranges
+pub mod layout; // layout.rt: where each word of a book stands, widths
 
 // What a value is, hence its range.
 pub enum Kind {

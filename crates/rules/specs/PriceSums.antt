@@ -34,9 +34,9 @@ sums-suc n mep ieq = rw (
 
 -- what the sums of facilities in range stay within
 pub record Within (s : Sums) : Type 0 where
-  pub weighted : natAbs (s .weighted) ≤ s .facilities * 10000000000000
-  pub weights : s .weights ≤ s .facilities * 10000000
-  pub simple : natAbs (s .simple) ≤ s .facilities * 1000000
+  pub weighted : natAbs (s .weighted) ≤ s .facilities * (mostPrice * mostQuantity)
+  pub weights : s .weights ≤ s .facilities * mostQuantity
+  pub simple : natAbs (s .simple) ≤ s .facilities * mostPrice
 
 pub weight-le : (z : ℤ) → natAbs z ≤ mostQuantity → weight z ≤ mostQuantity
 weight-le z h = omega (arith, parts z .abs)
@@ -48,7 +48,7 @@ sums-count n mep ieq = refl
 pub sums-within : (n : ℕ) (mep ieq : ℕ → ℤ) → ((f : ℕ) → f < n → natAbs (mep f) ≤ mostPrice) → ((f : ℕ) → f < n → natAbs (ieq f) ≤ mostQuantity) → Within (sumsOf n mep ieq)
 unfolding sumsOf
 sums-within n mep ieq p q = record {
-  weighted = abs-sumℤ n 10000000000000 (λ f. mep f *ℤ pos (weight (ieq f))) (λ f l. abs-mul-le (mep f) (pos (weight (ieq f))) mostPrice mostQuantity (p f l) (weight-le (ieq f) (q f l)));
+  weighted = abs-sumℤ n (mostPrice * mostQuantity) (λ f. mep f *ℤ pos (weight (ieq f))) (λ f l. abs-mul-le (mep f) (pos (weight (ieq f))) mostPrice mostQuantity (p f l) (weight-le (ieq f) (q f l)));
   weights = sumℕ-le n mostQuantity (λ f. weight (ieq f)) (λ f l. weight-le (ieq f) (q f l));
   simple = abs-sumℤ n mostPrice mep p;
 }

@@ -6,13 +6,14 @@ use integer::signed;
 use integer::word_at;
 use rulebook::Kind;
 use rulebook::PriceAnswer;
+use rulebook::units::MOST_FACILITIES;
 ghost use mathlib.Core.Path.{_≡_};
-ghost use Prim.Native.Nat.{_≤_, _<_};
+ghost use Prim.Native.Nat.{_*_, _-_, _≤_, _<_};
 ghost use lib.IntN.{pos, natAbs, _+ℤ_, _*ℤ_};
 ghost use lib.ListN.{length};
 ghost use Rattle.integer.specs.Words.{word};
 ghost use Rattle.rulebook.specs.Units.{mostPrice, mostQuantity};
-ghost use Rattle.rulebook.specs.ReferencePrice.{weight, average};
+ghost use Rattle.rulebook.specs.ReferencePrice.{mostFacilities, weight, average};
 ghost use Rattle.rulebook.specs.Numbers.{priceReturned};
 ghost use Rattle.rulebook.specs.Calls.{priceInput, priceCall, PricesIn};
 ghost use Rattle.rules.specs.PriceSums.{sumsOf, added, Within};
@@ -34,7 +35,7 @@ fn weight_of(ieq: i64) -> u64
 
 // Σ (MEP × weight) with one facility more.
 fn weighted_more(weighted: i64, mep: i64, w: u64) -> i64
-    requires { ⌜ (natAbs weighted ≤ 30000000000000) × (natAbs mep ≤ mostPrice) × (w ≤ mostQuantity) ⌝ }
+    requires { ⌜ (natAbs weighted ≤ (mostFacilities - 1) * (mostPrice * mostQuantity)) × (natAbs mep ≤ mostPrice) × (w ≤ mostQuantity) ⌝ }
     ensures { λ r. ⌜ r ≡ weighted +ℤ mep *ℤ pos w ⌝ }
 {
     weighted + mep * signed(w)
@@ -42,7 +43,7 @@ fn weighted_more(weighted: i64, mep: i64, w: u64) -> i64
 
 // The sums with one facility more.
 pub fn with_facility(sums: Sums, mep: i64, ieq: i64) -> Sums
-    requires { ⌜ (Within sums) × (sums .facilities ≤ 3) × (natAbs mep ≤ mostPrice) × (natAbs ieq ≤ mostQuantity) ⌝ }
+    requires { ⌜ (Within sums) × (sums .facilities < mostFacilities) × (natAbs mep ≤ mostPrice) × (natAbs ieq ≤ mostQuantity) ⌝ }
     ensures { λ r. ⌜ r ≡ added sums mep ieq ⌝ }
 {
     let w = weight_of(ieq);
@@ -56,7 +57,7 @@ pub fn with_facility(sums: Sums, mep: i64, ieq: i64) -> Sums
 
 // V of the sums: the weighted average, or where the weights sum to 0 the simple average.
 pub fn price_of(sums: Sums) -> i64
-    requires { ⌜ (Within sums) × (0 < sums .facilities) × (sums .facilities ≤ 4) ⌝ }
+    requires { ⌜ (Within sums) × (0 < sums .facilities) × (sums .facilities ≤ mostFacilities) ⌝ }
     ensures { λ r. ⌜ r ≡ average (sums .weighted) (sums .weights) (sums .simple) (sums .facilities) ⌝ }
 {
     let weights = sums.weights;
@@ -90,7 +91,7 @@ fn price_input(mep: &[i64], ieq: &[i64]) -> bool
 {
     let n = mep.len();
     (1 <= n)
-        & (n <= 4)
+        & (n <= MOST_FACILITIES)
         & ((ieq.len() == n) & (all_in_range(Kind::Price, mep) & all_in_range(Kind::Injection, ieq)))
 }
 

@@ -1,6 +1,7 @@
 // Document 01, "Units and ranges": is a value in the range of its kind?
 use integer::word_at;
 use rulebook::Kind;
+use rulebook::units;
 ghost use mathlib.Core.Path.{_≡_};
 ghost use mathlib.Core.Bool.{true};
 ghost use Prim.Native.Nat.{_≤_, _<_};
@@ -20,10 +21,10 @@ pub fn in_range(kind: Kind, z: i64) -> bool
     ensures { λ r. ⌜ r ≡ inRange kind z ⌝ }
 {
     match kind {
-        Kind::Quantity => is_between(0, 10000000, z),
-        Kind::Injection => is_between(-10000000, 10000000, z),
-        Kind::Load => is_between(0, 1000000000, z),
-        Kind::Price => is_between(-1000000, 1000000, z),
+        Kind::Quantity => is_between(0, units::MOST_QUANTITY, z),
+        Kind::Injection => is_between(units::LEAST_INJECTION, units::MOST_QUANTITY, z),
+        Kind::Load => is_between(0, units::MOST_LOAD, z),
+        Kind::Price => is_between(units::LEAST_PRICE, units::MOST_PRICE, z),
     }
 }
 

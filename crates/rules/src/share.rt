@@ -7,6 +7,7 @@ use integer::signed;
 use integer::word_at;
 use rulebook::Kind;
 use rulebook::ShareAnswer;
+use rulebook::units;
 ghost use mathlib.Core.Path.{_≡_};
 ghost use mathlib.Core.Bool.{true};
 ghost use Prim.Native.Nat.{_≤_, _<_};
@@ -79,7 +80,9 @@ fn share_input(r: i64, uegq: &[i64]) -> Spare
     ensures { λ spare. ⌜ spare ≡ spareWhere (shareInput r (now (uegq .entry))) (now (uegq .entry)) ⌝ }
 {
     let n = uegq.len();
-    if is_between(-1280000000, 1000000000, r) & ((1 <= n) & (n <= 32)) {
+    if is_between(units::LEAST_RESIDUAL, units::MOST_RESIDUAL, r)
+        & ((1 <= n) & (n <= units::MOST_ACCOUNTS))
+    {
         spare_generation(uegq)
     } else {
         Spare::OutOfRange

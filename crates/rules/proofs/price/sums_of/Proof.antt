@@ -10,6 +10,7 @@ use Rattle.integer.specs.IntegerLaws.{int}
 use Rattle.integer.specs.Bits.{got}
 use Rattle.integer.specs.Words.{word}
 use Rattle.rulebook.specs.declared.Kind.the-variants.{Injection, Price}
+use Rattle.rulebook.specs.Units.{mostPrice, mostQuantity}
 use Rattle.rulebook.specs.Calls.{PricesIn}
 use Rattle.rulebook.specs.UnitsLaws.{price-range, injection-range}
 use Rattle.rulebook.specs.CallsLaws.{in-range-at}
@@ -25,10 +26,10 @@ abbrev μ-loop : tie.MeasureT-loop
 
 -- each MEP and IEQ of accepted lists
 module _ (mep ieq : List ℤ) (p : PricesIn mep ieq) (f : ℕ) (l : f < length mep) where
-  mep-small : natAbs (word mep f) ≤ 1000000
+  mep-small : natAbs (word mep f) ≤ mostPrice
   mep-small = price-range (word mep f) (in-range-at Price mep (p .prices) f l)
 
-  ieq-small : natAbs (word ieq f) ≤ 10000000
+  ieq-small : natAbs (word ieq f) ≤ mostQuantity
   ieq-small = let e = p .same in injection-range (word ieq f) (in-range-at Injection ieq (p .injections) f (omega arith))
 
 loop-holds : tie.Need-loop-holds Inv-loop μ-loop

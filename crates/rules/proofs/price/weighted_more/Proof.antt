@@ -1,11 +1,12 @@
 -- `weighted_more` meets its contract: the product is at most 10^13 and the sum at most 4 × 10^13, so both fit.
-use Prim.Native.Nat.{_≤_}
+use Prim.Native.Nat.{_*_, _≤_}
 use borrow.Author.Needs.{needs}
 use lib.IntN.{pos, natAbs, _+ℤ_, _*ℤ_}
 use mir.Syntax.{w64}
 use mir.Val.{SFits, toZ, ofZ}
 use Rattle.integer.specs.IntegerLaws.{int, fits-abs, abs-mul-le}
 use Rattle.integer.specs.Bits.{Holds, holds, holds-ok, holds-as, fits-add, op-fits, op-holds}
+use Rattle.rulebook.specs.Units.{mostPrice, mostQuantity}
 use Rattle.rules.proofs.price.weighted_more.Statement.{statement}
 use Rattle.rules.proofs.price.weighted_more.Tie as tie
 
@@ -14,8 +15,8 @@ signed-requires c κs = search needs
 
 -- the product: its size, and that it fits
 module _ (c : tie.After-signed) where
-  product-le : natAbs (c .before .args .mep *ℤ pos (c .before .args .w)) ≤ 10000000000000
-  product-le = abs-mul-le (c .before .args .mep) (pos (c .before .args .w)) 1000000 10000000 (c .before .pre .1) (c .before .pre .2)
+  product-le : natAbs (c .before .args .mep *ℤ pos (c .before .args .w)) ≤ mostPrice * mostQuantity
+  product-le = abs-mul-le (c .before .args .mep) (pos (c .before .args .w)) mostPrice mostQuantity (c .before .pre .1) (c .before .pre .2)
 
   product-fits : SFits w64 (c .before .args .mep *ℤ pos (c .before .args .w))
   product-fits = fits-abs (omega (int, product-le))

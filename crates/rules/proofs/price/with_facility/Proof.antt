@@ -8,6 +8,7 @@ use mir.Val.{SFits, toZ, ofZ}
 use mir.Facts.{toZ-ofZ}
 use Rattle.integer.specs.IntegerLaws.{int, parts, fits-abs}
 use Rattle.integer.specs.Bits.{known, got}
+use Rattle.rulebook.specs.Units.{mostQuantity}
 use Rattle.rules.specs.PriceSums.{weight-le}
 use Rattle.rules.proofs.price.with_facility.Statement.{statement}
 use Rattle.rules.proofs.price.with_facility.Tie as tie
@@ -23,7 +24,7 @@ module _ (c : tie.Start) where
 weight-of-requires : tie.Need-weight-of-requires
 weight-of-requires c κs = search needs
 
-weight-small : (c : tie.After-weight-of) → c .weight-of .result ≤ 10000000
+weight-small : (c : tie.After-weight-of) → c .weight-of .result ≤ mostQuantity
 weight-small c =
     let s = c .before in
     rw (c .weight-of .ensures) (weight-le (toZ w64 (ofZ w64 (s .args .ieq))) (omega (int, known (s .fits .ieq), s .pre .3)))
