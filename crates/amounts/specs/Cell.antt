@@ -11,6 +11,7 @@ use Rattle.rulebook.specs.declared.Kind.the-variants.{Quantity}
 use Rattle.rulebook.specs.Units.{positive, asQuantity, inRange, mostQuantity, mostPrice}
 use Rattle.rulebook.specs.Shares.{shareOf}
 use Rattle.rulebook.specs.Tranches.{tranche1, tranche2}
+use Rattle.rulebook.specs.Layout.{accountWords}
 use Rattle.rulebook.specs.DayAmount.{AccountData, tenders, referencePriceOf}
 
 -- the data of a cell
@@ -29,9 +30,9 @@ cellData c = record {
   rvp2 = word c 22;
 }
 
--- a cell of 24 words in range, with a meter row
+-- a cell in range, with a meter row
 pub record Ranged (c : List ℤ) : Type 0 where
-  pub whole : length c ≡ 24
+  pub whole : length c ≡ accountWords
   pub bvq : inRange Quantity (word c 1) ≡ true
   pub bvp : natAbs (word c 2) ≤ mostPrice
   pub tvq : (t : ℕ) → t < 3 → inRange Quantity (word c (3 + 2 * t)) ≡ true

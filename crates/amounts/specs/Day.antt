@@ -10,6 +10,7 @@ use Rattle.integer.specs.Words.{part, word}
 use Rattle.rulebook.specs.Shares.{leastResidual}
 use Rattle.rulebook.specs.Units.{intervals, nearest, thousandthsPerCent}
 use Rattle.rulebook.specs.DayAmount.{vestingAmount}
+use Rattle.rulebook.specs.Layout.{intervalWords, accountWords, intervalLength, slotLength}
 use Rattle.amounts.specs.declared.interval.Residual.{Residual}
 use Rattle.amounts.specs.declared.day.Residuals.{Residuals}
 use Rattle.amounts.specs.declared.total.DayTotal.{DayTotal}
@@ -18,23 +19,23 @@ use Rattle.amounts.specs.Interval.{IntervalRanged, residualOf, spareOf}
 
 -- interval i of a slot of n accounts
 abbrev pub intervalOf : ℕ → List ℤ → ℕ → List ℤ
-intervalOf n x i = part x (i * (4 + n * 24)) (4 + n * 24)
+intervalOf n x i = part x (i * intervalLength n) (intervalLength n)
 
 -- account a's cell at interval i
 abbrev pub cellAt : ℕ → List ℤ → ℕ → ℕ → List ℤ
-cellAt n x a i = part x (i * (4 + n * 24) + (4 + a * 24)) 24
+cellAt n x a i = part x (i * intervalLength n + (intervalWords + a * accountWords)) accountWords
 
 pub record SlotRanged (n : ℕ) (x : List ℤ) : Type 0 where
-  pub whole : length x ≡ 48 * (4 + n * 24)
-  pub each : (i : ℕ) → i < 48 → IntervalRanged n (intervalOf n x i)
+  pub whole : length x ≡ slotLength n
+  pub each : (i : ℕ) → i < intervals → IntervalRanged n (intervalOf n x i)
 
 -- R and S of each interval
 unfoldable pub residualsOf : ℕ → List ℤ → Residuals
-residualsOf n x = record { loads = tabulate 48 (λ i. residualOf n (intervalOf n x i)); spares = tabulate 48 (λ i. spareOf n (intervalOf n x i)) }
+residualsOf n x = record { loads = tabulate intervals (λ i. residualOf n (intervalOf n x i)); spares = tabulate intervals (λ i. spareOf n (intervalOf n x i)) }
 
 -- none, where no residual is due
 abbrev pub noResiduals : Residuals
-noResiduals = record { loads = replicate 48 (pos 0); spares = replicate 48 0 }
+noResiduals = record { loads = replicate intervals (pos 0); spares = replicate intervals 0 }
 
 -- those of interval i
 abbrev pub residualIn : Residuals → ℕ → Residual
@@ -45,7 +46,7 @@ pub record DaysRanged (n : ℕ) (today then : List ℤ) (due : Bool) (rs : Resid
   pub closing : SlotRanged n today
   pub long : length then ≡ length today
   pub settled : due ≡ true → SlotRanged n then
-  pub loads : (i : ℕ) → i < 48 → natAbs (word (rs .loads) i) ≤ leastResidual
+  pub loads : (i : ℕ) → i < intervals → natAbs (word (rs .loads) i) ≤ leastResidual
 
 -- what an account has at an interval: vesting of today's cell and, where due, the residual of then's
 abbrev pub amountAt : List ℤ → List ℤ → Bool → Residual → ℤ

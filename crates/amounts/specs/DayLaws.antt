@@ -14,12 +14,13 @@ use Rattle.integer.specs.Below.{fold, sumℤ}
 use Rattle.integer.specs.BelowLaws.{fold-suc, abs-sumℤ}
 use Rattle.integer.specs.WordsLaws.{row-fits, part-part}
 use Rattle.integer.specs.Words.{word}
-use Rattle.rulebook.specs.Units.{asQuantity}
+use Rattle.rulebook.specs.Units.{asQuantity, intervals}
 use Rattle.rulebook.specs.UnitsLaws.{quantity-range}
 use Rattle.rulebook.specs.Shares.{shareOf}
 use Rattle.rulebook.specs.SharesLaws.{share-cap}
 use Rattle.rulebook.specs.Tranches.{tranche1, tranche2}
 use Rattle.rulebook.specs.TranchesLaws.{tranche-split}
+use Rattle.rulebook.specs.Layout.{intervalWords, accountWords, intervalLength}
 use Rattle.rulebook.specs.DayAmount.{referencePriceOf, vestingAmount}
 use Rattle.amounts.specs.declared.interval.Residual.{Residual}
 use Rattle.amounts.specs.Cell.{cellData, Ranged, tenderAmount, residualPriced, cellResidual}
@@ -70,14 +71,14 @@ amount-le today then false r h g = omega (arith, abs-add (vestingAmount (cellDat
 
 -- account a's cell of interval i, read off the slot
 pub cell-in-slot : (n : ℕ) (x : List ℤ) (a i : ℕ) → a < n → cellOf (intervalOf n x i) a ≡ cellAt n x a i
-cell-in-slot n x a i h = part-part x (i * (4 + n * 24)) (4 + n * 24) (4 + a * 24) 24 (omega (arith, row-fits a n 24 h))
+cell-in-slot n x a i h = part-part x (i * intervalLength n) (intervalLength n) (intervalWords + a * accountWords) accountWords (omega (arith, row-fits a n accountWords h))
 
-pub cell-ranged : (n : ℕ) (x : List ℤ) → SlotRanged n x → (a i : ℕ) → a < n → i < 48 → Ranged (cellAt n x a i)
+pub cell-ranged : (n : ℕ) (x : List ℤ) → SlotRanged n x → (a i : ℕ) → a < n → i < intervals → Ranged (cellAt n x a i)
 cell-ranged n x r a i h k = subst Ranged (cell-in-slot n x a i h) (r .each i k .cells a h)
 
 -- it lies within the slot
-pub cell-fits : (n : ℕ) (x : List ℤ) → SlotRanged n x → (a i : ℕ) → a < n → i < 48 → i * (4 + n * 24) + (4 + a * 24) + 24 ≤ length x
-cell-fits n x r a i h k = omega (arith, r .whole, row-fits a n 24 h, row-fits i 48 (4 + n * 24) k)
+pub cell-fits : (n : ℕ) (x : List ℤ) → SlotRanged n x → (a i : ℕ) → a < n → i < intervals → i * intervalLength n + (intervalWords + a * accountWords) + accountWords ≤ length x
+cell-fits n x r a i h k = omega (arith, r .whole, row-fits a n accountWords h, row-fits i intervals (intervalLength n) k)
 
 module _ (n : ℕ) (today then : List ℤ) (due : Bool) (rs : Residuals) (a : ℕ) where
   pub total-zero : record { thousandths = pos 0 } ≡ totalTo n today then due rs a 0
@@ -89,16 +90,16 @@ module _ (n : ℕ) (today then : List ℤ) (due : Bool) (rs : Residuals) (a : �
   total-suc k = rw (fold-suc _+ℤ_ (pos 0) k (slotAmount n today then due rs a))
 
   module _ (h : DaysRanged n today then due rs) (l : a < n) where
-    pub slot-amount-le : (i : ℕ) → i < 48 → natAbs (slotAmount n today then due rs a i) ≤ 120000000000000
+    pub slot-amount-le : (i : ℕ) → i < intervals → natAbs (slotAmount n today then due rs a i) ≤ 120000000000000
     unfolding slotAmount
     slot-amount-le i k =
         amount-le (cellAt n today a i) (cellAt n then a i) due (residualIn rs i) (cell-ranged n today (h .closing) a i l k) (λ e. cell-ranged n then (h .settled e) a i l k)
 
-    pub total-le : (k : ℕ) → k ≤ 48 → natAbs (totalTo n today then due rs a k .thousandths) ≤ k * 120000000000000
+    pub total-le : (k : ℕ) → k ≤ intervals → natAbs (totalTo n today then due rs a k .thousandths) ≤ k * 120000000000000
     unfolding totalTo
     total-le k m = abs-sumℤ k 120000000000000 (slotAmount n today then due rs a) (λ i j. slot-amount-le i (omega arith))
 
     -- the next interval's amount has room
-    pub total-room : (k : ℕ) → k < 48 → SFits w64 (totalTo n today then due rs a k .thousandths +ℤ slotAmount n today then due rs a k)
+    pub total-room : (k : ℕ) → k < intervals → SFits w64 (totalTo n today then due rs a k .thousandths +ℤ slotAmount n today then due rs a k)
     unfolding totalTo
     total-room k m = fits-add (sumℤ k (slotAmount n today then due rs a)) (slotAmount n today then due rs a k) (omega (arith, total-le k (omega arith), slot-amount-le k m))

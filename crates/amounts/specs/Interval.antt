@@ -2,25 +2,27 @@
 use mathlib.Core.Path.{_≡_}
 use mathlib.Core.Bool.{true}
 use mathlib.Core.List.{List}
-use Prim.Native.Nat.{ℕ, _+_, _*_, _≤_, _<_}
+use Prim.Native.Nat.{ℕ, _+_, _-_, _*_, _≤_, _<_}
 use lib.IntN.{ℤ, pos, _-ℤ_}
 use lib.ListN.{length}
 use Rattle.integer.specs.Below.{sumℕ}
 use Rattle.integer.specs.Words.{word, part}
 use Rattle.rulebook.specs.declared.Kind.the-variants.{Load}
-use Rattle.rulebook.specs.Units.{asQuantity, inRange}
-use Rattle.rulebook.specs.DayAmount.{vestedQuantity}
+use Rattle.rulebook.specs.Units.{asQuantity, inRange, mostQuantity}
+use Rattle.rulebook.specs.Shares.{mostAccounts}
+use Rattle.rulebook.specs.DayAmount.{tenders, vestedQuantity}
+use Rattle.rulebook.specs.Layout.{intervalWords, accountWords, intervalLength}
 use Rattle.amounts.specs.declared.interval.Totals.{Totals}
 use Rattle.amounts.specs.declared.interval.Residual.{Residual}
 use Rattle.amounts.specs.Cell.{cellData, Ranged}
 
--- ---- An interval of n accounts: its own 4 words, then the cells
+-- ---- An interval of n accounts: its own words, then the cells
 
 abbrev pub cellOf : List ℤ → ℕ → List ℤ
-cellOf x a = part x (4 + a * 24) 24
+cellOf x a = part x (intervalWords + a * accountWords) accountWords
 
 pub record IntervalRanged (n : ℕ) (x : List ℤ) : Type 0 where
-  pub whole : length x ≡ 4 + n * 24
+  pub whole : length x ≡ intervalLength n
   pub load : inRange Load (word x 0) ≡ true
   pub cells : (a : ℕ) → a < n → Ranged (cellOf x a)
 
@@ -49,4 +51,4 @@ more t c = record { vested = t .vested + vestedQuantity (cellData c); spare = t 
 
 -- there is room for one cell more
 abbrev pub Room : Totals → Type 0
-Room t = (t .vested ≤ 1240000000) × (t .spare ≤ 310000000)
+Room t = (t .vested ≤ (mostAccounts - 1) * ((1 + tenders) * mostQuantity)) × (t .spare ≤ (mostAccounts - 1) * mostQuantity)

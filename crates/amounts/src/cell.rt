@@ -2,6 +2,18 @@
 use integer::add;
 use integer::signed;
 use integer::word_at;
+use rulebook::layout::BVP;
+use rulebook::layout::BVQ;
+use rulebook::layout::IEQ;
+use rulebook::layout::MEP;
+use rulebook::layout::METER_FLAG;
+use rulebook::layout::MQ;
+use rulebook::layout::RVP1;
+use rulebook::layout::RVP2;
+use rulebook::layout::TVP;
+use rulebook::layout::TVQ;
+use rulebook::layout::UEGQ;
+use rulebook::units::TENDERS;
 use rules::price::Sums;
 use rules::price::price_of;
 use rules::price::with_facility;
@@ -9,38 +21,15 @@ use rules::ranges::quantity_at;
 use rules::share::share_of;
 use rules::tranche::first_tranche;
 ghost use mathlib.Core.Path.{_≡_};
-ghost use Prim.Native.Nat.{_≤_, _<_};
+ghost use Prim.Native.Nat.{_+_, _*_, _≤_, _<_};
 ghost use lib.IntN.{pos, natAbs, _-ℤ_, _*ℤ_};
 ghost use lib.ListN.{length};
 ghost use Rattle.integer.specs.Words.{word};
 ghost use Rattle.rulebook.specs.Units.{mostPrice, mostQuantity};
 ghost use Rattle.rulebook.specs.Shares.{leastResidual};
-ghost use Rattle.rulebook.specs.DayAmount.{referencePriceOf, vestedQuantity, vestingAmount};
+ghost use Rattle.rulebook.specs.DayAmount.{tenders, referencePriceOf, vestedQuantity, vestingAmount};
 ghost use Rattle.rules.specs.PriceSums.{sumsOf};
 ghost use Rattle.amounts.specs.Cell.{cellData, Ranged, tenderAmount, residualPriced};
-
-// Where the figures stand in a cell.
-const BVQ: usize = 1;
-
-const BVP: usize = 2;
-
-const TVQ: usize = 3;
-
-const TVP: usize = 4;
-
-const FACILITIES: usize = 9;
-
-const MEP: usize = 10;
-
-const IEQ: usize = 11;
-
-const UEGQ: usize = 19;
-
-const MQ: usize = 20;
-
-const RVP1: usize = 21;
-
-const RVP2: usize = 22;
 
 // (price - V) × quantity.
 fn priced(price: i64, v: i64, quantity: u64) -> i64
@@ -58,12 +47,12 @@ fn priced_at(c: &[i64], at: usize, v: i64, quantity: u64) -> i64
     priced(word_at(c, at), v, quantity)
 }
 
-// How many facilities the cell has.
+// How many facilities the cell has: its meter row's flag.
 fn facilities_of(c: &[i64]) -> usize
     requires { ⌜ Ranged (now c) ⌝ }
     ensures { λ r. ⌜ r ≡ cellData (now (c .entry)) .facilities ⌝ }
 {
-    word_at(c, FACILITIES) as usize
+    word_at(c, METER_FLAG) as usize
 }
 
 // The sums of the cell's facilities, of which V is the average.
@@ -94,10 +83,10 @@ pub fn reference_price(c: &[i64]) -> i64
 // BVQ and all TVQ.
 pub fn vested_quantity(c: &[i64]) -> u64
     requires { ⌜ Ranged (now c) ⌝ }
-    ensures { λ r. ⌜ (r ≡ vestedQuantity (cellData (now (c .entry)))) × (r ≤ 40000000) ⌝ }
+    ensures { λ r. ⌜ (r ≡ vestedQuantity (cellData (now (c .entry)))) × (r ≤ (1 + tenders) * mostQuantity) ⌝ }
 {
     let mut total = quantity_at(c, BVQ);
-    for t in 0..3 {
+    for t in 0..TENDERS {
         total += quantity_at(c, TVQ + 2 * t);
     }
     total
@@ -109,7 +98,7 @@ fn tender_amount(c: &[i64], v: i64) -> i64
     ensures { λ r. ⌜ r ≡ tenderAmount (now (c .entry)) v ⌝ }
 {
     let mut total: i64 = 0;
-    for t in 0..3 {
+    for t in 0..TENDERS {
         let quantity = quantity_at(c, TVQ + 2 * t);
         let amount = priced_at(c, TVP + 2 * t, v, quantity);
         total = add(total, amount);

@@ -8,29 +8,35 @@ use crate::total::DayTotal;
 use crate::total::absorb;
 use integer::add;
 use integer::nearest_to;
+use rulebook::layout::ACCOUNT_WORDS;
+use rulebook::layout::INTERVAL_WORDS;
+use rulebook::layout::interval_length;
+use rulebook::units::INTERVALS;
+use rulebook::units::THOUSANDTHS_PER_CENT;
 ghost use mathlib.Core.Path.{_≡_};
 ghost use mathlib.Core.Bool.{true, cond};
 ghost use Prim.Native.Nat.{_≤_, _<_};
 ghost use lib.IntN.{natAbs};
-ghost use Rattle.rulebook.specs.Shares.{leastResidual};
+ghost use Rattle.rulebook.specs.Units.{intervals};
+ghost use Rattle.rulebook.specs.Shares.{mostAccounts, leastResidual};
 ghost use Rattle.amounts.specs.Cell.{Ranged};
 ghost use Rattle.amounts.specs.Day.{SlotRanged, DaysRanged, residualsOf, noResiduals, residualIn, amountAt, slotAmount, totalTo, slotPosted};
 
 // R and S of a day's 48 intervals.
 pub struct Residuals {
-    pub loads: [i64; 48],
-    pub spares: [u64; 48],
+    pub loads: [i64; INTERVALS],
+    pub spares: [u64; INTERVALS],
 }
 
 // Each is formed once, for all accounts.
 fn residuals_of(slot: &[i64], n: usize) -> Residuals
-    requires { ⌜ SlotRanged n (now slot) × (n ≤ 32) ⌝ }
+    requires { ⌜ SlotRanged n (now slot) × (n ≤ mostAccounts) ⌝ }
     ensures { λ r. ⌜ r ≡ residualsOf n (now (slot .entry)) ⌝ }
 {
-    let size = 4 + n * 24;
-    let mut loads = [0; 48];
-    let mut spares = [0; 48];
-    for h in 0..48 {
+    let size = interval_length(n);
+    let mut loads = [0; INTERVALS];
+    let mut spares = [0; INTERVALS];
+    for h in 0..INTERVALS {
         let i = h * size;
         let e = i + size;
         let r = residual_of(&slot[i..e], n);
@@ -49,14 +55,14 @@ fn no_residuals() -> Residuals
     ensures { λ r. ⌜ r ≡ noResiduals ⌝ }
 {
     Residuals {
-        loads: [0; 48],
-        spares: [0; 48],
+        loads: [0; INTERVALS],
+        spares: [0; INTERVALS],
     }
 }
 
 // Those of the slot, where a residual is due.
 pub fn residuals_due(slot: &[i64], due: bool, n: usize) -> Residuals
-    requires { ⌜ (due ≡ true → SlotRanged n (now slot)) × (n ≤ 32) ⌝ }
+    requires { ⌜ (due ≡ true → SlotRanged n (now slot)) × (n ≤ mostAccounts) ⌝ }
     ensures { λ r. ⌜ r ≡ cond due (residualsOf n (now (slot .entry))) noResiduals ⌝ }
 {
     if due {
@@ -68,7 +74,7 @@ pub fn residuals_due(slot: &[i64], due: bool, n: usize) -> Residuals
 
 // R and S of interval h.
 fn residual_at(residuals: Residuals, h: usize) -> Residual
-    requires { ⌜ h < 48 ⌝ }
+    requires { ⌜ h < intervals ⌝ }
     ensures { λ r. ⌜ r ≡ residualIn residuals h ⌝ }
 {
     let load = residuals.loads[h];
@@ -100,12 +106,11 @@ fn amount_at(
     a: usize,
     h: usize,
 ) -> i64
-    requires { ⌜ DaysRanged n (now today) (now then) due residuals × (n ≤ 32) × (a < n) × (h < 48) ⌝ }
+    requires { ⌜ DaysRanged n (now today) (now then) due residuals × (n ≤ mostAccounts) × (a < n) × (h < intervals) ⌝ }
     ensures { λ r. ⌜ r ≡ slotAmount n (now (today .entry)) (now (then .entry)) due residuals a h ⌝ }
 {
-    let size = 4 + n * 24;
-    let i = h * size + (4 + a * 24);
-    let e = i + 24;
+    let i = h * interval_length(n) + (INTERVAL_WORDS + a * ACCOUNT_WORDS);
+    let e = i + ACCOUNT_WORDS;
     interval_amount(&today[i..e], &then[i..e], due, residual_at(residuals, h))
 }
 
@@ -118,11 +123,11 @@ fn exact_amount(
     n: usize,
     a: usize,
 ) -> DayTotal
-    requires { ⌜ DaysRanged n (now today) (now then) due residuals × (n ≤ 32) × (a < n) ⌝ }
-    ensures { λ r. ⌜ r ≡ totalTo n (now (today .entry)) (now (then .entry)) due residuals a 48 ⌝ }
+    requires { ⌜ DaysRanged n (now today) (now then) due residuals × (n ≤ mostAccounts) × (a < n) ⌝ }
+    ensures { λ r. ⌜ r ≡ totalTo n (now (today .entry)) (now (then .entry)) due residuals a intervals ⌝ }
 {
     let mut total = DayTotal { thousandths: 0 };
-    for h in 0..48 {
+    for h in 0..INTERVALS {
         absorb(&mut total, amount_at(today, then, due, residuals, n, a, h));
     }
     total
@@ -137,9 +142,9 @@ pub fn posted_amount(
     n: usize,
     a: usize,
 ) -> i64
-    requires { ⌜ DaysRanged n (now today) (now then) due residuals × (n ≤ 32) × (a < n) ⌝ }
+    requires { ⌜ DaysRanged n (now today) (now then) due residuals × (n ≤ mostAccounts) × (a < n) ⌝ }
     ensures { λ r. ⌜ r ≡ slotPosted n (now (today .entry)) (now (then .entry)) due residuals a ⌝ }
 {
     let total = exact_amount(today, then, due, residuals, n, a);
-    nearest_to(total.thousandths, 1000)
+    nearest_to(total.thousandths, THOUSANDTHS_PER_CENT)
 }

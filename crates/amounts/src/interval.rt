@@ -3,11 +3,14 @@ use crate::cell::spare_generation;
 use crate::cell::vested_quantity;
 use integer::signed;
 use integer::word_at;
+use rulebook::layout::ACCOUNT_WORDS;
+use rulebook::layout::INTERVAL_WORDS;
+use rulebook::layout::NCC_LOAD;
 ghost use mathlib.Core.Path.{_≡_};
 ghost use Prim.Native.Nat.{_≤_};
 ghost use lib.IntN.{pos, natAbs, _-ℤ_};
 ghost use Rattle.rulebook.specs.Units.{mostLoad};
-ghost use Rattle.rulebook.specs.Shares.{leastResidual};
+ghost use Rattle.rulebook.specs.Shares.{mostAccounts, leastResidual};
 ghost use Rattle.amounts.specs.Cell.{Ranged};
 ghost use Rattle.amounts.specs.Interval.{IntervalRanged, totalsOf, more, Room, residualAt};
 
@@ -36,7 +39,7 @@ fn with_cell(totals: Totals, c: &[i64]) -> Totals
 
 // Those of all accounts.
 fn totals_of(x: &[i64], n: usize) -> Totals
-    requires { ⌜ IntervalRanged n (now x) × (n ≤ 32) ⌝ }
+    requires { ⌜ IntervalRanged n (now x) × (n ≤ mostAccounts) ⌝ }
     ensures { λ r. ⌜ r ≡ totalsOf n (now (x .entry)) ⌝ }
 {
     let mut totals = Totals {
@@ -44,8 +47,8 @@ fn totals_of(x: &[i64], n: usize) -> Totals
         spare: 0,
     };
     for b in 0..n {
-        let i = 4 + b * 24;
-        let e = i + 24;
+        let i = INTERVAL_WORDS + b * ACCOUNT_WORDS;
+        let e = i + ACCOUNT_WORDS;
         totals = with_cell(totals, &x[i..e]);
     }
     totals
@@ -61,12 +64,12 @@ fn less_vested(load: i64, vested: u64) -> i64
 
 // R and S.
 pub fn residual_of(x: &[i64], n: usize) -> Residual
-    requires { ⌜ IntervalRanged n (now x) × (n ≤ 32) ⌝ }
+    requires { ⌜ IntervalRanged n (now x) × (n ≤ mostAccounts) ⌝ }
     ensures { λ r. ⌜ r ≡ residualAt n (now (x .entry)) ⌝ }
 {
     let totals = totals_of(x, n);
     Residual {
-        load: less_vested(word_at(x, 0), totals.vested),
+        load: less_vested(word_at(x, NCC_LOAD), totals.vested),
         spare: totals.spare,
     }
 }

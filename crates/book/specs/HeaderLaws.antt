@@ -2,7 +2,7 @@
 use mathlib.Core.Path.{_≡_, sym, subst}
 use mathlib.Core.Bool.{true}
 use mathlib.Core.List.{List}
-use Prim.Native.Nat.{ℕ, _+_, _*_, _^_, _≤_, _<_}
+use Prim.Native.Nat.{ℕ, suc, _+_, _*_, _^_, _≤_, _<_}
 use native.Mathlib.Nat.{mul-le-mul}
 use native.Mathlib.Omega.{arith}
 use lib.Dec.{T}
@@ -11,10 +11,10 @@ use Rattle.integer.specs.Integer.{positive, negative}
 use Rattle.integer.specs.IntegerLaws.{parts, le-parts}
 use Rattle.integer.specs.Words.{word}
 use Rattle.rulebook.specs.declared.Terms.{Terms}
-use Rattle.rulebook.specs.Units.{lastDay, between}
+use Rattle.rulebook.specs.Units.{lastDay, intervals, between}
 use Rattle.rulebook.specs.Shares.{mostAccounts}
-use Rattle.rulebook.specs.Terms.{InTerms}
-use Rattle.rulebook.specs.Layout.{accountsWord, lagWord, horizonWord, firstDayWord, nextDayWord}
+use Rattle.rulebook.specs.Terms.{mostLag, mostHorizon, earliestFirstDay, InTerms}
+use Rattle.rulebook.specs.Layout.{intervalLength, accountsWord, lagWord, horizonWord, firstDayWord, nextDayWord}
 use Rattle.rulebook.specs.BookData.{termsOf, nextDay}
 use Rattle.rulebook.specs.TestLaws.{T-path, and-left, and-right}
 use Rattle.rulebook.specs.UnitsLaws.{between-true}
@@ -37,7 +37,7 @@ natural a b z t =
 pub record HeaderSays (w : List ℤ) : Type 0 where
   pub terms : InTerms (termsOf w)
   pub begun : termsOf w .first ≤ nextDay w
-  pub ended : nextDay w ≤ 36525
+  pub ended : nextDay w ≤ suc lastDay
   pub accountsSign : negative (word w accountsWord) ≡ 0
   pub lagSign : negative (word w lagWord) ≡ 0
   pub horizonSign : negative (word w horizonWord) ≡ 0
@@ -48,12 +48,12 @@ pub header-says : (w : List ℤ) → headerFits w ≡ true → HeaderSays w
 unfolding headerFits
 header-says w e =
     let t : T (headerFits w) = subst T (sym e) tt in
-    let n = natural 1 32 (word w accountsWord) (search (and-left, and-right) depth 8) in
-    let l = natural 1 75 (word w lagWord) (search (and-left, and-right) depth 8) in
-    let h = natural 1 92 (word w horizonWord) (search (and-left, and-right) depth 8) in
-    let f = natural 9497 36524 (word w firstDayWord) (search (and-left, and-right) depth 8) in
-    let u : T (between (word w firstDayWord) (pos 36525) (word w nextDayWord)) = search (and-left, and-right) depth 8 in
-    let c = between-true (word w firstDayWord) (pos 36525) (word w nextDayWord) (T-path (between (word w firstDayWord) (pos 36525) (word w nextDayWord)) u) in
+    let n = natural 1 mostAccounts (word w accountsWord) (search (and-left, and-right) depth 8) in
+    let l = natural 1 mostLag (word w lagWord) (search (and-left, and-right) depth 8) in
+    let h = natural 1 mostHorizon (word w horizonWord) (search (and-left, and-right) depth 8) in
+    let f = natural earliestFirstDay lastDay (word w firstDayWord) (search (and-left, and-right) depth 8) in
+    let u : T (between (word w firstDayWord) (pos (suc lastDay)) (word w nextDayWord)) = search (and-left, and-right) depth 8 in
+    let c = between-true (word w firstDayWord) (pos (suc lastDay)) (word w nextDayWord) (T-path (between (word w firstDayWord) (pos (suc lastDay)) (word w nextDayWord)) u) in
     let c0 = le-parts (c .0) in
     let c1 = le-parts (c .1) in
     let p = parts (word w nextDayWord) in
@@ -78,11 +78,11 @@ header-says w e =
     }
 
 -- the largest book has 6,188,672 words
-pub slots-small : (o : Terms) → InTerms o → 48 * (o .lag + o .horizon) * (4 + 24 * o .accounts) ≤ 6188352
-slots-small o t = mul-le-mul {n₂ = 8016} {m₂ = 772} (omega arith) (omega arith)
+pub slots-small : (o : Terms) → InTerms o → intervals * (o .lag + o .horizon) * intervalLength (o .accounts) ≤ intervals * (mostLag + mostHorizon) * intervalLength mostAccounts
+slots-small o t = mul-le-mul {n₂ = intervals * (mostLag + mostHorizon)} {m₂ = intervalLength mostAccounts} (omega arith) (omega arith)
 
 -- the largest bound of a balance fits a word
 pub bound-small : (n k : ℕ) → n ≤ mostAccounts → k ≤ lastDay → n * (k * dayBound) < 2 ^ 63
 bound-small n k h l =
-    let m : n * (k * dayBound) ≤ 32 * 175315200000000000 = mul-le-mul {n₂ = 32} {m₂ = 175315200000000000} h (omega arith) in
+    let m : n * (k * dayBound) ≤ mostAccounts * (lastDay * dayBound) = mul-le-mul {n₂ = mostAccounts} {m₂ = lastDay * dayBound} h (omega arith) in
     omega arith

@@ -8,7 +8,7 @@ use borrow.Author.Tests.{le-leb, lt-leb}
 use lib.IntN.{ℤ}
 use lib.ListN.{length}
 use Rattle.rulebook.specs.declared.Terms.{Terms}
-use Rattle.rulebook.specs.Layout.{balanceWord, base, size}
+use Rattle.rulebook.specs.Layout.{headerWords, balanceWord, base, size}
 use Rattle.rulebook.specs.BookData.{termsOf, nextDay}
 use Rattle.rulebook.specs.WellFormed.{headerFits, fits, wellFormed}
 use Rattle.book.specs.declared.judge.Judged.the-variants.{IllFormed}
@@ -28,7 +28,7 @@ module _ (w : List ℤ) where
   unfolding judgedBook wellFormed fits
   size-left h = rw (lt-leb (size (termsOf w)) (length w) h, and-false (headerFits w))
 
-  pub length-left : length w < 64 → IllFormed ≡ judgedBook w
+  pub length-left : length w < headerWords → IllFormed ≡ judgedBook w
   length-left h = size-left (omega (arith, header-inside (termsOf w)))
 
   -- left to the balances and the days

@@ -2,12 +2,13 @@
 use mathlib.Core.Path.{_≡_, refl, sym, subst}
 use mathlib.Core.Bool.{Bool, true, false, cond}
 use mathlib.Core.List.{List}
-use Prim.Native.Nat.{ℕ, _≤_}
+use Prim.Native.Nat.{ℕ, suc, _≤_}
 use native.Mathlib.Omega.{arith}
 use lib.Dec.{T, leb→le}
 use lib.IntN.{ℤ}
 use lib.ListN.{length}
 use Rattle.rulebook.specs.declared.Terms.{Terms}
+use Rattle.rulebook.specs.Units.{lastDay}
 use Rattle.rulebook.specs.Terms.{InTerms}
 use Rattle.rulebook.specs.Layout.{size}
 use Rattle.rulebook.specs.BookData.{termsOf, nextDay}
@@ -25,7 +26,7 @@ module _ (w : List ℤ) where
     pub next : nextDay w ≡ C
     pub inTerms : InTerms o
     pub begun : o .first ≤ C
-    pub ended : C ≤ 36525
+    pub ended : C ≤ suc lastDay
     pub room : size o ≤ length w
 
   long : T (wellFormed w) → size (termsOf w) ≤ length w

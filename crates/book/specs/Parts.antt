@@ -10,12 +10,16 @@ use Rattle.rulebook.specs.declared.Kind.{Kind}
 use Rattle.rulebook.specs.declared.Section.{Section}
 use Rattle.rulebook.specs.declared.Section.the-variants.{Vesting, Meter, Residual, Ncc}
 use Rattle.rulebook.specs.Units.{inRange, intervals}
-use Rattle.rulebook.specs.Layout.{intervalTable, accountTable, intervalWords, accountWords, tablePlace, flagIndex}
+use Rattle.rulebook.specs.Layout.{intervalTable, accountTable, intervalWords, accountWords, intervalLength, tablePlace, flagIndex}
 use Rattle.rulebook.specs.WellFormed.{isZero, rowFits, sparesZero}
 
 -- every word is zero
 unfoldable pub blank : List ℤ → Bool
 blank xs = all (length xs) (λ k. isZero (word xs k))
+
+-- many zeros are tested in rows of so many words
+abbrev pub rowWords : ℕ
+rowWords = 64
 
 -- ---- An account's words at an interval
 
@@ -48,10 +52,6 @@ accountsFit n closed xs = all n (λ a. accountFits closed (part xs (intervalWord
 
 unfoldable pub intervalFits : ℕ → Bool → List ℤ → Bool
 intervalFits n closed xs = nccFits xs && accountsFit n closed xs
-
--- an interval's words, n accounts
-abbrev pub intervalLength : ℕ → ℕ
-intervalLength n = intervalWords + n * accountWords
 
 unfoldable pub intervalsFit : ℕ → Bool → List ℤ → Bool
 intervalsFit n closed xs = all intervals (λ i. intervalFits n closed (part xs (i * intervalLength n) (intervalLength n)))

@@ -14,14 +14,13 @@ use Rattle.rulebook.specs.declared.Section.{Section}
 use Rattle.rulebook.specs.declared.Section.the-variants.{Vesting, Meter, Residual, Ncc}
 use Rattle.rulebook.specs.declared.Terms.{Terms}
 use Rattle.rulebook.specs.Units.{intervals}
-use Rattle.rulebook.specs.Layout.{Word, spare, isSpare, intervalTable, accountTable, accountWords, intervalWords, width, tableOf, tablePlace, accountPlace, intervalSize, base, intervalWord}
+use Rattle.rulebook.specs.Layout.{Word, spare, isSpare, intervalTable, accountTable, accountWords, intervalWords, width, tableOf, tablePlace, accountPlace, intervalLength, slotLength, intervalSize, base, intervalWord}
 use Rattle.rulebook.specs.RowWordLaws.{row-word}
 use Rattle.rulebook.specs.TestLaws.{all-same, tests-same}
 use Rattle.rulebook.specs.FormLaws.{fits-same}
 use Rattle.rulebook.specs.WellFormed as rule
 use Rattle.rulebook.specs.WellFormed.{isZero, rowFits, sparesZero, isThere, slotRow, accountWordsFit, bothThere, closedRowsThere, intervalBlank, slotBlank}
-use Rattle.book.specs.Parts.{blank, rowOf, rowsThere, accountFits, nccFits, accountsFit, intervalFits, intervalLength, intervalsFit, slotFits}
-use Rattle.book.specs.Slots.{slotLength}
+use Rattle.book.specs.Parts.{blank, rowOf, rowsThere, accountFits, nccFits, accountsFit, intervalFits, intervalsFit, slotFits}
 use Rattle.book.specs.LoopLaws.{word-part}
 use Rattle.book.specs.BlankLaws.{all-rows}
 
@@ -112,10 +111,8 @@ module _ (o : Terms) (w : List ℤ) (t : ℕ) (xs : List ℤ)
   interval-words : (i : ℕ) → i < intervals → (m : ℕ) → m < intervalLength (o .accounts) → word xs (i * intervalLength (o .accounts) + m) ≡ word w (intervalWord o t i m)
   unfolding intervalWord intervalSize
   interval-words i hi m hm =
-      let e : intervalWords + accountWords * o .accounts ≡ intervalLength (o .accounts) = omega arith in
-      let f = index t i (intervalLength (o .accounts)) m in
       same (i * intervalLength (o .accounts) + m) (omega (arith, row-fits i intervals (intervalLength (o .accounts)) hi))
-      ∙ rw (e, f)
+      ∙ rw (index t i (intervalLength (o .accounts)) m)
 
   pub intervals-are : (closed : Bool) → intervalsFit (o .accounts) closed xs ≡ (all intervals (rule.intervalFits o w t) && (not closed || all intervals (closedRowsThere o w t)))
   unfolding intervalsFit
@@ -127,11 +124,9 @@ module _ (o : Terms) (w : List ℤ) (t : ℕ) (xs : List ℤ)
   pub blank-is : length xs ≡ slotLength (o .accounts) → blank xs ≡ slotBlank o w t
   unfolding blank slotBlank intervalBlank intervalSize
   blank-is l =
-      let e : intervalWords + accountWords * o .accounts ≡ intervalLength (o .accounts) = omega arith in
       ap (λ (n : ℕ). all n (λ k. isZero (word xs k))) l
       ∙ sym (all-rows intervals (intervalLength (o .accounts)) (λ k. isZero (word xs k)))
-      ∙ all-same intervals _ _ (λ i hi. all-same (intervalLength (o .accounts)) _ _ (λ m hm. ap isZero (interval-words i hi m hm))
-      ∙ ap (λ (n : ℕ). all n (λ m. isZero (word w (intervalWord o t i m)))) (sym e))
+      ∙ all-same intervals _ _ (λ i hi. all-same (intervalLength (o .accounts)) _ _ (λ m hm. ap isZero (interval-words i hi m hm)))
 
   pub slot-is : length xs ≡ slotLength (o .accounts) → (dated closed : Bool) → slotFits (o .accounts) dated closed xs
       ≡ cond dated (all intervals (rule.intervalFits o w t) && (not closed || all intervals (closedRowsThere o w t))) (slotBlank o w t)

@@ -7,14 +7,10 @@ use lib.IntN.{ℤ}
 use Rattle.integer.specs.Below.{all}
 use Rattle.integer.specs.Words.{part}
 use Rattle.rulebook.specs.declared.Terms.{Terms}
-use Rattle.rulebook.specs.Units.{lastDay, intervals}
-use Rattle.rulebook.specs.Layout.{ring}
+use Rattle.rulebook.specs.Units.{lastDay}
+use Rattle.rulebook.specs.Layout.{slotLength, ring}
 use Rattle.rulebook.specs.WindowWalk.{turn-of}
-use Rattle.book.specs.Parts.{intervalLength, slotFits}
-
--- a slot's words, n accounts
-abbrev pub slotLength : ℕ → ℕ
-slotLength n = intervals * intervalLength n
+use Rattle.book.specs.Parts.{slotFits}
 
 -- place u of the window is of a day: day C + u − L is neither before F nor past the last, where k days are closed, C = F + k
 unfoldable pub isDay : Terms → ℕ → ℕ → Bool

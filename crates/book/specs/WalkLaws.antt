@@ -13,15 +13,15 @@ use Rattle.integer.specs.Words.{word, part}
 use Rattle.integer.specs.WordsLaws.{row-fits, length-part}
 use Rattle.rulebook.specs.declared.Terms.{Terms}
 use Rattle.rulebook.specs.Units.{lastDay, intervals}
-use Rattle.rulebook.specs.Layout.{balanceWord, intervalWords, accountWords, intervalSize, ring, base, size}
+use Rattle.rulebook.specs.Layout.{balanceWord, intervalLength, slotLength, intervalSize, ring, base, size}
 use Rattle.rulebook.specs.TestLaws.{all-same, all-yes, all-at, tests-same}
 use Rattle.rulebook.specs.WindowWalk.{windowSlot, windowSlotFits, turn-of}
 use Rattle.rulebook.specs.RingLaws.{turn-inside, turned, places-apart}
 use Rattle.rulebook.specs.WalkLaws.{days-are-places}
 use Rattle.rulebook.specs.WellFormed as rule
 use Rattle.rulebook.specs.WellFormed.{closedRowsThere, slotBlank, daysFit}
-use Rattle.book.specs.Parts.{intervalLength, slotFits}
-use Rattle.book.specs.Slots.{slotLength, isDay, slotsFit}
+use Rattle.book.specs.Parts.{slotFits}
+use Rattle.book.specs.Slots.{isDay, slotsFit}
 use Rattle.book.specs.LoopLaws.{word-part}
 use Rattle.book.specs.SlotLaws.{slot-is}
 
@@ -36,9 +36,7 @@ base-is o = refl
 
 pub size-by-slots : (o : Terms) → size o ≡ balanceWord (o .accounts) + ring o * slotLength (o .accounts)
 unfolding size base intervalSize
-size-by-slots o =
-    let e : intervalWords + accountWords * o .accounts ≡ intervalLength (o .accounts) = omega arith in
-    rw (e, mul-comm intervals (ring o), mul-assoc (ring o) intervals (intervalLength (o .accounts)))
+size-by-slots o = rw (mul-comm intervals (ring o), mul-assoc (ring o) intervals (intervalLength (o .accounts)))
 
 module _ (o : Terms) (w : List ℤ) (k : ℕ) (p : 1 ≤ o .horizon) where
   ring-some : zero < ring o

@@ -1,23 +1,18 @@
 // Document 01, "The book": an account's 24 words at an interval. Each test is left at its first word that does not fit.
-use crate::layout::ACCOUNT_SPARE;
-use crate::layout::BVQ;
-use crate::layout::FIRST_MEP;
-use crate::layout::FIRST_TVQ;
-use crate::layout::FOURTH_MEP;
-use crate::layout::METER;
-use crate::layout::RESIDUAL;
-use crate::layout::RVP1;
-use crate::layout::SECOND_MEP;
-use crate::layout::SECOND_TVQ;
-use crate::layout::THIRD_MEP;
-use crate::layout::THIRD_TVQ;
-use crate::layout::UEGQ;
-use crate::layout::VESTING;
 use crate::words::above_at;
 use crate::words::between_at;
 use crate::words::value_at;
 use crate::words::zero_at;
 use rulebook::Kind;
+use rulebook::layout::ACCOUNT_SPARE;
+use rulebook::layout::BVQ;
+use rulebook::layout::MEP;
+use rulebook::layout::METER_FLAG;
+use rulebook::layout::RESIDUAL_FLAG;
+use rulebook::layout::RVP1;
+use rulebook::layout::TVQ;
+use rulebook::layout::UEGQ;
+use rulebook::layout::VESTING_FLAG;
 ghost use mathlib.Core.Path.{_≡_};
 ghost use Prim.Native.Nat.{_+_, _<_};
 ghost use lib.ListN.{length};
@@ -51,19 +46,19 @@ fn vesting_fits(cell: &[i64]) -> bool
     requires { ⌜ length (now cell) ≡ accountWords ⌝ }
     ensures { λ r. ⌜ r ≡ rowFits Vesting (rowOf (now (cell .entry)) Vesting) ⌝ }
 {
-    if !between_at(cell, VESTING, 0, 4) {
+    if !between_at(cell, VESTING_FLAG, 0, 4) {
         return false;
     }
-    if !pair_fits(cell, VESTING, 0, BVQ, Kind::Quantity, Kind::Price) {
+    if !pair_fits(cell, VESTING_FLAG, 0, BVQ, Kind::Quantity, Kind::Price) {
         return false;
     }
-    if !pair_fits(cell, VESTING, 1, FIRST_TVQ, Kind::Quantity, Kind::Price) {
+    if !pair_fits(cell, VESTING_FLAG, 1, TVQ, Kind::Quantity, Kind::Price) {
         return false;
     }
-    if !pair_fits(cell, VESTING, 2, SECOND_TVQ, Kind::Quantity, Kind::Price) {
+    if !pair_fits(cell, VESTING_FLAG, 2, TVQ + 2, Kind::Quantity, Kind::Price) {
         return false;
     }
-    pair_fits(cell, VESTING, 3, THIRD_TVQ, Kind::Quantity, Kind::Price)
+    pair_fits(cell, VESTING_FLAG, 3, TVQ + 4, Kind::Quantity, Kind::Price)
 }
 
 // 0 absent or facility count; four MEP and IEQ pairs.
@@ -71,19 +66,19 @@ fn meter_fits(cell: &[i64]) -> bool
     requires { ⌜ length (now cell) ≡ accountWords ⌝ }
     ensures { λ r. ⌜ r ≡ rowFits Meter (rowOf (now (cell .entry)) Meter) ⌝ }
 {
-    if !between_at(cell, METER, 0, 4) {
+    if !between_at(cell, METER_FLAG, 0, 4) {
         return false;
     }
-    if !pair_fits(cell, METER, 0, FIRST_MEP, Kind::Price, Kind::Injection) {
+    if !pair_fits(cell, METER_FLAG, 0, MEP, Kind::Price, Kind::Injection) {
         return false;
     }
-    if !pair_fits(cell, METER, 1, SECOND_MEP, Kind::Price, Kind::Injection) {
+    if !pair_fits(cell, METER_FLAG, 1, MEP + 2, Kind::Price, Kind::Injection) {
         return false;
     }
-    if !pair_fits(cell, METER, 2, THIRD_MEP, Kind::Price, Kind::Injection) {
+    if !pair_fits(cell, METER_FLAG, 2, MEP + 4, Kind::Price, Kind::Injection) {
         return false;
     }
-    pair_fits(cell, METER, 3, FOURTH_MEP, Kind::Price, Kind::Injection)
+    pair_fits(cell, METER_FLAG, 3, MEP + 6, Kind::Price, Kind::Injection)
 }
 
 // Residual present; UEGQ, MQ, RVP1, RVP2.
@@ -91,13 +86,13 @@ fn residual_fits(cell: &[i64]) -> bool
     requires { ⌜ length (now cell) ≡ accountWords ⌝ }
     ensures { λ r. ⌜ r ≡ rowFits Residual (rowOf (now (cell .entry)) Residual) ⌝ }
 {
-    if !between_at(cell, RESIDUAL, 0, 1) {
+    if !between_at(cell, RESIDUAL_FLAG, 0, 1) {
         return false;
     }
-    if !pair_fits(cell, RESIDUAL, 0, UEGQ, Kind::Quantity, Kind::Quantity) {
+    if !pair_fits(cell, RESIDUAL_FLAG, 0, UEGQ, Kind::Quantity, Kind::Quantity) {
         return false;
     }
-    pair_fits(cell, RESIDUAL, 0, RVP1, Kind::Price, Kind::Price)
+    pair_fits(cell, RESIDUAL_FLAG, 0, RVP1, Kind::Price, Kind::Price)
 }
 
 // "days max(F, C − L) to C − 1 have all vesting and meter rows"
@@ -105,7 +100,7 @@ fn rows_there(cell: &[i64]) -> bool
     requires { ⌜ length (now cell) ≡ accountWords ⌝ }
     ensures { λ r. ⌜ r ≡ rowsThere (now (cell .entry)) ⌝ }
 {
-    !zero_at(cell, VESTING) & !zero_at(cell, METER)
+    !zero_at(cell, VESTING_FLAG) & !zero_at(cell, METER_FLAG)
 }
 
 // "The book": an account's 24 words at an interval, of a closed day or an open one.

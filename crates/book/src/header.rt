@@ -1,12 +1,14 @@
 // Document 01, "The book": the header, the size, and the balances.
-use crate::layout;
 use crate::words::between_at;
 use crate::words::is_blank;
 use crate::words::within_at;
 use rulebook::Terms;
+use rulebook::layout;
+use rulebook::layout::interval_length;
+use rulebook::units;
 ghost use mathlib.Core.Path.{_≡_};
 ghost use mathlib.Core.Bool.{true};
-ghost use Prim.Native.Nat.{_+_, _*_, _≤_, _<_};
+ghost use Prim.Native.Nat.{suc, _+_, _≤_, _<_};
 ghost use lib.IntN.{pos};
 ghost use lib.ListN.{length};
 ghost use Rattle.integer.specs.Integer.{positive, negative};
@@ -15,7 +17,7 @@ ghost use Rattle.integer.specs.Below.{all};
 ghost use Rattle.rulebook.specs.Units.{lastDay, between};
 ghost use Rattle.rulebook.specs.Shares.{mostAccounts};
 ghost use Rattle.rulebook.specs.Terms.{InTerms};
-ghost use Rattle.rulebook.specs.Layout.{size, firstDayWord, nextDayWord, msslWord};
+ghost use Rattle.rulebook.specs.Layout.{size, headerWords, balanceWords, balanceWord, firstDayWord, nextDayWord, msslWord};
 ghost use Rattle.rulebook.specs.BookData.{termsOf, nextDay};
 ghost use Rattle.rulebook.specs.WellFormed.{headerFits, balanceFits, accountFits};
 ghost use Rattle.book.specs.Header.{termsWordsFit};
@@ -23,21 +25,21 @@ ghost use Rattle.book.specs.Header.{termsWordsFit};
 // Limits, as words.
 const BOOK_MARK: i64 = layout::BOOK_MARK as i64;
 
-const MOST_ACCOUNTS: i64 = layout::MOST_ACCOUNTS as i64;
+const MOST_ACCOUNTS: i64 = units::MOST_ACCOUNTS as i64;
 
-const MOST_LAG: i64 = layout::MOST_LAG as i64;
+const MOST_LAG: i64 = units::MOST_LAG as i64;
 
-const MOST_HORIZON: i64 = layout::MOST_HORIZON as i64;
+const MOST_HORIZON: i64 = units::MOST_HORIZON as i64;
 
-const EARLIEST_FIRST_DAY: i64 = layout::EARLIEST_FIRST_DAY as i64;
+const EARLIEST_FIRST_DAY: i64 = units::EARLIEST_FIRST_DAY as i64;
 
-const LAST_DAY: i64 = layout::LAST_DAY as i64;
+const LAST_DAY: i64 = units::LAST_DAY as i64;
 
 const FINISHED: i64 = LAST_DAY + 1;
 
 // Word 0 is 395; then N, L, H, F.
 fn terms_words_fit(book: &[i64]) -> bool
-    requires { ⌜ 64 ≤ length (now book) ⌝ }
+    requires { ⌜ headerWords ≤ length (now book) ⌝ }
     ensures { λ r. ⌜ r ≡ termsWordsFit (now (book .entry)) ⌝ }
 {
     between_at(book, layout::MARK, BOOK_MARK, BOOK_MARK)
@@ -49,8 +51,8 @@ fn terms_words_fit(book: &[i64]) -> bool
 
 // C is F to 36,525.
 fn next_day_fits(book: &[i64]) -> bool
-    requires { ⌜ 64 ≤ length (now book) ⌝ }
-    ensures { λ r. ⌜ r ≡ between (word (now (book .entry)) firstDayWord) (pos 36525) (word (now (book .entry)) nextDayWord) ⌝ }
+    requires { ⌜ headerWords ≤ length (now book) ⌝ }
+    ensures { λ r. ⌜ r ≡ between (word (now (book .entry)) firstDayWord) (pos (suc lastDay)) (word (now (book .entry)) nextDayWord) ⌝ }
 {
     let first = book[layout::FIRST_DAY];
     let next = book[layout::NEXT_DAY];
@@ -59,7 +61,7 @@ fn next_day_fits(book: &[i64]) -> bool
 
 // "The book": words 0 to 63, but for the MSSL's balance.
 pub fn header_fits(book: &[i64]) -> bool
-    requires { ⌜ 64 ≤ length (now book) ⌝ }
+    requires { ⌜ headerWords ≤ length (now book) ⌝ }
     ensures { λ r. ⌜ r ≡ headerFits (now (book .entry)) ⌝ }
 {
     terms_words_fit(book)
@@ -77,7 +79,7 @@ fn count_at(book: &[i64], i: usize) -> usize
 
 // "The book": N, L, H and F of a header that fits.
 pub fn terms_of(book: &[i64]) -> Terms
-    requires { ⌜ (64 ≤ length (now book)) × (headerFits (now book) ≡ true) ⌝ }
+    requires { ⌜ (headerWords ≤ length (now book)) × (headerFits (now book) ≡ true) ⌝ }
     ensures { λ r. ⌜ r ≡ termsOf (now (book .entry)) ⌝ }
 {
     let accounts = count_at(book, layout::ACCOUNTS);
@@ -94,7 +96,7 @@ pub fn terms_of(book: &[i64]) -> Terms
 
 // "The book": C, the next day to close, of a header that fits.
 pub fn next_day_of(book: &[i64]) -> usize
-    requires { ⌜ (64 ≤ length (now book)) × (headerFits (now book) ≡ true) ⌝ }
+    requires { ⌜ (headerWords ≤ length (now book)) × (headerFits (now book) ≡ true) ⌝ }
     ensures { λ r. ⌜ r ≡ nextDay (now (book .entry)) ⌝ }
 {
     count_at(book, layout::NEXT_DAY)
@@ -107,25 +109,23 @@ pub fn book_size(terms: Terms) -> usize
 {
     layout::HEADER_WORDS
         + layout::BALANCE_WORDS * terms.accounts
-        + layout::INTERVALS
-            * (terms.lag + terms.horizon)
-            * (layout::INTERVAL_WORDS + layout::ACCOUNT_WORDS * terms.accounts)
+        + units::INTERVALS * (terms.lag + terms.horizon) * interval_length(terms.accounts)
 }
 
 // Account a's balance within (C − F) × 4,800,000,000,000 cents either way, and its seven zeros.
 fn balance_fits(book: &[i64], closes: usize, a: usize) -> bool
-    requires { ⌜ (a < mostAccounts) × (closes ≤ lastDay) × (64 + a * 8 + 8 ≤ length (now book)) ⌝ }
+    requires { ⌜ (a < mostAccounts) × (closes ≤ lastDay) × (balanceWord a + balanceWords ≤ length (now book)) ⌝ }
     ensures { λ r. ⌜ r ≡ accountFits (now (book .entry)) closes a ⌝ }
 {
     let i = layout::HEADER_WORDS + a * layout::BALANCE_WORDS;
     let s = i + 1;
     let e = s + layout::BALANCE_SPARES;
-    within_at(book, i, closes * layout::DAY_BOUND) & is_blank(&book[s..e])
+    within_at(book, i, closes * units::DAY_BOUND) & is_blank(&book[s..e])
 }
 
 // "The book": each account's balance and zeros.
 pub fn balances_fit(book: &[i64], n: usize, closes: usize) -> bool
-    requires { ⌜ (n ≤ mostAccounts) × (closes ≤ lastDay) × (64 + n * 8 ≤ length (now book)) ⌝ }
+    requires { ⌜ (n ≤ mostAccounts) × (closes ≤ lastDay) × (balanceWord n ≤ length (now book)) ⌝ }
     ensures { λ r. ⌜ r ≡ all n (accountFits (now (book .entry)) closes) ⌝ }
 {
     let mut ok = true;
@@ -137,8 +137,8 @@ pub fn balances_fit(book: &[i64], n: usize, closes: usize) -> bool
 
 // "The book": the MSSL's balance is within N times that.
 pub fn mssl_fits(book: &[i64], n: usize, closes: usize) -> bool
-    requires { ⌜ (n ≤ mostAccounts) × (closes ≤ lastDay) × (64 ≤ length (now book)) ⌝ }
+    requires { ⌜ (n ≤ mostAccounts) × (closes ≤ lastDay) × (headerWords ≤ length (now book)) ⌝ }
     ensures { λ r. ⌜ r ≡ balanceFits n closes (word (now (book .entry)) msslWord) ⌝ }
 {
-    within_at(book, layout::MSSL, n * (closes * layout::DAY_BOUND))
+    within_at(book, layout::MSSL, n * (closes * units::DAY_BOUND))
 }

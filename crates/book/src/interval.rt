@@ -1,17 +1,17 @@
 // Document 01, "The book": an interval's words, its own and those of each account.
 use crate::cell::account_fits;
-use crate::layout;
 use crate::words::above_at;
 use crate::words::between_at;
 use crate::words::value_at;
 use crate::words::zero_at;
 use rulebook::Kind;
+use rulebook::layout;
 ghost use mathlib.Core.Path.{_≡_};
 ghost use Prim.Native.Nat.{_+_, _*_, _≤_};
 ghost use lib.ListN.{length};
-ghost use Rattle.rulebook.specs.Layout.{intervalWords};
+ghost use Rattle.rulebook.specs.Layout.{intervalWords, intervalLength};
 ghost use Rattle.rulebook.specs.Shares.{mostAccounts};
-ghost use Rattle.book.specs.Parts.{nccFits, accountsFit, intervalFits, intervalLength};
+ghost use Rattle.book.specs.Parts.{nccFits, accountsFit, intervalFits};
 
 // NCC load, NCC present, two zeros.
 fn ncc_fits(interval: &[i64]) -> bool
@@ -21,10 +21,10 @@ fn ncc_fits(interval: &[i64]) -> bool
     if !(zero_at(interval, layout::FIRST_NCC_SPARE) & zero_at(interval, layout::SECOND_NCC_SPARE)) {
         return false;
     }
-    if !between_at(interval, layout::NCC, 0, 1) {
+    if !between_at(interval, layout::NCC_FLAG, 0, 1) {
         return false;
     }
-    if above_at(interval, layout::NCC, 0) {
+    if above_at(interval, layout::NCC_FLAG, 0) {
         value_at(interval, layout::NCC_LOAD, Kind::Load)
     } else {
         zero_at(interval, layout::NCC_LOAD)

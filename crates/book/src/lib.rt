@@ -1,6 +1,5 @@
 // The book of document 01: opened, and judged well formed. A book is lent words; whoever calls need not trust them. The judge reads each word
 // of the size once, slot by slot as they lie, and hands each slot, interval and account its part.
-pub mod layout; // layout.rt: where each word stands, and the limits
 pub mod words; // words.rt: tests of one word, and of zeros
 pub mod cell; // cell.rt: an account's words at an interval
 pub mod interval; // interval.rt: the words of an interval

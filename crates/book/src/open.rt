@@ -1,10 +1,11 @@
 // Document 01, "The book": opening.
 use crate::header::book_size;
-use crate::layout;
 use crate::words::clear;
 use integer::put_word;
 use rulebook::OpenAnswer;
 use rulebook::Terms;
+use rulebook::layout;
+use rulebook::units;
 ghost use mathlib.Core.Path.{_≡_};
 ghost use Prim.Native.Nat.{_≤_, _<_, _^_};
 ghost use lib.IntN.{pos};
@@ -20,13 +21,13 @@ pub fn terms_fit(terms: Terms) -> bool
     ensures { λ r. ⌜ r ≡ termsFit terms ⌝ }
 {
     (1 <= terms.accounts)
-        & (terms.accounts <= layout::MOST_ACCOUNTS)
+        & (terms.accounts <= units::MOST_ACCOUNTS)
         & (1 <= terms.lag)
-        & (terms.lag <= layout::MOST_LAG)
+        & (terms.lag <= units::MOST_LAG)
         & (1 <= terms.horizon)
-        & (terms.horizon <= layout::MOST_HORIZON)
-        & (layout::EARLIEST_FIRST_DAY <= terms.first)
-        & (terms.first <= layout::LAST_DAY)
+        & (terms.horizon <= units::MOST_HORIZON)
+        & (units::EARLIEST_FIRST_DAY <= terms.first)
+        & (terms.first <= units::LAST_DAY)
 }
 
 // A number, as a word.

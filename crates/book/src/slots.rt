@@ -1,27 +1,30 @@
 // Document 01, "The book": the slots, as they lie. A slot of a day of the window has 48 intervals that fit, every other is blank.
 use crate::interval::interval_fits;
-use crate::layout;
+use crate::words::ROW;
 use crate::words::are_blank;
 use rulebook::Terms;
+use rulebook::layout::interval_length;
+use rulebook::layout::slot_length;
+use rulebook::units;
 ghost use mathlib.Core.Path.{_≡_};
 ghost use Prim.Native.Nat.{_*_, _≤_, _<_};
 ghost use lib.ListN.{length};
 ghost use Rattle.rulebook.specs.Units.{intervals, lastDay};
 ghost use Rattle.rulebook.specs.Shares.{mostAccounts};
-ghost use Rattle.rulebook.specs.Layout.{ring};
+ghost use Rattle.rulebook.specs.Layout.{intervalLength, slotLength, ring};
 ghost use Rattle.rulebook.specs.Terms.{InTerms};
 ghost use Rattle.rulebook.specs.WindowWalk.{turn-of};
-ghost use Rattle.book.specs.Parts.{intervalLength, intervalsFit, slotFits};
-ghost use Rattle.book.specs.Slots.{slotLength, isDay, slotsFit};
+ghost use Rattle.book.specs.Parts.{intervalsFit, slotFits};
+ghost use Rattle.book.specs.Slots.{isDay, slotsFit};
 
 // A day's 48 intervals.
 fn intervals_fit(slot: &[i64], n: usize, closed: bool) -> bool
-    requires { ⌜ (intervals * intervalLength n ≤ length (now slot)) × (n ≤ mostAccounts) ⌝ }
+    requires { ⌜ (slotLength n ≤ length (now slot)) × (n ≤ mostAccounts) ⌝ }
     ensures { λ r. ⌜ r ≡ intervalsFit n closed (now (slot .entry)) ⌝ }
 {
-    let size = layout::INTERVAL_WORDS + n * layout::ACCOUNT_WORDS;
+    let size = interval_length(n);
     let mut ok = true;
-    for h in 0..layout::INTERVALS {
+    for h in 0..units::INTERVALS {
         let i = h * size;
         let e = i + size;
         ok = ok & interval_fits(&slot[i..e], n, closed);
@@ -31,13 +34,13 @@ fn intervals_fit(slot: &[i64], n: usize, closed: bool) -> bool
 
 // A slot of n accounts, of a day of the window or of none.
 fn slot_fits(slot: &[i64], n: usize, dated: bool, closed: bool) -> bool
-    requires { ⌜ (length (now slot) ≡ intervals * intervalLength n) × (n ≤ mostAccounts) ⌝ }
+    requires { ⌜ (length (now slot) ≡ slotLength n) × (n ≤ mostAccounts) ⌝ }
     ensures { λ r. ⌜ r ≡ slotFits n dated closed (now (slot .entry)) ⌝ }
 {
     if dated {
         intervals_fit(slot, n, closed)
     } else {
-        are_blank(slot, 3 + n * 18)
+        are_blank(slot, slot.len() / ROW)
     }
 }
 
@@ -59,7 +62,7 @@ fn is_day(terms: Terms, closes: usize, place: usize) -> bool
     if at < terms.lag {
         return false;
     }
-    !(layout::LAST_DAY < terms.first + (at - terms.lag))
+    !(units::LAST_DAY < terms.first + (at - terms.lag))
 }
 
 // "The book": every slot, in the order in which they lie; day d has slot (d − F) mod (L + H).
@@ -69,7 +72,7 @@ pub fn slots_fit(slots: &[i64], terms: Terms, closes: usize) -> bool
 {
     let n = terms.accounts;
     let ring = terms.lag + terms.horizon;
-    let size = layout::INTERVALS * (layout::INTERVAL_WORDS + n * layout::ACCOUNT_WORDS);
+    let size = slot_length(n);
     let mut ok = true;
     for v in 0..ring {
         let i = v * size;

@@ -13,7 +13,7 @@ ghost use Rattle.integer.specs.Below.{tabulate};
 ghost use Rattle.integer.specs.Words.{word};
 ghost use Rattle.rulebook.specs.Units.{between, inRange};
 ghost use Rattle.rulebook.specs.WellFormed.{isZero};
-ghost use Rattle.book.specs.Parts.{blank};
+ghost use Rattle.book.specs.Parts.{blank, rowWords};
 
 // The word is zero, as absent data and unused pairs are.
 pub fn zero_at(part: &[i64], i: usize) -> bool
@@ -69,15 +69,18 @@ pub fn is_blank(part: &[i64]) -> bool
     ok
 }
 
-// The same of m rows of 64 words: a row's loop is unrolled.
+// Words whose zeros are tested together.
+pub const ROW: usize = 64;
+
+// The same of m rows: a row's loop is unrolled.
 pub fn are_blank(rows: &[i64], m: usize) -> bool
-    requires { ⌜ length (now rows) ≡ m * 64 ⌝ }
+    requires { ⌜ length (now rows) ≡ m * rowWords ⌝ }
     ensures { λ r. ⌜ r ≡ blank (now (rows .entry)) ⌝ }
 {
     let mut ok = true;
     for k in 0..m {
-        let i = k * 64;
-        let e = i + 64;
+        let i = k * ROW;
+        let e = i + ROW;
         ok = ok & is_blank(&rows[i..e]);
     }
     ok

@@ -8,7 +8,7 @@ use lib.IntN.{ℤ, pos}
 use Rattle.integer.specs.BelowLaws.{sumℤ-cong, getD-tabulate}
 use Rattle.integer.specs.Words.{word}
 use Rattle.rulebook.specs.declared.Terms.{Terms}
-use Rattle.rulebook.specs.Units.{lastDay, asQuantity, nearest}
+use Rattle.rulebook.specs.Units.{lastDay, asQuantity, nearest, intervals, thousandthsPerCent}
 use Rattle.rulebook.specs.Shares.{share}
 use Rattle.rulebook.specs.DayAmount.{residualLoad, rvq, residualAmount, residualDue, residualDay, intervalAmount, exactAmount, postedAmount}
 use Rattle.rulebook.specs.BookData.{bookData, termsOf, nextDay}
@@ -38,7 +38,7 @@ cell-residual-cong : (c : List ℤ) {r r′ : ℤ} {s s′ : ℕ} → r ≡ r′
 cell-residual-cong c e f = cc
 
 module _ (o : Terms) (w : List ℤ) (a : ℕ) (ha : a < o .accounts) where
-  module _ (d : ℕ) (sized : SizedDay (o .accounts) (bookData o w) d) (i : ℕ) (hi : i < 48) where
+  module _ (d : ℕ) (sized : SizedDay (o .accounts) (bookData o w) d) (i : ℕ) (hi : i < intervals) where
     abbrev interval : List ℤ
     interval = intervalOf (o .accounts) (slotWords o w d) i
 
@@ -58,7 +58,7 @@ module _ (o : Terms) (w : List ℤ) (a : ℕ) (ha : a < o .accounts) where
   -- ---- The day
 
   module _ (D : ℕ) (now : SizedDay (o .accounts) (bookData o w) D) (then : T (residualDue o D) → SizedDay (o .accounts) (bookData o w) (residualDay o D)) where
-    amount-same : (i : ℕ) → i < 48
+    amount-same : (i : ℕ) → i < intervals
         → slotAmount (o .accounts) (slotWords o w D) (slotWords o w (thenDay o D)) (residualDue o D) (residualsDue o w D) a i ≡ intervalAmount o (bookData o w) a D i
     unfolding slotAmount intervalAmount thenDay residualsDue residualsOf
     amount-same i hi = sum-cong (sym (vesting-same (bookData o w .account a D i) (cellData (cellAt (o .accounts) (slotWords o w D) a i)) alike)) (go (residualDue o D) then)
@@ -75,13 +75,13 @@ module _ (o : Terms) (w : List ℤ) (a : ℕ) (ha : a < o .accounts) where
         go true s =
             let x = slotWords o w (residualDay o D) in
             cell-residual-cong (cellAt (o .accounts) x a i)
-            (getD-tabulate 48 (λ i. residualOf (o .accounts) (intervalOf (o .accounts) x i)) i (pos 0) hi) (getD-tabulate 48 (λ i. spareOf (o .accounts) (intervalOf (o .accounts) x i)) i 0 hi)
+            (getD-tabulate intervals (λ i. residualOf (o .accounts) (intervalOf (o .accounts) x i)) i (pos 0) hi) (getD-tabulate intervals (λ i. spareOf (o .accounts) (intervalOf (o .accounts) x i)) i 0 hi)
             ∙ slot-residual (residualDay o D) (s tt) i hi
         go false s = refl
 
     slots-posted : slotPosted (o .accounts) (slotWords o w D) (slotWords o w (thenDay o D)) (residualDue o D) (residualsDue o w D) a ≡ posted o w D a
     unfolding slotPosted posted postedAmount exactAmount
-    slots-posted = ap (λ (z : ℤ). nearest z 1000) (sumℤ-cong 48 _ _ amount-same)
+    slots-posted = ap (λ (z : ℤ). nearest z thousandthsPerCent) (sumℤ-cong intervals _ _ amount-same)
 
 module _ (w : List ℤ) (t : T (wellFormed w)) (left : nextDay w ≤ lastDay) where
   pub slot-posted-same : (a : ℕ) → a < termsOf w .accounts

@@ -17,7 +17,7 @@ use Rattle.rulebook.specs.declared.Terms.{Terms}
 use Rattle.rulebook.specs.Units.{lastDay}
 use Rattle.rulebook.specs.Terms.{InTerms}
 use Rattle.rulebook.specs.DayAmount.{residualDue, residualDay, postedAmount, msslAmount}
-use Rattle.rulebook.specs.Layout.{stored, size, base, intervalSize, msslWord, nextDayWord, balanceWord}
+use Rattle.rulebook.specs.Layout.{stored, size, base, intervalSize, msslWord, nextDayWord, balanceWord, slotLength}
 use Rattle.rulebook.specs.BookData.{bookData, termsOf, nextDay}
 use Rattle.rulebook.specs.WellFormed.{wellFormed, dayBound}
 use Rattle.rulebook.specs.BookSizeLaws.{close-sized}
@@ -36,13 +36,10 @@ use Rattle.closing.specs.Written.{Small, Settling, StatementOf, Balances
 use Rattle.closing.specs.WrittenLaws.{grown-header, grown-same}
 
 -- r's slot, lent to be cleared
-pub slot-blanked : (o : Terms) (w : List ℤ) (D : ℕ) (v : List ℤ) {a n : ℕ} → InTerms o → size o ≤ length v → residualDue o D ≡ true → a ≡ slotStart o (residualDay o D) → n ≡ 48 * (4 + o .accounts * 24)
+pub slot-blanked : (o : Terms) (w : List ℤ) (D : ℕ) (v : List ℤ) {a n : ℕ} → InTerms o → size o ≤ length v → residualDue o D ≡ true → a ≡ slotStart o (residualDay o D) → n ≡ slotLength (o .accounts)
     → onPart a (a + n) (λ p. tabulate (length p) (λ m. pos 0)) v ≡ slotBlanked o w D v
 unfolding slotBlanked slotStart intervalSize
-slot-blanked o w D v {a} {n} h l due start words = rw (due, start, words) (sym (stored-part v (slotStart o (residualDay o D)) (48 * (4 + o .accounts * 24)) (λ m. pos 0) (omega (arith, slot-sized o (residualDay o D) h))) ∙ rw e)
-  where
-    e : 48 * (4 + o .accounts * 24) ≡ 48 * (4 + 24 * o .accounts)
-    e = omega arith
+slot-blanked o w D v {a} {n} h l due start words = rw (due, start, words) (sym (stored-part v (slotStart o (residualDay o D)) (slotLength (o .accounts)) (λ m. pos 0) (omega (arith, slot-sized o (residualDay o D) h))))
 
 module _ (w : List ℤ) (o : Terms) (D : ℕ) (s : Settling w o D) where
   formed : T (wellFormed w)
@@ -71,9 +68,9 @@ module _ (w : List ℤ) (o : Terms) (D : ℕ) (s : Settling w o D) where
       at (λ (o : Terms) (D : ℕ). (a : ℕ) → a < o .accounts → slotPosted (o .accounts) (slotWords o w D) (slotWords o w (thenDay o D)) (residualDue o D) (residualsDue o w D) a ≡ posted o w D a)
       (slot-posted-same w formed left)
 
-  sized : (a : ℕ) → a < o .accounts → natAbs (posted o w D a) ≤ 4800000000000
+  sized : (a : ℕ) → a < o .accounts → natAbs (posted o w D a) ≤ dayBound
   unfolding posted
-  sized = at (λ (o : Terms) (D : ℕ). (a : ℕ) → a < o .accounts → natAbs (postedAmount o (bookData o w) a D) ≤ 4800000000000) (close-sized w formed left .posted)
+  sized = at (λ (o : Terms) (D : ℕ). (a : ℕ) → a < o .accounts → natAbs (postedAmount o (bookData o w) a D) ≤ dayBound) (close-sized w formed left .posted)
 
   -- ---- The statement
 

@@ -7,9 +7,9 @@ use lib.IntN.{ℤ}
 use Rattle.integer.specs.Words.{word}
 use Rattle.rulebook.specs.declared.Section.the-variants.{Vesting, Meter}
 use Rattle.rulebook.specs.declared.Terms.{Terms}
-use Rattle.rulebook.specs.Units.{positive, asQuantity}
+use Rattle.rulebook.specs.Units.{positive, asQuantity, intervals}
 use Rattle.rulebook.specs.Sections.{TVQ, TVP, MEP, IEQ}
-use Rattle.rulebook.specs.Layout.{figureIndex, rowWord}
+use Rattle.rulebook.specs.Layout.{figureIndex, rowWord, flagAt}
 use Rattle.rulebook.specs.BookData.{bookData}
 use Rattle.rulebook.specs.AmountLaws.{Alike}
 use Rattle.rulebook.specs.IndexLaws.{tender-words, facility-words}
@@ -19,10 +19,10 @@ use Rattle.closing.specs.Slots.{slotWords}
 use Rattle.closing.specs.SlotsLaws.{load-word, vesting-word, meter-word, residual-word}
 
 module _ (o : Terms) (w : List ℤ) (d : ℕ) where
-  pub load-same : (i : ℕ) → i < 48 → bookData o w .load d i ≡ asQuantity (word (intervalOf (o .accounts) (slotWords o w d) i) 0)
+  pub load-same : (i : ℕ) → i < intervals → bookData o w .load d i ≡ asQuantity (word (intervalOf (o .accounts) (slotWords o w d) i) 0)
   load-same i hi = ap asQuantity (load-word o w d i hi)
 
-  module _ (a i : ℕ) (ha : a < o .accounts) (hi : i < 48) where
+  module _ (a i : ℕ) (ha : a < o .accounts) (hi : i < intervals) where
     abbrev cell : List ℤ
     cell = cellAt (o .accounts) (slotWords o w d) a i
 
@@ -30,7 +30,7 @@ module _ (o : Terms) (w : List ℤ) (d : ℕ) where
     pub vesting-at : (j k : ℕ) → j ≡ k → k < 9 → word w (rowWord o Vesting a d i j) ≡ word cell k
     vesting-at j k e h = ap (λ (j : ℕ). word w (rowWord o Vesting a d i j)) e ∙ vesting-word o w d a i ha hi k h
 
-    meter-at : (j k : ℕ) → j < 9 → 9 + j ≡ k → word w (rowWord o Meter a d i j) ≡ word cell k
+    meter-at : (j k : ℕ) → j < 9 → flagAt Meter + j ≡ k → word w (rowWord o Meter a d i j) ≡ word cell k
     meter-at j k h e = meter-word o w d a i ha hi j h ∙ ap (word cell) e
 
     pub cell-alike : bookData o w .account a d i .facilities ≤ 4 → Alike (bookData o w .account a d i) (cellData (cellAt (o .accounts) (slotWords o w d) a i))

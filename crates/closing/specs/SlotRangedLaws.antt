@@ -17,11 +17,11 @@ use Rattle.rulebook.specs.declared.Section.the-variants.{Vesting, Meter}
 use Rattle.rulebook.specs.declared.Terms.{Terms}
 use Rattle.rulebook.specs.declared.Kind.{Kind}
 use Rattle.rulebook.specs.declared.Kind.the-variants.{Quantity, Load}
-use Rattle.rulebook.specs.Units.{lastDay, between, inRange, positive, mostPrice, mostQuantity}
+use Rattle.rulebook.specs.Units.{lastDay, between, inRange, positive, mostPrice, mostQuantity, intervals}
 use Rattle.rulebook.specs.Shares.{leastResidual}
 use Rattle.rulebook.specs.Sections.{kindOf, accountsOf, Figure, BVQ, TVQ, UEGQ, MQ, NccLoad, figureSection, figurePlace}
 use Rattle.rulebook.specs.DayAmount.{residualDue, residualDay}
-use Rattle.rulebook.specs.Layout.{width, wordName, figureIndex, flagIndex, flagWord, InWindow}
+use Rattle.rulebook.specs.Layout.{width, wordName, figureIndex, flagIndex, flagWord, intervalWords, accountWords, intervalLength, InWindow}
 use Rattle.rulebook.specs.BookData.{entriesOf, entryNamed, bookData, termsOf, nextDay}
 use Rattle.rulebook.specs.WellFormed.{isZero, rowFits, wellFormed}
 use Rattle.rulebook.specs.Close.{absentFlag, missingAt, firstMissing}
@@ -59,10 +59,10 @@ meter-some f x y = ⊎-elim (λ h. h) (λ h. absurd (none h)) (lt-or-le 0 (posit
     none h = let e : positive (f (flagIndex Meter)) ≡ 0 = omega arith in subst (λ (z : ℤ). T (not (isZero z))) (number ∙ ap pos e) y
 
 -- those of D are there where the search finds nothing
-searched-there : (o : Terms) (w : List ℤ) (D : ℕ) → firstMissing o w D ≡ Nothing → (a i : ℕ) → a < o .accounts → i < 48 → T (not (isZero (word w (flagWord o Meter a D i))))
+searched-there : (o : Terms) (w : List ℤ) (D : ℕ) → firstMissing o w D ≡ Nothing → (a i : ℕ) → a < o .accounts → i < intervals → T (not (isZero (word w (flagWord o Meter a D i))))
 unfolding firstMissing missingAt absentFlag
 searched-there o w D none a i ha hi =
-    let interval = orElse-nothing (first (o .accounts) (λ a. orElse (absentFlag o w D Vesting a D i) (absentFlag o w D Meter a D i))) _ (first-nothing 48 (missingAt o w D) none i hi) .0 in
+    let interval = orElse-nothing (first (o .accounts) (λ a. orElse (absentFlag o w D Vesting a D i) (absentFlag o w D Meter a D i))) _ (first-nothing intervals (missingAt o w D) none i hi) .0 in
     let account = first-nothing (o .accounts) (λ a. orElse (absentFlag o w D Vesting a D i) (absentFlag o w D Meter a D i)) interval a ha in
     go (isZero (word w (flagWord o Meter a D i))) (orElse-nothing (absentFlag o w D Vesting a D i) (absentFlag o w D Meter a D i) account .1)
   where
@@ -77,11 +77,11 @@ module _ (w : List ℤ) (t : T (wellFormed w)) (d : ℕ) (inside : InWindow (ter
   entries = book-ranged w t d inside dated
 
   -- a word that is a figure of this kind
-  figure-passes : (g : Figure) (a i : ℕ) (k : Kind) {z : ℤ} → Usable g → a < accountsOf (figureSection g) (termsOf w .accounts) → i < 48
+  figure-passes : (g : Figure) (a i : ℕ) (k : Kind) {z : ℤ} → Usable g → a < accountsOf (figureSection g) (termsOf w .accounts) → i < intervals
       → kindOf (figureSection g) (figurePlace g) ≡ k → entryNamed (entriesOf (termsOf w) w) a d i g ≡ z → inRange k z ≡ true
   figure-passes g a i k u ha hi e f = rw (← e, ← f) (T-path _ (entries .ranged g a i u ha hi))
 
-  module _ (a i : ℕ) (ha : a < termsOf w .accounts) (hi : i < 48) where
+  module _ (a i : ℕ) (ha : a < termsOf w .accounts) (hi : i < intervals) where
     sized : Sized (bookData (termsOf w) w .account a d i)
     sized = data-sized (termsOf w .accounts) (entriesOf (termsOf w) w) d entries a i ha hi
 
@@ -92,7 +92,7 @@ module _ (w : List ℤ) (t : T (wellFormed w)) (d : ℕ) (inside : InWindow (ter
     cell-in-range there =
         let n = termsOf w .accounts in
         record {
-          whole = length-part (slotWords (termsOf w) w d) (i * (4 + n * 24) + (4 + a * 24)) 24 (omega (arith, slot-length w t d, row-fits a n 24 ha, row-fits i 48 (4 + n * 24) hi));
+          whole = length-part (slotWords (termsOf w) w d) (i * intervalLength n + (intervalWords + a * accountWords)) accountWords (omega (arith, slot-length w t d, row-fits a n accountWords ha, row-fits i intervals (intervalLength n) hi));
           bvq = figure-passes BVQ a i Quantity tt ha hi refl (vesting-word (termsOf w) w d a i ha hi 1 (omega arith));
           bvp = subst (λ (z : ℤ). natAbs z ≤ mostPrice) (alike .bvp) (sized .bvp);
           tvq = λ k h. figure-passes (TVQ k) a i Quantity h ha hi (even (2 + 2 * k) (omega arith) .0)
@@ -109,14 +109,14 @@ module _ (w : List ℤ) (t : T (wellFormed w)) (d : ℕ) (inside : InWindow (ter
         }
 
   -- with its meter rows
-  pub slot-ranged : ((a i : ℕ) → a < termsOf w .accounts → i < 48 → T (not (isZero (word w (flagWord (termsOf w) Meter a d i)))))
+  pub slot-ranged : ((a i : ℕ) → a < termsOf w .accounts → i < intervals → T (not (isZero (word w (flagWord (termsOf w) Meter a d i)))))
       → SlotRanged (termsOf w .accounts) (slotWords (termsOf w) w d)
   slot-ranged there =
       let n = termsOf w .accounts in
       record {
         whole = slot-length w t d;
         each = λ i hi. record {
-          whole = length-part (slotWords (termsOf w) w d) (i * (4 + n * 24)) (4 + n * 24) (omega (arith, slot-length w t d, row-fits i 48 (4 + n * 24) hi));
+          whole = length-part (slotWords (termsOf w) w d) (i * intervalLength n) (intervalLength n) (omega (arith, slot-length w t d, row-fits i intervals (intervalLength n) hi));
           load = figure-passes NccLoad 0 i Load tt (omega arith) hi refl (load-word (termsOf w) w d i hi);
           cells = λ a ha. subst Ranged (sym (cell-in-slot n (slotWords (termsOf w) w d) a i ha)) (cell-in-range a i ha hi (there a i ha hi));
         };
@@ -148,10 +148,10 @@ module _ (w : List ℤ) (t : T (wellFormed w)) (left : nextDay w ≤ lastDay) wh
       then true s e = s tt
       then false s e = let z : _≡_ {A = ℕ} 0 1 = cc in absurd (omega arith)
 
-      loads : (b : Bool) → (T b → SlotRanged (termsOf w .accounts) (slotWords (termsOf w) w (residualDay (termsOf w) (nextDay w)))) → (i : ℕ) → i < 48
+      loads : (b : Bool) → (T b → SlotRanged (termsOf w .accounts) (slotWords (termsOf w) w (residualDay (termsOf w) (nextDay w)))) → (i : ℕ) → i < intervals
           → natAbs (word (cond b (residualsOf (termsOf w .accounts) (slotWords (termsOf w) w (cond b (residualDay (termsOf w) (nextDay w)) (nextDay w)))) noResiduals .loads) i) ≤ leastResidual
       loads true s i hi =
           let n = termsOf w .accounts in
           let x = slotWords (termsOf w) w (residualDay (termsOf w) (nextDay w)) in
-          rw (getD-tabulate 48 (λ i. residualOf n (intervalOf n x i)) i (pos 0) hi) (residual-le n (intervalOf n x i) (s tt .each i hi) (opened-of w t .accountsTo))
-      loads false s i hi = rw (getD-replicate 48 i (pos 0) (pos 0) hi) (omega arith)
+          rw (getD-tabulate intervals (λ i. residualOf n (intervalOf n x i)) i (pos 0) hi) (residual-le n (intervalOf n x i) (s tt .each i hi) (opened-of w t .accountsTo))
+      loads false s i hi = rw (getD-replicate intervals i (pos 0) (pos 0) hi) (omega arith)

@@ -6,7 +6,7 @@ use lib.IntN.{ℤ}
 use Rattle.integer.specs.Words.{part}
 use Rattle.rulebook.specs.declared.Terms.{Terms}
 use Rattle.rulebook.specs.DayAmount.{residualDue, residualDay}
-use Rattle.rulebook.specs.Layout.{slot, intervalWord}
+use Rattle.rulebook.specs.Layout.{slot, intervalWord, slotLength}
 use Rattle.amounts.specs.declared.day.Residuals.{Residuals}
 use Rattle.amounts.specs.Day.{residualsOf, noResiduals}
 
@@ -16,7 +16,7 @@ slotStart o d = intervalWord o (slot o d) 0 0
 
 -- its words
 abbrev pub slotWords : Terms → List ℤ → ℕ → List ℤ
-slotWords o w d = part w (slotStart o d) (48 * (4 + o .accounts * 24))
+slotWords o w d = part w (slotStart o d) (slotLength (o .accounts))
 
 -- the day whose slot a close settles residuals from: r, and D itself where none is due (its slot is lent but not read)
 unfoldable pub thenDay : Terms → ℕ → ℕ

@@ -11,14 +11,15 @@ use Rattle.integer.specs.Below.{sumℤ}
 use Rattle.integer.specs.BelowLaws.{abs-sumℤ}
 use Rattle.integer.specs.Words.{word}
 use Rattle.rulebook.specs.declared.Terms.{Terms}
-use Rattle.rulebook.specs.Layout.{balanceWord}
+use Rattle.rulebook.specs.Layout.{balanceWord, headerWords}
+use Rattle.rulebook.specs.WellFormed.{dayBound}
 use Rattle.rulebook.specs.Close.{posted, balancesGrown}
 use Rattle.closing.specs.Written.{Small, grown}
 
 -- ---- Sums
 
-pub amounts-le : (n m : ℕ) (st : List ℤ) → Small n st → m ≤ n → natAbs (sumℤ m (word st)) ≤ m * 4800000000000
-amounts-le n m st s h = abs-sumℤ m 4800000000000 (word st) (λ a l. s .each a (omega arith))
+pub amounts-le : (n m : ℕ) (st : List ℤ) → Small n st → m ≤ n → natAbs (sumℤ m (word st)) ≤ m * dayBound
+amounts-le n m st s h = abs-sumℤ m dayBound (word st) (λ a l. s .each a (omega arith))
 
 -- ---- Balances
 
@@ -42,7 +43,7 @@ module _ (w st : List ℤ) where
   grown-next zero m h = refl
   grown-next (suc n) m h = getD-set-other (grown w st n) (balanceWord n) m _ (pos 0) (omega arith) ∙ grown-next n m (omega arith)
 
-  pub grown-header : (n m : ℕ) → m < 64 → word (grown w st n) m ≡ word w m
+  pub grown-header : (n m : ℕ) → m < headerWords → word (grown w st n) m ≡ word w m
   unfolding grown
   grown-header zero m h = refl
   grown-header (suc n) m h = getD-set-other (grown w st n) (balanceWord n) m _ (pos 0) (omega arith) ∙ grown-header n m h

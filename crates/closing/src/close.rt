@@ -6,16 +6,18 @@ use crate::write::write_book;
 use crate::write::write_statement;
 use book::judge::Judged;
 use book::judge::judge;
-use book::layout;
 use book::places::slot_start;
 use integer::Found;
 use rulebook::CloseAnswer;
 use rulebook::Terms;
+use rulebook::units;
 ghost use mathlib.Core.Path.{_≡_};
 ghost use mathlib.Core.List.{List};
 ghost use Prim.Native.Nat.{_+_, _*_, _≤_};
 ghost use lib.IntN.{ℤ};
 ghost use lib.ListN.{length};
+ghost use Rattle.rulebook.specs.Units.{intervals};
+ghost use Rattle.rulebook.specs.Shares.{mostAccounts};
 ghost use Rattle.rulebook.specs.Terms.{InTerms};
 ghost use Rattle.rulebook.specs.Close.{firstMissing, residualCount};
 ghost use Rattle.rulebook.specs.Promises.{ClosePromise};
@@ -36,10 +38,10 @@ fn first_missing(book: &[i64], terms: Terms, day: usize) -> Found
 
 // The residuals of a day: 48N.
 fn day_residuals(n: usize) -> usize
-    requires { ⌜ (1 ≤ n) × (n ≤ 32) ⌝ }
-    ensures { λ r. ⌜ r ≡ 48 * n ⌝ }
+    requires { ⌜ (1 ≤ n) × (n ≤ mostAccounts) ⌝ }
+    ensures { λ r. ⌜ r ≡ intervals * n ⌝ }
 {
-    layout::INTERVALS * n
+    units::INTERVALS * n
 }
 
 // Those that a close settles, or none.
@@ -69,7 +71,7 @@ fn close_day(book: &mut [i64], statement: &mut [i64], terms: Terms, day: usize) 
     requires { ⌜ judgedBook (now book) ≡ WellFormed terms day ⌝ }
     ensures { λ answer. ⌜ ClosePromise (now (book .entry)) (now (statement .entry)) answer (now (book .exit)) (now (statement .exit)) ⌝ }
 {
-    if layout::LAST_DAY < day {
+    if units::LAST_DAY < day {
         return CloseAnswer::Finished;
     }
     if statement.len() < terms.accounts + 1 {

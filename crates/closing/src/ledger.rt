@@ -1,13 +1,14 @@
 // Document 01, "Close": balances grow.
-use book::layout;
 use integer::add;
 use integer::put_word;
 use integer::word_at;
+use rulebook::layout;
 ghost use mathlib.Core.Path.{_≡_};
 ghost use Prim.Native.Nat.{_+_, _≤_, _<_, _^_};
 ghost use lib.IntN.{natAbs, _+ℤ_};
 ghost use lib.ListN.{length, set};
 ghost use Rattle.integer.specs.Words.{word};
+ghost use Rattle.rulebook.specs.Shares.{mostAccounts};
 ghost use Rattle.closing.specs.Written.{grown, BalancesRoom};
 
 // The balance at an index grows by an amount.
@@ -20,7 +21,7 @@ pub fn grow(book: &mut [i64], at: usize, amount: i64)
 
 // Each account's grows by its amount of the statement.
 pub fn grow_balances(book: &mut [i64], statement: &[i64], n: usize)
-    requires { ⌜ BalancesRoom n (now book) (now statement) × (n ≤ 32) ⌝ }
+    requires { ⌜ BalancesRoom n (now book) (now statement) × (n ≤ mostAccounts) ⌝ }
     ensures { λ _. ⌜ now (book .exit) ≡ grown (now (book .entry)) (now (statement .entry)) n ⌝ }
 {
     for a in 0..n {

@@ -1,32 +1,38 @@
-// Document 01, "Close": the search for an absent datum. An interval is 4 words and 24 an account; a slot has 48 intervals.
-use book::layout;
+// Document 01, "Close": the search for an absent datum.
 use book::words::zero_at;
 use integer::Found;
+use rulebook::layout::ACCOUNT_WORDS;
+use rulebook::layout::INTERVAL_WORDS;
+use rulebook::layout::METER_FLAG;
+use rulebook::layout::NCC_FLAG;
+use rulebook::layout::RESIDUAL_FLAG;
+use rulebook::layout::VESTING_FLAG;
+use rulebook::units::INTERVALS;
 ghost use mathlib.Core.Path.{_≡_};
 ghost use mathlib.Core.Bool.{true};
-ghost use Prim.Native.Nat.{_+_, _*_, _≤_};
+ghost use Prim.Native.Nat.{_+_, _≤_};
 ghost use lib.ListN.{length};
+ghost use Rattle.rulebook.specs.Shares.{mostAccounts};
+ghost use Rattle.rulebook.specs.Layout.{slotLength};
 ghost use Rattle.closing.specs.Search.{firstAbsent};
 
-// Where the flags of a vesting row and of a meter row stand in a cell.
-const VESTING_FLAG: usize = layout::VESTING;
-
-const METER_FLAG: usize = layout::METER;
+// Where the residual flag of account 0 stands in an interval.
+const FIRST_RESIDUAL_FLAG: usize = INTERVAL_WORDS + RESIDUAL_FLAG;
 
 // The first absent flag: interval by interval, accounts ascending, vesting then meter of the slot at `today`; then, where a residual is
 // due, NCC and residual by account of the slot at `then`. The break that leaves all walks yields the flag word's index.
 pub fn first_absent(book: &[i64], n: usize, today: usize, then: usize, due: bool) -> Found
-    requires { ⌜ (today + 48 * (4 + n * 24) ≤ length (now book)) × (due ≡ true → then + 48 * (4 + n * 24) ≤ length (now book)) × (n ≤ 32) ⌝ }
+    requires { ⌜ (today + slotLength n ≤ length (now book)) × (due ≡ true → then + slotLength n ≤ length (now book)) × (n ≤ mostAccounts) ⌝ }
     ensures { λ r. ⌜ r ≡ firstAbsent (now (book .entry)) n today then due ⌝ }
 {
-    let size = 4 + n * 24;
+    let size = INTERVAL_WORDS + ACCOUNT_WORDS * n;
     let mut i = 0;
     'search: loop {
-        if i == 48 {
+        if i == INTERVALS {
             break 'search Found::Nothing;
         }
         for a in 0..n {
-            let at = today + i * size + (4 + a * 24);
+            let at = today + i * size + (INTERVAL_WORDS + a * ACCOUNT_WORDS);
             if zero_at(book, at + VESTING_FLAG) {
                 break 'search Found::At(at + VESTING_FLAG);
             }
@@ -36,11 +42,11 @@ pub fn first_absent(book: &[i64], n: usize, today: usize, then: usize, due: bool
         }
         if due {
             let at = then + i * size;
-            if zero_at(book, at + layout::NCC) {
-                break 'search Found::At(at + layout::NCC);
+            if zero_at(book, at + NCC_FLAG) {
+                break 'search Found::At(at + NCC_FLAG);
             }
             for a in 0..n {
-                let flag = at + (22 + a * 24);
+                let flag = at + (FIRST_RESIDUAL_FLAG + a * ACCOUNT_WORDS);
                 if zero_at(book, flag) {
                     break 'search Found::At(flag);
                 }

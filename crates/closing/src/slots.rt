@@ -1,19 +1,9 @@
 // Document 01, "Close": the slots of the closing day D and of r = D − L.
-use book::layout;
 use rulebook::Terms;
 ghost use mathlib.Core.Path.{_≡_};
-ghost use Prim.Native.Nat.{_+_, _*_, _≤_};
 ghost use Rattle.rulebook.specs.Terms.{InTerms};
 ghost use Rattle.rulebook.specs.DayAmount.{residualDue};
 ghost use Rattle.closing.specs.Slots.{thenDay};
-
-// The words of a slot of n accounts.
-pub fn slot_words(n: usize) -> usize
-    requires { ⌜ n ≤ 32 ⌝ }
-    ensures { λ r. ⌜ r ≡ 48 * (4 + n * 24) ⌝ }
-{
-    layout::INTERVALS * (layout::INTERVAL_WORDS + n * layout::ACCOUNT_WORDS)
-}
 
 // A residual is due: r is not before F.
 pub fn is_due(terms: Terms, day: usize) -> bool

@@ -10,6 +10,7 @@ ghost use lib.IntN.{negℤ};
 ghost use lib.ListN.{length};
 ghost use Rattle.integer.specs.Below.{sumℤ};
 ghost use Rattle.integer.specs.Words.{word, filled};
+ghost use Rattle.rulebook.specs.Shares.{mostAccounts};
 ghost use Rattle.amounts.specs.Day.{DaysRanged, slotPosted};
 ghost use Rattle.closing.specs.Written.{Small, withMssl};
 
@@ -22,7 +23,7 @@ pub fn post_amounts(
     residuals: Residuals,
     n: usize,
 )
-    requires { ⌜ DaysRanged n (now today) (now then) due residuals × (n ≤ 32) × (n ≤ length (now statement)) ⌝ }
+    requires { ⌜ DaysRanged n (now today) (now then) due residuals × (n ≤ mostAccounts) × (n ≤ length (now statement)) ⌝ }
     ensures { λ _. ⌜ now (statement .exit) ≡ filled n (slotPosted n (now (today .entry)) (now (then .entry)) due residuals) (now (statement .entry)) ⌝ }
 {
     for a in 0..n {
@@ -36,7 +37,7 @@ pub fn post_amounts(
 
 // The sum of the n amounts.
 fn amounts_sum(statement: &[i64], n: usize) -> i64
-    requires { ⌜ Small n (now statement) × (n ≤ 32) ⌝ }
+    requires { ⌜ Small n (now statement) × (n ≤ mostAccounts) ⌝ }
     ensures { λ r. ⌜ r ≡ sumℤ n (word (now (statement .entry))) ⌝ }
 {
     let mut sum: i64 = 0;
@@ -48,7 +49,7 @@ fn amounts_sum(statement: &[i64], n: usize) -> i64
 
 // The MSSL gets minus that.
 fn mssl_amount(statement: &[i64], n: usize) -> i64
-    requires { ⌜ Small n (now statement) × (n ≤ 32) ⌝ }
+    requires { ⌜ Small n (now statement) × (n ≤ mostAccounts) ⌝ }
     ensures { λ r. ⌜ r ≡ negℤ (sumℤ n (word (now (statement .entry)))) ⌝ }
 {
     0 - amounts_sum(statement, n)
@@ -56,7 +57,7 @@ fn mssl_amount(statement: &[i64], n: usize) -> i64
 
 // The word after the n amounts is the MSSL's.
 pub fn post_mssl(statement: &mut [i64], n: usize)
-    requires { ⌜ Small n (now statement) × (n ≤ 32) × (n < length (now statement)) ⌝ }
+    requires { ⌜ Small n (now statement) × (n ≤ mostAccounts) × (n < length (now statement)) ⌝ }
     ensures { λ _. ⌜ now (statement .exit) ≡ withMssl n (now (statement .entry)) ⌝ }
 {
     let amount = mssl_amount(statement, n);

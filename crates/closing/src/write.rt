@@ -2,18 +2,18 @@
 use crate::ledger::grow;
 use crate::ledger::grow_balances;
 use crate::slots::is_due;
-use crate::slots::slot_words;
 use crate::slots::then_day;
 use crate::statement::post_amounts;
 use crate::statement::post_mssl;
 use amounts::day::residuals_due;
-use book::layout;
 use book::places::slot_start;
 use book::words::clear;
 use integer::put_word;
 use integer::signed;
 use integer::word_at;
 use rulebook::Terms;
+use rulebook::layout;
+use rulebook::layout::slot_length;
 ghost use mathlib.Core.Path.{_≡_};
 ghost use Prim.Native.Nat.{_+_, _≤_};
 ghost use lib.ListN.{length};
@@ -28,7 +28,7 @@ pub fn write_statement(statement: &mut [i64], book: &[i64], terms: Terms, day: u
     ensures { λ _. ⌜ now (statement .exit) ≡ statementWritten terms (now (book .entry)) day (now (statement .entry)) ⌝ }
 {
     let n = terms.accounts;
-    let words = slot_words(n);
+    let words = slot_length(n);
     let due = is_due(terms, day);
     let a = slot_start(terms, day);
     let e = a + words;
@@ -47,7 +47,7 @@ fn blank_settled(book: &mut [i64], terms: Terms, day: usize)
     if is_due(terms, day) {
         let settled = day - terms.lag;
         let a = slot_start(terms, settled);
-        let e = a + slot_words(terms.accounts);
+        let e = a + slot_length(terms.accounts);
         clear(&mut book[a..e]);
     }
 }

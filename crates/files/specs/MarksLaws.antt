@@ -38,7 +38,7 @@ row-mark-fits l sec s at b e =
     mark-fits l sec (accountAt sec s at) (dayAt sec s at) b (omega arith) (k .day .from) (k .day .to)
 
 -- and no two have the same
-mark-same : (low a d b e : ℕ) → a < 32 → b < 32 → low ≤ d → low ≤ e → mark low a d ≡ mark low b e → (a ≡ b) × (d ≡ e)
+mark-same : (low a d b e : ℕ) → a < mostAccounts → b < mostAccounts → low ≤ d → low ≤ e → mark low a d ≡ mark low b e → (a ≡ b) × (d ≡ e)
 mark-same low a d b e p q h k t = (omega arith, omega arith)
 
 -- ---- The marks of a section

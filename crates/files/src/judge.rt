@@ -7,6 +7,9 @@ use rulebook::Limits;
 use rulebook::Section;
 use rulebook::Verdict;
 use rulebook::Why;
+use rulebook::units::MOST_ACCOUNTS;
+use rulebook::units::MOST_HORIZON;
+use rulebook::units::MOST_LAG;
 ghost use mathlib.Core.Path.{_≡_};
 ghost use Prim.Native.Nat.{_≤_, _<_};
 ghost use lib.ListN.{length};
@@ -16,8 +19,8 @@ ghost use Rattle.files.specs.Fields.{outcome};
 ghost use Rattle.files.specs.BookLimits.{BookLimits};
 ghost use Rattle.files.specs.Marks.{unmarked};
 
-// 32 accounts, and at most 75 + 92 open days: a mark for each.
-const MARKS: usize = 5344;
+// A mark for each account and open day, from L days back to H days ahead.
+const MARKS: usize = MOST_ACCOUNTS * (MOST_LAG + MOST_HORIZON);
 
 // The rows of a section, the first at a position; the position past the last. No account and day is marked at first.
 fn judge_rows(

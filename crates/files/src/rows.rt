@@ -12,18 +12,19 @@ use crate::sections::least_count;
 use crate::sections::most_count;
 use crate::sections::open_from;
 use crate::sections::per_interval;
-use book::layout::INTERVALS;
-use book::layout::MOST_ACCOUNTS;
 use integer::least;
 use rulebook::Limits;
 use rulebook::Section;
 use rulebook::Verdict;
 use rulebook::Why;
+use rulebook::units::INTERVALS;
+use rulebook::units::MOST_ACCOUNTS;
 use rules::ranges::in_range;
 ghost use mathlib.Core.Path.{_≡_};
 ghost use Prim.Native.Nat.{_+_, _*_, _≤_, _<_, _^_};
 ghost use lib.ListN.{length, set};
 ghost use Rattle.rulebook.specs.declared.Why.the-variants.{OutOfRange};
+ghost use Rattle.rulebook.specs.Units.{intervals};
 ghost use Rattle.rulebook.specs.Sections.{leastCount, mostCount};
 ghost use Rattle.rulebook.specs.File.{accountBytes, countBytes, rowEnd};
 ghost use Rattle.rulebook.specs.Judging.{upTo, key, rest, rowAfter};
@@ -71,7 +72,7 @@ fn mark_given(marks: &mut [u8], k: usize) -> bool
 
 // A row's n values, which stand in `part`: the file's stretch from `from` on, cut where the file ends.
 fn judge_values(part: &[u8], from: usize, sec: Section, n: usize) -> Verdict
-    requires { ⌜ (n ≤ 480) × (from + length (now part) < 2 ^ 63) ⌝ }
+    requires { ⌜ (n ≤ intervals * 10) × (from + length (now part) < 2 ^ 63) ⌝ }
     ensures { λ r. ⌜ r ≡ upTo n (valueIn sec (now (part .entry)) from) ⌝ }
 {
     for k in 0..n {

@@ -2,8 +2,11 @@
 use rulebook::Kind;
 use rulebook::Limits;
 use rulebook::Section;
+use rulebook::units::MOST_FACILITIES;
+use rulebook::units::TENDERS;
 ghost use mathlib.Core.Path.{_≡_};
 ghost use Prim.Native.Nat.{_≤_};
+ghost use Rattle.rulebook.specs.ReferencePrice.{mostFacilities};
 ghost use Rattle.rulebook.specs.Sections.{leastCount, mostCount, perInterval, kindOf};
 ghost use Rattle.rulebook.specs.File.{accountBytes, countBytes};
 ghost use Rattle.rulebook.specs.Judging.{openFrom};
@@ -49,8 +52,8 @@ pub fn most_count(sec: Section) -> usize
     ensures { λ r. ⌜ r ≡ mostCount sec ⌝ }
 {
     match sec {
-        Section::Vesting => 3,
-        Section::Meter => 4,
+        Section::Vesting => TENDERS,
+        Section::Meter => MOST_FACILITIES,
         Section::Residual => 0,
         Section::Ncc => 0,
     }
@@ -58,7 +61,7 @@ pub fn most_count(sec: Section) -> usize
 
 // How many values a row has for an interval.
 pub fn per_interval(sec: Section, count: usize) -> usize
-    requires { ⌜ count ≤ 4 ⌝ }
+    requires { ⌜ count ≤ mostFacilities ⌝ }
     ensures { λ r. ⌜ (r ≡ perInterval sec count) × (r ≤ 10) ⌝ }
 {
     match sec {

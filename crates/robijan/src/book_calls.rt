@@ -2,7 +2,6 @@
 use book::header::book_size;
 use book::judge::Judged;
 use book::judge::judge;
-use book::layout::EARLIEST_FIRST_DAY;
 use book::open::open_book;
 use book::open::terms_fit;
 use closing::close::close;
@@ -10,6 +9,7 @@ use rulebook::CloseAnswer;
 use rulebook::OpenAnswer;
 use rulebook::SubmitAnswer;
 use rulebook::Terms;
+use rulebook::units::EARLIEST_FIRST_DAY;
 use submission::submit::submit;
 ghost use mathlib.Core.Path.{_≡_};
 ghost use Rattle.rulebook.specs.Numbers.{numbered, ofOpen, ofSubmit, ofClose};

@@ -21,6 +21,9 @@ stored w at (suc n) f = set (stored w at n f) (at + n) (f n)
 
 -- ---- The header
 
+abbrev pub headerWords : ℕ
+headerWords = 64
+
 abbrev pub markWord : ℕ
 markWord = 0
 
@@ -55,9 +58,12 @@ headerSpare n = 7 + n
 
 -- ---- Accounts
 
+abbrev pub balanceWords : ℕ
+balanceWords = 8
+
 -- account a's balance in cents, and its zeros
 abbrev pub balanceWord : ℕ → ℕ
-balanceWord a = 64 + 8 * a
+balanceWord a = headerWords + balanceWords * a
 
 abbrev pub accountSpares : ℕ
 accountSpares = 7
@@ -166,10 +172,18 @@ flagIndex s = firstPlace isFlag (rowTable s)
 abbrev pub figureIndex : Figure → ℕ
 figureIndex g = firstPlace (ofPlace (figurePlace g)) (rowTable (figureSection g))
 
--- where word j of a row stands in its table, and for account a in its interval
+-- where word j of a row stands in its table
 abbrev pub tablePlace : Section → ℕ → ℕ
 tablePlace s j = getD (placesFrom 0 (ofSection s) (tableOf s)) j 0
 
+-- its flag, and a figure; those of tender or facility t stand 2t words after the first
+abbrev pub flagAt : Section → ℕ
+flagAt s = tablePlace s (flagIndex s)
+
+abbrev pub figureAt : Figure → ℕ
+figureAt g = tablePlace (figureSection g) (figureIndex g)
+
+-- where word j of account a's row stands in its interval
 abbrev pub place : Section → ℕ → ℕ → ℕ
 place Vesting a j = accountPlace a (tablePlace Vesting j)
 place Meter a j = accountPlace a (tablePlace Meter j)

@@ -17,6 +17,7 @@ use Rattle.rulebook.specs.declared.Section.{Section}
 use Rattle.rulebook.specs.declared.Section.the-variants.{Vesting, Meter, Residual, Ncc}
 use Rattle.rulebook.specs.declared.Terms.{Terms}
 use Rattle.rulebook.specs.Units.{intervals}
+use Rattle.rulebook.specs.Shares.{mostAccounts}
 use Rattle.rulebook.specs.Terms.{InTerms}
 use Rattle.rulebook.specs.Sections.{accountsOf, mostCount, perInterval, sameSection, figureSection, figurePlace}
 use Rattle.rulebook.specs.Layout.{Word, flag, figure, spare, present, rowTable, wordName, width, flagIndex, place, size, intervalSize, slot, intervalWord, rowWord}
@@ -64,7 +65,7 @@ flag-small Meter count h = h
 flag-small Residual count h = omega arith
 flag-small Ncc count h = omega arith
 
-pub accounts-few : (sec : Section) (n : ℕ) → n ≤ 32 → accountsOf sec n ≤ 32
+pub accounts-few : (sec : Section) (n : ℕ) → n ≤ mostAccounts → accountsOf sec n ≤ mostAccounts
 accounts-few Vesting n h = h
 accounts-few Meter n h = h
 accounts-few Residual n h = h
@@ -72,7 +73,7 @@ accounts-few Ncc n h = omega arith
 
 -- ---- A word of a row
 
-module _ (sec : Section) (s : List ℕ) (at i : ℕ) (hi : i < 48) where
+module _ (sec : Section) (s : List ℕ) (at i : ℕ) (hi : i < intervals) where
   abbrev count : ℕ
   count = countAt sec s at
 
@@ -129,25 +130,25 @@ module _ (o : Terms) (sec : Section) (a d : ℕ) where
   unfolding rowWord intervalWord
   row-start ex ey ea ed = rw (ex, ey, ea, ed) (omega arith)
 
-  last-interval : rowWord o sec a d 47 0 ≡ rowWord o sec a d 0 0 + 47 * intervalSize o
+  last-interval : rowWord o sec a d (intervals - 1) 0 ≡ rowWord o sec a d 0 0 + (intervals - 1) * intervalSize o
   unfolding rowWord intervalWord
-  last-interval = omega (arith, add-mul (slot o d * 48) 47 (intervalSize o), add-mul (slot o d * 48) 0 (intervalSize o))
+  last-interval = omega (arith, add-mul (slot o d * intervals) (intervals - 1) (intervalSize o), add-mul (slot o d * intervals) 0 (intervalSize o))
 
   -- and ends within the book
-  pub row-room : InTerms o → a < accountsOf sec (o .accounts) → rowWord o sec a d 0 0 + 47 * intervalSize o + width sec ≤ size o
+  pub row-room : InTerms o → a < accountsOf sec (o .accounts) → rowWord o sec a d 0 0 + (intervals - 1) * intervalSize o + width sec ≤ size o
   row-room t h =
       let p = flag-inside sec in
-      let l = row-word-inside o sec d {a = a} {i = 47} {j = width sec - 1} (ring-pos o t) h (omega arith) (omega arith) in
-      omega (arith, row-run o sec a d 47 (width sec - 1) (omega arith), last-interval)
+      let l = row-word-inside o sec d {a = a} {i = intervals - 1} {j = width sec - 1} (ring-pos o t) h (omega arith) (omega arith) in
+      omega (arith, row-run o sec a d (intervals - 1) (width sec - 1) (omega arith), last-interval)
 
 -- what a writer of the row's form leaves is the row, stored
 pub row-stored : (o : Terms) (sec : Section) (s : List ℕ) (at : ℕ) (w : List ℤ) {start stride from : ℕ} {form : Form}
     → start ≡ rowWord o sec (accountAt sec s at) (dayAt sec s at) 0 0 → stride ≡ intervalSize o → form ≡ formOf sec (countAt sec s at) → from ≡ valuesPos sec at
-    → InTerms o → RowFits o sec s at → size o ≤ length w → grid start stride (form .words) (rowFrom form s from) 48 w ≡ rowStored o (rowAt sec s at) intervals w
+    → InTerms o → RowFits o sec s at → size o ≤ length w → grid start stride (form .words) (rowFrom form s from) intervals w ≡ rowStored o (rowAt sec s at) intervals w
 row-stored o sec s at w es et ef ev t h l =
     rw (es, et, ef, ev)
-    (sym (row-grid o (rowAt sec s at) (ring-pos o t) (h .account) 48 w (omega arith) l
-    ∙ grid-same (rowWord o sec (accountAt sec s at) (dayAt sec s at) 0 0) (intervalSize o) (width sec) (entry (rowAt sec s at)) (rowFrom (formOf sec (countAt sec s at)) s (valuesPos sec at)) 48 w
+    (sym (row-grid o (rowAt sec s at) (ring-pos o t) (h .account) intervals w (omega arith) l
+    ∙ grid-same (rowWord o sec (accountAt sec s at) (dayAt sec s at) 0 0) (intervalSize o) (width sec) (entry (rowAt sec s at)) (rowFrom (formOf sec (countAt sec s at)) s (valuesPos sec at)) intervals w
     (λ i hi j. word-from sec s at i hi j (h .count))))
 
 -- ---- The rows of a section

@@ -1,6 +1,5 @@
 // Document 01, "A submission file": an accepted row replaces all it names, in the 48 intervals of its day.
 use crate::places::place_of;
-use book::layout::INTERVALS;
 use book::places::interval_size;
 use book::places::slot_start;
 use files::fields::number;
@@ -11,28 +10,21 @@ use files::sections::per_interval;
 use integer::put_word;
 use rulebook::Section;
 use rulebook::Terms;
+use rulebook::layout;
+use rulebook::units::INTERVALS;
 ghost use mathlib.Core.Path.{_≡_};
-ghost use Prim.Native.Nat.{_+_, _*_, _≤_, _^_, _<_};
+ghost use Prim.Native.Nat.{_+_, _-_, _*_, _≤_, _^_, _<_};
 ghost use lib.IntN.{pos};
 ghost use lib.ListN.{length};
 ghost use Rattle.integer.specs.Below.{tabulate};
 ghost use Rattle.integer.specs.Words.{grid};
 ghost use Rattle.rulebook.specs.Units.{intervals};
+ghost use Rattle.rulebook.specs.ReferencePrice.{mostFacilities};
 ghost use Rattle.rulebook.specs.Terms.{InTerms};
 ghost use Rattle.rulebook.specs.Layout.{size};
 ghost use Rattle.rulebook.specs.File.{rowEnd, rowAt, sectionEnd, sectionRows, fileRows};
 ghost use Rattle.rulebook.specs.Submit.{rowStored, rowsStored};
 ghost use Rattle.submission.specs.Stored.{formOf, numberFrom, wordFrom, rowFrom, RowFits, SectionFits, FileFits};
-
-// The words of a row at an interval: a vesting row's flag, BVQ, BVP and three pairs; a meter row's flag and four pairs; a residual row's flag,
-// UEGQ, MQ, RVP1 and RVP2; an NCC row's load and flag.
-const VESTING_WORDS: usize = 9;
-
-const METER_WORDS: usize = 9;
-
-const RESIDUAL_WORDS: usize = 5;
-
-const NCC_WORDS: usize = 2;
 
 // A row's words at an interval: how many they are, which of them is the flag, what the flag is, and how many values the row has.
 pub struct Form {
@@ -44,32 +36,32 @@ pub struct Form {
 
 // The form of a section's rows, of a tranche or facility count.
 fn form_of(sec: Section, count: usize) -> Form
-    requires { ⌜ count ≤ 4 ⌝ }
+    requires { ⌜ count ≤ mostFacilities ⌝ }
     ensures { λ r. ⌜ r ≡ formOf sec count ⌝ }
 {
     let values = per_interval(sec, count);
     match sec {
         Section::Vesting => Form {
-            words: VESTING_WORDS,
+            words: layout::VESTING_WORDS,
             place: 0,
             flag: 1 + count,
             values,
         },
         Section::Meter => Form {
-            words: METER_WORDS,
+            words: layout::METER_WORDS,
             place: 0,
             flag: count,
             values,
         },
         Section::Residual => Form {
-            words: RESIDUAL_WORDS,
+            words: layout::RESIDUAL_WORDS,
             place: 0,
             flag: 1,
             values,
         },
         Section::Ncc => Form {
-            words: NCC_WORDS,
-            place: 1,
+            words: layout::NCC_WORDS,
+            place: layout::NCC_FLAG,
             flag: 1,
             values,
         },
@@ -145,7 +137,7 @@ fn put_entry(words: &mut [i64], form: Form, file: &[u8], from: usize)
 
 // Writes a row's words of the 48 intervals, from `start` on and `stride` words apart.
 fn put_row(book: &mut [i64], start: usize, stride: usize, form: Form, file: &[u8], from: usize)
-    requires { ⌜ (form .flag < 2 ^ 63) × (start + 47 * stride + form .words ≤ length (now book)) × (from + 4 * (intervals * form .values) ≤ length (now file)) ⌝ }
+    requires { ⌜ (form .flag < 2 ^ 63) × (start + (intervals - 1) * stride + form .words ≤ length (now book)) × (from + 4 * (intervals * form .values) ≤ length (now file)) ⌝ }
     ensures { λ _. ⌜ now (book .exit) ≡ grid start stride (form .words) (rowFrom form (now (file .entry)) from) intervals (now (book .entry)) ⌝ }
 {
     for i in 0..INTERVALS {

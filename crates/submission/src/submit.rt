@@ -2,7 +2,6 @@
 use crate::store::store_file;
 use book::judge::Judged;
 use book::judge::judge;
-use book::layout::LAST_DAY;
 use files::judge::judge_file;
 use integer::greatest;
 use integer::least;
@@ -10,8 +9,10 @@ use rulebook::Limits;
 use rulebook::SubmitAnswer;
 use rulebook::Terms;
 use rulebook::Verdict;
+use rulebook::units::LAST_DAY;
 ghost use mathlib.Core.Path.{_≡_};
-ghost use Prim.Native.Nat.{_≤_};
+ghost use Prim.Native.Nat.{suc, _≤_};
+ghost use Rattle.rulebook.specs.Units.{lastDay};
 ghost use Rattle.rulebook.specs.Terms.{InTerms};
 ghost use Rattle.rulebook.specs.Judging.{limitsOf};
 ghost use Rattle.rulebook.specs.Promises.{SubmitPromise};
@@ -20,7 +21,7 @@ ghost use Rattle.book.specs.Judged.{judgedBook};
 
 // What files are judged by, where `next` is the next day to close: days from max(F, C − L) to min(C + H − 1, 36,524).
 fn limits_of(terms: Terms, next: usize) -> Limits
-    requires { ⌜ InTerms terms × (terms .first ≤ next) × (next ≤ 36525) ⌝ }
+    requires { ⌜ InTerms terms × (terms .first ≤ next) × (next ≤ suc lastDay) ⌝ }
     ensures { λ r. ⌜ r ≡ limitsOf terms next ⌝ }
 {
     let earliest = greatest(terms.first, next - terms.lag);

@@ -2,27 +2,33 @@
 use mathlib.Core.Path.{_≡_, ap, _∙_}
 use mathlib.Core.Bool.{Bool}
 use mathlib.Core.List.{List}
-use Prim.Native.Nat.{_+_, _*_, _≤_}
+use Prim.Native.Nat.{ℕ, _+_, _-_, _*_, _≤_}
 use native.Mathlib.Omega.{arith}
 use borrow.Author.Needs.{needs}
 use lib.IntN.{ℤ}
-use lib.ListN.{length}
+use lib.ListN.{length, take, drop}
+use Rattle.integer.specs.Words.{part}
 use Rattle.integer.specs.WordsLaws.{lent}
 use Rattle.integer.specs.Bits.{got}
+use Rattle.rulebook.specs.Layout.{intervalWords, accountWords, intervalLength}
 use Rattle.amounts.specs.declared.interval.Residual.{Residual}
-use Rattle.amounts.specs.Day.{amountAt, slotAmount}
+use Rattle.amounts.specs.Day.{cellAt, amountAt, slotAmount}
 use Rattle.amounts.specs.DayLaws.{cell-ranged, cell-fits}
 use Rattle.amounts.proofs.day.amount_at.Statement.{statement}
 use Rattle.amounts.proofs.day.amount_at.Tie as tie
 
-fits : (c : tie.Start) → c .args .h * (4 + c .args .n * 24) + (4 + c .args .a * 24) + 24 ≤ length (c .args .today .now)
-fits c = cell-fits (c .args .n) (c .args .today .now) (c .pre .0 .closing) (c .args .a) (c .args .h) (c .pre .2) (c .pre .3)
+fits : (c : tie.After-interval-length) → c .before .args .h * c .interval-length .result + (intervalWords + c .before .args .a * accountWords) + accountWords ≤ length (c .before .args .today .now)
+fits c =
+    let s = c .before in
+    rw (c .interval-length .ensures) (cell-fits (s .args .n) (s .args .today .now) (s .pre .0 .closing) (s .args .a) (s .args .h) (s .pre .2) (s .pre .3))
 
-mul-size : tie.Need-mul-size
-mul-size c = search needs
+-- what is lent is the cell
+lent-cell : (n : ℕ) (x : List ℤ) (a h size : ℕ) → size ≡ intervalLength n
+    → take (h * size + (intervalWords + a * accountWords) + accountWords - (h * size + (intervalWords + a * accountWords))) (drop (h * size + (intervalWords + a * accountWords)) x) ≡ cellAt n x a h
+lent-cell n x a h size e = lent x (h * size + (intervalWords + a * accountWords)) accountWords ∙ ap (λ (k : ℕ). part x (h * k + (intervalWords + a * accountWords)) accountWords) e
 
-add-size : tie.Need-add-size
-add-size c = search needs
+interval-length-requires : tie.Need-interval-length-requires
+interval-length-requires c κs = search needs
 
 mul-i : tie.Need-mul-i
 mul-i c = omega (arith, fits c)
@@ -61,19 +67,19 @@ part-interval-amount-start-2 : tie.Need-part-interval-amount-start-2
 part-interval-amount-start-2 c = search needs
 
 part-interval-amount-end-2 : tie.Need-part-interval-amount-end-2
-part-interval-amount-end-2 c = let h = fits (c .before) in let l = c .before .pre .0 .long in search needs
+part-interval-amount-end-2 c = let h = fits (c .before) in let l = c .before .before .pre .0 .long in search needs
 
 residual-at-requires : tie.Need-residual-at-requires
 residual-at-requires c κs = search needs
 
 interval-amount-requires : tie.Need-interval-amount-requires
 interval-amount-requires c κs =
-    let s = c .before .before .before in
+    let k = c .before .before .before in
+    let s = k .before in
     let a = s .args in
-    let p = s .pre .0 in
-    let i = a .h * (4 + a .n * 24) + (4 + a .a * 24) in (
-      rw (lent (a .today .now) i 24) (cell-ranged (a .n) (a .today .now) (p .closing) (a .a) (a .h) (s .pre .2) (s .pre .3)),
-      λ e. rw (lent (a .then .now) i 24) (cell-ranged (a .n) (a .then .now) (p .settled e) (a .a) (a .h) (s .pre .2) (s .pre .3)),
+    let p = s .pre .0 in (
+      rw (lent-cell (a .n) (a .today .now) (a .a) (a .h) (k .interval-length .result) (k .interval-length .ensures)) (cell-ranged (a .n) (a .today .now) (p .closing) (a .a) (a .h) (s .pre .2) (s .pre .3)),
+      λ e. rw (lent-cell (a .n) (a .then .now) (a .a) (a .h) (k .interval-length .result) (k .interval-length .ensures)) (cell-ranged (a .n) (a .then .now) (p .settled e) (a .a) (a .h) (s .pre .2) (s .pre .3)),
       rw (ap (λ (r : Residual). r .load) (c .residual-at .ensures)) (p .loads (a .h) (s .pre .3)),
     )
 
@@ -83,14 +89,13 @@ amount-cong due e f g = cc
 returns : tie.Need-returns
 unfolding slotAmount
 returns c =
-    let s = c .before .before .before .before in
-    let a = s .args in
-    let i = a .h * (4 + a .n * 24) + (4 + a .a * 24) in
+    let k = c .before .before .before .before in
+    let a = k .before .args in
     got (c .interval-amount .result) (c .interval-amount .ok) ∙ c .interval-amount .ensures
-    ∙ amount-cong (a .due) (lent (a .today .now) i 24) (lent (a .then .now) i 24) (c .before .residual-at .ensures)
+    ∙ amount-cong (a .due) (lent-cell (a .n) (a .today .now) (a .a) (a .h) (k .interval-length .result) (k .interval-length .ensures)) (lent-cell (a .n) (a .then .now) (a .a) (a .h) (k .interval-length .result) (k .interval-length .ensures)) (c .before .residual-at .ensures)
 
 pub amount-at-spec : {M : Type 1} → statement M
 amount-at-spec =
     tie.close
-    (tie.spec mul-size add-size mul-i mul-i-2 add-i add-i-2 add-e mul-interval-amount sub-interval-amount part-interval-amount-start part-interval-amount-end mul-interval-amount-2 sub-interval-amount-2 part-interval-amount-start-2 part-interval-amount-end-2
+    (tie.spec interval-length-requires mul-i mul-i-2 add-i add-i-2 add-e mul-interval-amount sub-interval-amount part-interval-amount-start part-interval-amount-end mul-interval-amount-2 sub-interval-amount-2 part-interval-amount-start-2 part-interval-amount-end-2
     residual-at-requires interval-amount-requires returns)

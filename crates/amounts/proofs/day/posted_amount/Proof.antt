@@ -9,7 +9,7 @@ use mir.Val.{SFits}
 use mir.Facts.{toZ-ofZ}
 use Rattle.integer.specs.IntegerLaws.{int, fits-abs}
 use Rattle.integer.specs.Bits.{got, known}
-use Rattle.rulebook.specs.Units.{nearest}
+use Rattle.rulebook.specs.Units.{intervals, nearest, thousandthsPerCent}
 use Rattle.amounts.specs.declared.total.DayTotal.{DayTotal}
 use Rattle.amounts.specs.Day.{slotPosted, totalTo}
 use Rattle.amounts.specs.DayLaws.{total-le}
@@ -23,7 +23,7 @@ sum-le : (c : tie.After-exact-amount) → natAbs (c .exact-amount .result .thous
 sum-le c =
     let a = c .before .args in
     let e = ap (λ (t : DayTotal). natAbs (t .thousandths)) (c .exact-amount .ensures) in
-    omega (arith, e, total-le (a .n) (a .today .now) (a .then .now) (a .due) (a .residuals) (a .a) (c .before .pre .0) (c .before .pre .2) 48 (omega arith))
+    omega (arith, e, total-le (a .n) (a .today .now) (a .then .now) (a .due) (a .residuals) (a .a) (c .before .pre .0) (c .before .pre .2) intervals (omega arith))
 
 sum-fits : (c : tie.After-exact-amount) → SFits w64 (c .exact-amount .result .thousandths)
 sum-fits c = fits-abs (omega (int, sum-le c))
@@ -36,7 +36,7 @@ unfolding slotPosted totalTo
 returns c =
     let b = c .before .before in
     got (c .nearest-to .result) (c .nearest-to .ok) ∙ c .nearest-to .ensures
-    ∙ ap (λ (z : ℤ). nearest z 1000) (toZ-ofZ (sum-fits b) ∙ ap (λ (t : DayTotal). t .thousandths) (b .exact-amount .ensures))
+    ∙ ap (λ (z : ℤ). nearest z thousandthsPerCent) (toZ-ofZ (sum-fits b) ∙ ap (λ (t : DayTotal). t .thousandths) (b .exact-amount .ensures))
 
 pub posted-amount-spec : {M : Type 1} → statement M
 posted-amount-spec = tie.close (tie.spec exact-amount-requires nearest-to-requires returns)

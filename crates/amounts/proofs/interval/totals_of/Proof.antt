@@ -7,6 +7,7 @@ use borrow.Author.Needs.{needs}
 use lib.IntN.{ℤ}
 use lib.ListN.{length}
 use Rattle.integer.specs.WordsLaws.{row-fits, lent}
+use Rattle.rulebook.specs.Layout.{intervalWords, accountWords}
 use Rattle.amounts.specs.declared.interval.Totals.{Totals}
 use Rattle.amounts.specs.Interval.{totalsOf, more, Room}
 use Rattle.amounts.specs.IntervalLaws.{totals-zero, totals-suc, totals-room}
@@ -23,8 +24,8 @@ loop-holds : tie.Need-loop-holds Inv-loop μ-loop
 loop-holds c = (omega arith, totals-zero (c .args .x .now))
 
 -- cell b lies within the interval
-fits : (c : tie.In-loop Inv-loop μ-loop) → 4 + c .before .loop .b * 24 + 24 ≤ length (c .before .before .args .x .now)
-fits c = let s = c .before .before in omega (arith, row-fits (c .before .loop .b) (s .args .n) 24 (c .loop-test .taken), s .pre .0 .whole)
+fits : (c : tie.In-loop Inv-loop μ-loop) → intervalWords + c .before .loop .b * accountWords + accountWords ≤ length (c .before .before .args .x .now)
+fits c = let s = c .before .before in omega (arith, row-fits (c .before .loop .b) (s .args .n) accountWords (c .loop-test .taken), s .pre .0 .whole)
 
 mul-i : tie.Need-mul-i Inv-loop μ-loop
 mul-i c = omega (arith, fits c)
@@ -52,7 +53,7 @@ with-cell-requires c κs =
     let l = c .before .before .loop in
     let s = c .before .before .before in
     let x = s .args .x .now in (
-      rw (lent x (4 + l .b * 24) 24) (s .pre .0 .cells (l .b) (c .before .loop-test .taken)),
+      rw (lent x (intervalWords + l .b * accountWords) accountWords) (s .pre .0 .cells (l .b) (c .before .loop-test .taken)),
       subst Room (sym (l .inv .1)) (totals-room (s .args .n) x (s .pre .0) (s .pre .1) (l .b) (c .before .loop-test .taken)),
     )
 
@@ -69,7 +70,7 @@ loop-again : tie.Need-loop-again Inv-loop μ-loop
 loop-again c =
     let l = c .before .before .before .loop in
     let x = c .before .before .before .before .args .x .now in
-    (omega arith, c .with-cell .ensures ∙ more-cong (l .inv .1) (lent x (4 + l .b * 24) 24) ∙ sym (totals-suc (l .b) x))
+    (omega arith, c .with-cell .ensures ∙ more-cong (l .inv .1) (lent x (intervalWords + l .b * accountWords) accountWords) ∙ sym (totals-suc (l .b) x))
 
 returns : tie.Need-returns Inv-loop μ-loop
 returns c =

@@ -23,11 +23,17 @@ pair-fits-requires-2 c κs = search needs
 returns-3 : tie.Need-returns-3
 returns-3 c = rw (vesting-is _, passed (c .before .before .before .before .before .between-at .ensures) (c .before .before .before .before .if1 .left), passed (c .before .before .before .pair-fits .ensures) (c .before .before .if2 .left), left (c .before .pair-fits2 .ensures) (c .if3 .taken))
 
+add-pair-fits : tie.Need-add-pair-fits
+add-pair-fits c = search needs
+
 pair-fits-requires-3 : tie.Need-pair-fits-requires-3
 pair-fits-requires-3 c κs = search needs
 
 returns-4 : tie.Need-returns-4
 returns-4 c = rw (vesting-is _, passed (c .before .before .before .before .before .before .before .between-at .ensures) (c .before .before .before .before .before .before .if1 .left), passed (c .before .before .before .before .before .pair-fits .ensures) (c .before .before .before .before .if2 .left), passed (c .before .before .before .pair-fits2 .ensures) (c .before .before .if3 .left), left (c .before .pair-fits3 .ensures) (c .if4 .taken))
+
+add-pair-fits-2 : tie.Need-add-pair-fits-2
+add-pair-fits-2 c = search needs
 
 pair-fits-requires-4 : tie.Need-pair-fits-requires-4
 pair-fits-requires-4 c κs = search needs
@@ -45,7 +51,9 @@ vesting-fits-spec =
     returns-2
     pair-fits-requires-2
     returns-3
+    add-pair-fits
     pair-fits-requires-3
     returns-4
+    add-pair-fits-2
     pair-fits-requires-4
     returns-5)

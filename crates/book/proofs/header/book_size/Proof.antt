@@ -18,21 +18,18 @@ add-result-2 c = search needs
 mul-result-2 : tie.Need-mul-result-2
 mul-result-2 c = search needs
 
+interval-length-requires : tie.Need-interval-length-requires
+interval-length-requires c κs = search needs
+
 mul-result-3 : tie.Need-mul-result-3
-mul-result-3 c = search needs
+mul-result-3 c = rw (c .interval-length .ensures) (omega (arith, slots-small (c .before .before .before .args .terms) (c .before .before .before .pre)))
 
 add-result-3 : tie.Need-add-result-3
-add-result-3 c = search needs
-
-mul-result-4 : tie.Need-mul-result-4
-mul-result-4 c = omega (arith, slots-small (c .before .before .before .args .terms) (c .before .before .before .pre))
-
-add-result-4 : tie.Need-add-result-4
-add-result-4 c = omega (arith, slots-small (c .before .before .before .args .terms) (c .before .before .before .pre))
+add-result-3 c = rw (c .interval-length .ensures) (omega (arith, slots-small (c .before .before .before .args .terms) (c .before .before .before .pre)))
 
 returns : tie.Need-returns
 unfolding size base ring intervalSize
-returns c = search needs
+returns c = rw (c .interval-length .ensures)
 
 pub book-size-spec : {M : Type 1} → statement M
 book-size-spec =
@@ -42,8 +39,7 @@ book-size-spec =
     add-result
     add-result-2
     mul-result-2
+    interval-length-requires
     mul-result-3
     add-result-3
-    mul-result-4
-    add-result-4
     returns)

@@ -3,7 +3,10 @@ use Prim.Native.Nat.{_+_, _-_, _*_, _%_, _≤_, _<_}
 use native.Mathlib.Nat.{mod-lt, mul-le-mul}
 use native.Mathlib.Omega.{arith}
 use borrow.Author.Needs.{needs}
-use Rattle.rulebook.specs.Layout.{base, ring, slot, intervalWord}
+use Rattle.rulebook.specs.Units.{intervals}
+use Rattle.rulebook.specs.Shares.{mostAccounts}
+use Rattle.rulebook.specs.Terms.{mostLag, mostHorizon}
+use Rattle.rulebook.specs.Layout.{intervalLength, base, ring, slot, intervalWord}
 use Rattle.book.proofs.places.slot_start.Statement.{statement}
 use Rattle.book.proofs.places.slot_start.Tie as tie
 
@@ -11,9 +14,9 @@ few : (s : tie.Start) → (s .args .day - s .args .terms .first) % (s .args .ter
 few s = mod-lt (s .args .day - s .args .terms .first) (omega arith)
 
 small : (c : tie.After-interval-size)
-    → (c .before .before .before .before .args .day - c .before .before .before .before .args .terms .first) % (c .before .before .before .before .args .terms .lag + c .before .before .before .before .args .terms .horizon) * 48 * c .interval-size .result
-    ≤ 8016 * 772
-small c = mul-le-mul {n₂ = 8016} {m₂ = 772} (omega (arith, few (c .before .before .before .before))) (c .interval-size .ensures .1)
+    → (c .before .before .before .before .args .day - c .before .before .before .before .args .terms .first) % (c .before .before .before .before .args .terms .lag + c .before .before .before .before .args .terms .horizon) * intervals * c .interval-size .result
+    ≤ intervals * (mostLag + mostHorizon) * intervalLength mostAccounts
+small c = mul-le-mul {n₂ = intervals * (mostLag + mostHorizon)} {m₂ = intervalLength mostAccounts} (omega (arith, few (c .before .before .before .before))) (c .interval-size .ensures .1)
 
 sub-slot : tie.Need-sub-slot
 sub-slot c = search needs

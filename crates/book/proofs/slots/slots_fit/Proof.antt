@@ -1,21 +1,22 @@
 -- `slots_fit` meets its contract: each turn is one slot more.
 use mathlib.Core.Bool.{Bool}
 use mathlib.Core.List.{List}
-use mathlib.Core.Path.{_≡_, refl}
-use Prim.Native.Nat.{ℕ, _-_, _*_, _≤_}
+use mathlib.Core.Path.{_≡_, refl, ap, _∙_}
+use Prim.Native.Nat.{ℕ, _+_, _-_, _*_, _≤_, _<_}
 use native.Mathlib.Omega.{arith}
 use borrow.Author.Needs.{needs}
 use lib.Dec.{ltb}
 use lib.IntN.{ℤ}
+use lib.ListN.{length}
 use Rattle.integer.specs.Below.{fold, all}
 use Rattle.integer.specs.WordsLaws.{row-fits, lent}
 use Rattle.integer.specs.Words.{part}
-use Rattle.rulebook.specs.Layout.{ring}
+use Rattle.rulebook.specs.Layout.{slotLength, ring}
 use Rattle.rulebook.specs.declared.Terms.{Terms}
 use Rattle.rulebook.specs.WindowWalk.{turn-of}
 use Rattle.book.specs.LoopLaws.{all-step, length-lent}
 use Rattle.book.specs.Parts.{slotFits}
-use Rattle.book.specs.Slots.{slotLength, isDay, slotsFit}
+use Rattle.book.specs.Slots.{isDay, slotsFit}
 use Rattle.book.proofs.slots.slots_fit.Statement.{statement}
 use Rattle.book.proofs.slots.slots_fit.Tie as tie
 
@@ -23,6 +24,10 @@ use Rattle.book.proofs.slots.slots_fit.Tie as tie
 slot-told : (o : Terms) (k v p : ℕ) (u : Bool) {r : Bool} (xs : List ℤ) {ys : List ℤ} → r ≡ slotFits (o .accounts) u (ltb p (o .lag)) xs → u ≡ isDay o k p → p ≡ turn-of o k v → xs ≡ ys
     → r ≡ slotFits (o .accounts) (isDay o k (turn-of o k v)) (ltb (turn-of o k v) (o .lag)) ys
 slot-told o k v p u xs e f g h = cc
+
+-- slot v of r slots
+slot-room : (xs : List ℤ) (r n size v : ℕ) → size ≡ slotLength n → length xs ≡ r * slotLength n → v < r → v * size + size ≤ length xs
+slot-room xs r n size v f l h = rw (f, l) (row-fits v r (slotLength n) h)
 
 abbrev Inv-loop : tie.InvT-loop
 Inv-loop slots terms closes n r size ok₀ v₀ ok v =
@@ -36,14 +41,8 @@ add-ring : tie.Need-add-ring Inv-loop μ-loop
 unfolding ring
 add-ring c = search needs
 
-mul-size : tie.Need-mul-size Inv-loop μ-loop
-mul-size c = search needs
-
-add-size : tie.Need-add-size Inv-loop μ-loop
-add-size c = search needs
-
-mul-size-2 : tie.Need-mul-size-2 Inv-loop μ-loop
-mul-size-2 c = search needs
+slot-length-requires : tie.Need-slot-length-requires Inv-loop μ-loop
+slot-length-requires c κs = search needs
 
 loop-holds : tie.Need-loop-holds Inv-loop μ-loop
 unfolding fold ring
@@ -51,16 +50,16 @@ loop-holds c = search needs
 
 mul-i : tie.Need-mul-i Inv-loop μ-loop
 unfolding ring
-mul-i c = omega (arith, row-fits (c .before .loop .v) (ring (c .before .before .before .args .terms)) (slotLength (c .before .before .before .args .terms .accounts)) (omega arith))
+mul-i c = omega (arith, slot-room (c .before .before .before .before .args .slots .now) (ring (c .before .before .before .before .args .terms)) (c .before .before .before .before .args .terms .accounts) (c .before .before .slot-length .result) (c .before .loop .v) (c .before .before .slot-length .ensures) (c .before .before .before .before .pre .2) (omega arith))
 
 add-e : tie.Need-add-e Inv-loop μ-loop
-add-e c = omega (arith, row-fits (c .before .loop .v) (ring (c .before .before .before .args .terms)) (slotLength (c .before .before .before .args .terms .accounts)) (omega arith))
+add-e c = omega (arith, slot-room (c .before .before .before .before .args .slots .now) (ring (c .before .before .before .before .args .terms)) (c .before .before .before .before .args .terms .accounts) (c .before .before .slot-length .result) (c .before .loop .v) (c .before .before .slot-length .ensures) (c .before .before .before .before .pre .2) (omega arith))
 
 place-of-requires : tie.Need-place-of-requires Inv-loop μ-loop
 place-of-requires c κs = search needs
 
 mul-slot-fits : tie.Need-mul-slot-fits Inv-loop μ-loop
-mul-slot-fits c = omega (arith, row-fits (c .before .before .loop .v) (ring (c .before .before .before .before .args .terms)) (slotLength (c .before .before .before .before .args .terms .accounts)) (omega arith))
+mul-slot-fits c = omega (arith, slot-room (c .before .before .before .before .before .args .slots .now) (ring (c .before .before .before .before .before .args .terms)) (c .before .before .before .before .before .args .terms .accounts) (c .before .before .before .slot-length .result) (c .before .before .loop .v) (c .before .before .before .slot-length .ensures) (c .before .before .before .before .before .pre .2) (omega arith))
 
 sub-slot-fits : tie.Need-sub-slot-fits Inv-loop μ-loop
 sub-slot-fits c = search needs
@@ -69,16 +68,18 @@ part-slot-fits-start : tie.Need-part-slot-fits-start Inv-loop μ-loop
 part-slot-fits-start c = search needs
 
 part-slot-fits-end : tie.Need-part-slot-fits-end Inv-loop μ-loop
-part-slot-fits-end c = omega (arith, row-fits (c .before .before .loop .v) (ring (c .before .before .before .before .args .terms)) (slotLength (c .before .before .before .before .args .terms .accounts)) (omega arith))
+part-slot-fits-end c = omega (arith, slot-room (c .before .before .before .before .before .args .slots .now) (ring (c .before .before .before .before .before .args .terms)) (c .before .before .before .before .before .args .terms .accounts) (c .before .before .before .slot-length .result) (c .before .before .loop .v) (c .before .before .before .slot-length .ensures) (c .before .before .before .before .before .pre .2) (omega arith))
 
 is-day-requires : tie.Need-is-day-requires Inv-loop μ-loop
 is-day-requires c κs = search needs
 
 slot-fits-requires : tie.Need-slot-fits-requires Inv-loop μ-loop
 slot-fits-requires c κs =
-    let a = c .before .before .before .before .before .before .before .args in
+    let s = c .before .before .before .before .before .before in
     let v = c .before .before .before .before .before .loop .v in
-    (length-lent (a .slots .now) (v * slotLength (a .terms .accounts)) (slotLength (a .terms .accounts)) (omega (arith, row-fits v (ring (a .terms)) (slotLength (a .terms .accounts)) (omega arith))), search needs)
+    let a = s .before .before .args in
+    let size = s .slot-length .result in
+    (length-lent (a .slots .now) (v * size) size (slot-room (a .slots .now) (ring (a .terms)) (a .terms .accounts) size v (s .slot-length .ensures) (s .before .before .pre .2) (omega arith)) ∙ s .slot-length .ensures, search needs)
 
 add-v : tie.Need-add-v Inv-loop μ-loop
 add-v c = search needs
@@ -89,14 +90,16 @@ loop-less c = search needs
 loop-again : tie.Need-loop-again Inv-loop μ-loop
 unfolding ring
 loop-again c =
-    let a = c .before .before .before .before .before .before .before .before .args in
+    let s = c .before .before .before .before .before .before .before in
     let l = c .before .before .before .before .before .before .loop in
-    let n = a .terms .accounts in
-    (refl, refl, refl, omega arith, all-step (l .v) _ (l .inv .4) (slot-told (a .terms) (a .closes) (l .v) _ _ _ (c .slot-fits .ensures) (c .before .before .is-day .ensures) (c .before .before .before .before .place-of .ensures .0) (lent _ (l .v * slotLength n) (slotLength n))))
+    let a = s .before .before .args in
+    let size = s .slot-length .result in
+    let e = lent (a .slots .now) (l .v * size) size ∙ ap (λ (n : ℕ). part (a .slots .now) (l .v * n) n) (s .slot-length .ensures) in
+    (refl, refl, s .slot-length .ensures, omega arith, all-step (l .v) _ (l .inv .4) (slot-told (a .terms) (a .closes) (l .v) _ _ _ (c .slot-fits .ensures) (c .before .before .is-day .ensures) (c .before .before .before .before .place-of .ensures .0) e))
 
 returns : tie.Need-returns Inv-loop μ-loop
 unfolding slotsFit
-returns c = let e : c .before .loop .v ≡ ring (c .before .before .before .args .terms) = omega arith in rw e at (c .before .loop .inv .4)
+returns c = let e : c .before .loop .v ≡ ring (c .before .before .before .before .args .terms) = omega arith in rw e at (c .before .loop .inv .4)
 
 pub slots-fit-spec : {M : Type 1} → statement M
 slots-fit-spec =
@@ -105,9 +108,7 @@ slots-fit-spec =
     Inv-loop
     μ-loop
     add-ring
-    mul-size
-    add-size
-    mul-size-2
+    slot-length-requires
     loop-holds
     mul-i
     add-e

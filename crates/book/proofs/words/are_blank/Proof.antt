@@ -8,12 +8,12 @@ use Rattle.integer.specs.Words.{part}
 use Rattle.integer.specs.WordsLaws.{lent}
 use Rattle.book.specs.BlankLaws.{blank-rows}
 use Rattle.book.specs.LoopLaws.{all-step}
-use Rattle.book.specs.Parts.{blank}
+use Rattle.book.specs.Parts.{blank, rowWords}
 use Rattle.book.proofs.words.are_blank.Statement.{statement}
 use Rattle.book.proofs.words.are_blank.Tie as tie
 
 abbrev Inv-loop : tie.InvT-loop
-Inv-loop rows m ok₀ k₀ ok k = (k ≤ m) × (ok ≡ all k (λ j. blank (part rows (j * 64) 64)))
+Inv-loop rows m ok₀ k₀ ok k = (k ≤ m) × (ok ≡ all k (λ j. blank (part rows (j * rowWords) rowWords)))
 
 abbrev μ-loop : tie.MeasureT-loop
 μ-loop rows m ok₀ k₀ ok k = m - k
@@ -52,13 +52,13 @@ loop-less c = search needs
 loop-again : tie.Need-loop-again Inv-loop μ-loop
 loop-again c =
     let l = c .before .before .before .loop in
-    (omega arith, all-step (l .k) _ (l .inv .1) (c .is-blank .ensures ∙ ap blank (lent _ (l .k * 64) 64)))
+    (omega arith, all-step (l .k) _ (l .inv .1) (c .is-blank .ensures ∙ ap blank (lent _ (l .k * rowWords) rowWords)))
 
 returns : tie.Need-returns Inv-loop μ-loop
 returns c =
     let a = c .before .before .args in
     let e : c .before .loop .k ≡ a .m = omega arith in
-    rw e at (c .before .loop .inv .1) ∙ blank-rows (a .rows .now) (a .m) 64 (c .before .before .pre)
+    rw e at (c .before .loop .inv .1) ∙ blank-rows (a .rows .now) (a .m) rowWords (c .before .before .pre)
 
 pub are-blank-spec : {M : Type 1} → statement M
 are-blank-spec =

@@ -9,28 +9,31 @@ use Rattle.integer.specs.declared.Found.{Found}
 use Rattle.integer.specs.Below.{fold, first}
 use Rattle.integer.specs.BelowLaws.{first-more, first-stops}
 use Rattle.integer.specs.WordsLaws.{row-fits}
+use Rattle.rulebook.specs.declared.Section.the-variants.{Residual}
+use Rattle.rulebook.specs.Units.{intervals}
+use Rattle.rulebook.specs.Layout.{intervalWords, accountWords, intervalLength, flagAt}
 use Rattle.closing.specs.Search.{absentAt, absentPair, absentIn, firstAbsent}
 use Rattle.closing.specs.SearchLaws.{absent-here, absent-not, pair-vesting, pair-meter, pair-there, settled-ncc, settled-residual, passed, passed-due, stops-pair, stops-settled}
 use Rattle.closing.proofs.search.first_absent.Statement.{statement}
 use Rattle.closing.proofs.search.first_absent.Tie as tie
 
 abbrev Inv-loop : tie.InvT-loop
-Inv-loop book n today then due size i a₀ a = (a ≤ n) × (first a (λ a. absentPair book (today + i * (4 + n * 24) + (4 + a * 24))) ≡ Found.Nothing)
+Inv-loop book n today then due size i a₀ a = (a ≤ n) × (first a (λ a. absentPair book (today + i * intervalLength n + (intervalWords + a * accountWords))) ≡ Found.Nothing)
 
 abbrev μ-loop : tie.MeasureT-loop
 μ-loop book n today then due size i a₀ a = n - a
 
 abbrev Inv-loop2 : tie.InvT-loop2
-Inv-loop2 book n today then due size i at a₀ a = (a ≤ n) × (first a (λ a. absentAt book (at + (22 + a * 24))) ≡ Found.Nothing)
+Inv-loop2 book n today then due size i at a₀ a = (a ≤ n) × (first a (λ a. absentAt book (at + (intervalWords + flagAt Residual + a * accountWords))) ≡ Found.Nothing)
 
 abbrev μ-loop2 : tie.MeasureT-loop2
 μ-loop2 book n today then due size i at a₀ a = n - a
 
 abbrev Inv-search : tie.InvT-search
-Inv-search book n today then due size i₀ i = (i ≤ 48) × (first i (absentIn book n today then due) ≡ Found.Nothing)
+Inv-search book n today then due size i₀ i = (i ≤ intervals) × (first i (absentIn book n today then due) ≡ Found.Nothing)
 
 abbrev μ-search : tie.MeasureT-search
-μ-search book n today then due size i₀ i = 48 - i
+μ-search book n today then due size i₀ i = intervals - i
 
 mul-size : tie.Need-mul-size Inv-loop μ-loop Inv-loop2 μ-loop2 Inv-search μ-search
 mul-size c = search needs
@@ -48,13 +51,13 @@ loop-holds c = search needs
 
 -- the cell of a turn lies within today's slot
 fits : (c : tie.In-loop Inv-loop μ-loop Inv-loop2 μ-loop2 Inv-search μ-search)
-    → c .before .before .before .before .args .today + c .before .before .before .search .i * (4 + c .before .before .before .before .args .n * 24) + (4 + c .before .loop .a * 24) + 24
+    → c .before .before .before .before .args .today + c .before .before .before .search .i * intervalLength (c .before .before .before .before .args .n) + (intervalWords + c .before .loop .a * accountWords) + accountWords
     ≤ length (c .before .before .before .before .args .book .now)
 fits c =
     let o = c .before .before .before in
     let s = o .before in
-    let k : o .search .i < 48 = omega arith in
-    omega (arith, row-fits (c .before .loop .a) (s .args .n) 24 (c .loop-test .taken), row-fits (o .search .i) 48 (4 + s .args .n * 24) k, s .pre .0)
+    let k : o .search .i < intervals = omega arith in
+    omega (arith, row-fits (c .before .loop .a) (s .args .n) accountWords (c .loop-test .taken), row-fits (o .search .i) intervals (intervalLength (s .args .n)) k, s .pre .0)
 
 mul-at : tie.Need-mul-at Inv-loop μ-loop Inv-loop2 μ-loop2 Inv-search μ-search
 mul-at c = omega (arith, fits c)
@@ -103,13 +106,13 @@ loop-again c =
 
 -- the interval of a turn lies within then's slot
 settled-fits : (c : tie.Then4 Inv-loop μ-loop Inv-loop2 μ-loop2 Inv-search μ-search)
-    → c .before .before .before .before .before .args .then + c .before .before .before .before .search .i * (4 + c .before .before .before .before .before .args .n * 24) + (4 + c .before .before .before .before .before .args .n * 24)
+    → c .before .before .before .before .before .args .then + c .before .before .before .before .search .i * intervalLength (c .before .before .before .before .before .args .n) + (intervalLength (c .before .before .before .before .before .args .n))
     ≤ length (c .before .before .before .before .before .args .book .now)
 settled-fits c =
     let o = c .before .before .before .before in
     let s = o .before in
-    let k : o .search .i < 48 = omega arith in
-    omega (arith, row-fits (o .search .i) 48 (4 + s .args .n * 24) k, s .pre .1 (c .if4 .taken))
+    let k : o .search .i < intervals = omega arith in
+    omega (arith, row-fits (o .search .i) intervals (intervalLength (s .args .n)) k, s .pre .1 (c .if4 .taken))
 
 mul-at-3 : tie.Need-mul-at-3 Inv-loop μ-loop Inv-loop2 μ-loop2 Inv-search μ-search
 mul-at-3 c = omega (arith, settled-fits c)
@@ -132,11 +135,11 @@ loop2-holds c = search needs
 
 -- the residual flag of a turn lies within it
 flag-fits : (c : tie.In-loop2 Inv-loop μ-loop Inv-loop2 μ-loop2 Inv-search μ-search)
-    → c .before .before .before .before .before .before .before .before .before .args .then + c .before .before .before .before .before .before .before .before .search .i * (4 + c .before .before .before .before .before .before .before .before .before .args .n * 24) + (22 + c .before .loop2 .a * 24)
+    → c .before .before .before .before .before .before .before .before .before .args .then + c .before .before .before .before .before .before .before .before .search .i * intervalLength (c .before .before .before .before .before .before .before .before .before .args .n) + (intervalWords + flagAt Residual + c .before .loop2 .a * accountWords)
     < length (c .before .before .before .before .before .before .before .before .before .args .book .now)
 flag-fits c =
     let t = c .before .before .before .before in
-    omega (arith, settled-fits t, row-fits (c .before .loop2 .a) (t .before .before .before .before .before .args .n) 24 (c .loop2-test .taken))
+    omega (arith, settled-fits t, row-fits (c .before .loop2 .a) (t .before .before .before .before .before .args .n) accountWords (c .loop2-test .taken))
 
 mul-flag : tie.Need-mul-flag Inv-loop μ-loop Inv-loop2 μ-loop2 Inv-search μ-search
 mul-flag c = omega (arith, flag-fits c)

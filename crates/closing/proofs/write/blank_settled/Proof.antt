@@ -27,14 +27,14 @@ slot-start-requires c κs =
     (s .pre .0, omega arith)
 
 -- the slot lies within the book
-inside : (c : tie.After-slot-words) → c .before .slot-start .result + c .slot-words .result ≤ size (c .before .before .before .before .before .args .terms)
+inside : (c : tie.After-slot-length) → c .before .slot-start .result + c .slot-length .result ≤ size (c .before .before .before .before .before .args .terms)
 unfolding slotStart
 inside c =
     let s = c .before .before .before .before .before in
-    omega (arith, slot-sized (s .args .terms) (s .args .day - s .args .terms .lag) (s .pre .0), c .before .slot-start .ensures, c .slot-words .ensures)
+    omega (arith, slot-sized (s .args .terms) (s .args .day - s .args .terms .lag) (s .pre .0), c .before .slot-start .ensures, c .slot-length .ensures)
 
-slot-words-requires : tie.Need-slot-words-requires
-slot-words-requires c κs = search needs
+slot-length-requires : tie.Need-slot-length-requires
+slot-length-requires c κs = search needs
 
 add-e : tie.Need-add-e
 add-e c = omega (arith, inside c)
@@ -64,7 +64,7 @@ returns c =
     let s = n .before .before .before .before .before in
     rw (c .before .clear .ensures)
     (slot-blanked (s .args .terms) (s .args .book .now) (s .args .day) (s .args .book .now) (s .pre .0) (s .pre .2)
-    (sym (n .before .before .before .before .is-due .ensures) ∙ n .before .before .before .if1 .taken) (n .before .slot-start .ensures) (n .slot-words .ensures))
+    (sym (n .before .before .before .before .is-due .ensures) ∙ n .before .before .before .if1 .taken) (n .before .slot-start .ensures) (n .slot-length .ensures))
 
 returns-2 : tie.Need-returns-2
 unfolding slotBlanked
@@ -77,7 +77,7 @@ blank-settled-spec =
     is-due-requires
     sub-settled
     slot-start-requires
-    slot-words-requires
+    slot-length-requires
     add-e
     mul-clear
     sub-clear

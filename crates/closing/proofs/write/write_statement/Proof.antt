@@ -19,8 +19,8 @@ use borrow.Author.Needs.{needs}
 use Rattle.closing.proofs.write.write_statement.Statement.{statement}
 use Rattle.closing.proofs.write.write_statement.Tie as tie
 
-slot-words-requires : tie.Need-slot-words-requires
-slot-words-requires c κs = search needs
+slot-length-requires : tie.Need-slot-length-requires
+slot-length-requires c κs = search needs
 
 is-due-requires : tie.Need-is-due-requires
 is-due-requires c κs = search needs
@@ -42,15 +42,15 @@ unfolding slotStart
 then c = c .slot-start2 .ensures ∙ ap (slotStart (c .before .before .before .before .before .args .terms)) (c .before .then-day .ensures)
 
 -- they end within the book
-today-fits : (c : tie.After-slot-start) → c .slot-start .result + c .before .before .slot-words .result ≤ length (c .before .before .before .args .book .now)
+today-fits : (c : tie.After-slot-start) → c .slot-start .result + c .before .before .slot-length .result ≤ length (c .before .before .before .args .book .now)
 today-fits c =
     let s = c .before .before .before in
-    omega (arith, today c, c .before .before .slot-words .ensures, slot-sized (s .args .terms) (s .args .day) (s .pre .0 .book .inTerms), s .pre .0 .book .room)
+    omega (arith, today c, c .before .before .slot-length .ensures, slot-sized (s .args .terms) (s .args .day) (s .pre .0 .book .inTerms), s .pre .0 .book .room)
 
-then-fits : (c : tie.After-slot-start2) → c .slot-start2 .result + c .before .before .before .before .slot-words .result ≤ length (c .before .before .before .before .before .args .book .now)
+then-fits : (c : tie.After-slot-start2) → c .slot-start2 .result + c .before .before .before .before .slot-length .result ≤ length (c .before .before .before .before .before .args .book .now)
 then-fits c =
     let s = c .before .before .before .before .before in
-    omega (arith, then c, c .before .before .before .before .slot-words .ensures, slot-sized (s .args .terms) (thenDay (s .args .terms) (s .args .day)) (s .pre .0 .book .inTerms), s .pre .0 .book .room)
+    omega (arith, then c, c .before .before .before .before .slot-length .ensures, slot-sized (s .args .terms) (thenDay (s .args .terms) (s .args .day)) (s .pre .0 .book .inTerms), s .pre .0 .book .room)
 
 -- the parts lent are the slots
 part-is : (w : List ℤ) {a b m n : ℕ} → a ≡ b → m ≡ n → take (a + m - a) (drop a w) ≡ part w b n
@@ -86,7 +86,7 @@ residuals-due-requires c κs =
     let n = b .before .before .before .before in
     let s = n .before in
     let w = s .args .book .now in (
-      λ e. rw (part-is w (then b) (n .slot-words .ensures)) (settling-ranged w (s .args .terms) (s .args .day) (s .pre .0) .settled (sym (b .before .before .before .is-due .ensures) ∙ e)),
+      λ e. rw (part-is w (then b) (n .slot-length .ensures)) (settling-ranged w (s .args .terms) (s .args .day) (s .pre .0) .settled (sym (b .before .before .before .is-due .ensures) ∙ e)),
       s .pre .0 .book .inTerms .accountsTo,
     )
 
@@ -98,7 +98,7 @@ residuals c =
     let b = c .before .before in
     let n = b .before .before .before .before in
     let w = n .before .args .book .now in
-    c .residuals-due .ensures ∙ rw (part-is w (then b) (n .slot-words .ensures), b .before .before .before .is-due .ensures)
+    c .residuals-due .ensures ∙ rw (part-is w (then b) (n .slot-length .ensures), b .before .before .before .is-due .ensures)
 
 mul-post-amounts : tie.Need-mul-post-amounts
 mul-post-amounts c = omega (arith, today-fits (c .before .before .before .before .before))
@@ -139,7 +139,7 @@ post-amounts-requires c κs =
     let n = t .before .before in
     let s = n .before in
     let w = s .args .book .now in (
-      ranged-cong (part-is w (today t) (n .slot-words .ensures)) (part-is w (then b) (n .slot-words .ensures)) (t .before .is-due .ensures) (residuals r) (settling-ranged w (s .args .terms) (s .args .day) (s .pre .0)),
+      ranged-cong (part-is w (today t) (n .slot-length .ensures)) (part-is w (then b) (n .slot-length .ensures)) (t .before .is-due .ensures) (residuals r) (settling-ranged w (s .args .terms) (s .args .day) (s .pre .0)),
       s .pre .0 .book .inTerms .accountsTo,
       omega (arith, s .pre .1),
     )
@@ -158,7 +158,7 @@ posted c =
     let n = t .before .before in
     let w = n .before .args .book .now in
     c .post-amounts .ensures
-    ∙ posted-cong (n .before .args .terms .accounts) (n .before .args .statement .now) (part-is w (today t) (n .slot-words .ensures)) (part-is w (then b) (n .slot-words .ensures)) (t .before .is-due .ensures) (residuals r)
+    ∙ posted-cong (n .before .args .terms .accounts) (n .before .args .statement .now) (part-is w (today t) (n .slot-length .ensures)) (part-is w (then b) (n .slot-length .ensures)) (t .before .is-due .ensures) (residuals r)
 
 post-mssl-requires : tie.Need-post-mssl-requires
 post-mssl-requires c κs =
@@ -183,7 +183,7 @@ pub write-statement-spec : {M : Type 1} → statement M
 write-statement-spec =
     tie.close
     (tie.spec
-    slot-words-requires
+    slot-length-requires
     is-due-requires
     slot-start-requires
     add-e

@@ -7,6 +7,7 @@ use lib.ListN.{length-take, length-drop}
 use Rattle.rulebook.specs.declared.Verdict.{Verdict}
 use Rattle.rulebook.specs.declared.Verdict.the-variants.{Accepted, Refused}
 use Rattle.rulebook.specs.declared.Why.the-variants.{OutOfRange}
+use Rattle.rulebook.specs.Units.{intervals}
 use Rattle.rulebook.specs.Sections.{leastCount, mostCount}
 use Rattle.rulebook.specs.File.{countBytes, countPos, valuesPos, countAt, valuesIn}
 use Rattle.rulebook.specs.Judging.{fieldIn, rest}
@@ -105,10 +106,10 @@ returns-2 c =
     let p = c .before .before .before .before in
     let k = p .before in
     let g = start (counted k) .args in
-    let en : 48 * p .per-interval .result ≡ valuesIn (g .sec) (g .file .now) (g .at) =
+    let en : intervals * p .per-interval .result ≡ valuesIn (g .sec) (g .file .now) (g .at) =
     let x = p .per-interval .ensures .0 in let y = count-on k .1 in cc in
     c .outcome-of .ensures
-    ∙ (ap (λ (v : Verdict). outcome v (g .heading .next + 4 * (48 * p .per-interval .result))) (c .before .judge-values .ensures)
+    ∙ (ap (λ (v : Verdict). outcome v (g .heading .next + 4 * (intervals * p .per-interval .result))) (c .before .judge-values .ensures)
     ∙ rest-values (g .sec) (g .file .now) (g .at) (count-on k .0) (from k) en (c .before .before .before .least .ensures))
 
 pub judge-rest-spec : {M : Type 1} → statement M

@@ -5,21 +5,22 @@ use native.Mathlib.Omega.{arith}
 use lib.ListN.{length}
 use Rattle.integer.specs.Words.{gridRow, grid}
 use Rattle.integer.specs.WordsLaws.{row-fits, grid-zero, grid-suc}
+use Rattle.rulebook.specs.Units.{intervals}
 use Rattle.submission.specs.Stored.{rowFrom}
 use Rattle.submission.proofs.store.put_row.Statement.{statement}
 use Rattle.submission.proofs.store.put_row.Tie as tie
 
 abbrev Inv-loop : tie.InvT-loop
-Inv-loop book₀ start stride form file from i₀ book i = (i ≤ 48) × (length book ≡ length book₀) × (book ≡ grid start stride (form .words) (rowFrom form file from) i book₀)
+Inv-loop book₀ start stride form file from i₀ book i = (i ≤ intervals) × (length book ≡ length book₀) × (book ≡ grid start stride (form .words) (rowFrom form file from) i book₀)
 
 abbrev μ-loop : tie.MeasureT-loop
-μ-loop book₀ start stride form file from i₀ book i = 48 - i
+μ-loop book₀ start stride form file from i₀ book i = intervals - i
 
-row : (c : tie.In-loop Inv-loop μ-loop) → c .before .loop .i * c .before .before .before .args .stride + c .before .before .before .args .stride ≤ 48 * c .before .before .before .args .stride
-row c = row-fits (c .before .loop .i) 48 (c .before .before .before .args .stride) (c .loop-test .taken)
+row : (c : tie.In-loop Inv-loop μ-loop) → c .before .loop .i * c .before .before .before .args .stride + c .before .before .before .args .stride ≤ intervals * c .before .before .before .args .stride
+row c = row-fits (c .before .loop .i) intervals (c .before .before .before .args .stride) (c .loop-test .taken)
 
-vals : (c : tie.In-loop Inv-loop μ-loop) → c .before .loop .i * c .before .before .before .args .form .values + c .before .before .before .args .form .values ≤ 48 * c .before .before .before .args .form .values
-vals c = row-fits (c .before .loop .i) 48 (c .before .before .before .args .form .values) (c .loop-test .taken)
+vals : (c : tie.In-loop Inv-loop μ-loop) → c .before .loop .i * c .before .before .before .args .form .values + c .before .before .before .args .form .values ≤ intervals * c .before .before .before .args .form .values
+vals c = row-fits (c .before .loop .i) intervals (c .before .before .before .args .form .values) (c .loop-test .taken)
 
 loop-holds : tie.Need-loop-holds Inv-loop μ-loop
 loop-holds c = (omega arith, refl, grid-zero _ _ _ _ _)
@@ -72,7 +73,7 @@ same-length c = c .before .loop .inv .1
 
 returns : tie.Need-returns Inv-loop μ-loop
 returns c =
-    let e : c .before .loop .i ≡ 48 = omega arith in
+    let e : c .before .loop .i ≡ intervals = omega arith in
     rw e at (c .before .loop .inv .2)
 
 pub put-row-spec : {M : Type 1} → statement M

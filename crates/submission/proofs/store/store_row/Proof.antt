@@ -1,8 +1,9 @@
 -- `store_row` meets its contract: the fields say the row, and the grid of its form is the row stored.
 use mathlib.Core.Path.{_≡_, ap, _∙_}
-use Prim.Native.Nat.{ℕ, _+_, _*_, _≤_, _<_, _^_}
+use Prim.Native.Nat.{ℕ, _+_, _-_, _*_, _≤_, _<_, _^_}
 use native.Mathlib.Omega.{arith}
 use borrow.Author.Needs.{needs}
+use Rattle.rulebook.specs.Units.{intervals}
 use Rattle.rulebook.specs.File.{accountAt, dayAt, countAt, valuesPos, valuesIn, rowEnd}
 use Rattle.rulebook.specs.Layout.{present, width, intervalSize, rowWord, size}
 use Rattle.rulebook.specs.Sections.{perInterval}
@@ -62,7 +63,7 @@ module _ (c : tie.After-place-of) where
       row-start (s .args .terms) (s .args .sec) (accountAt (s .args .sec) (s .args .file .now) (s .args .at)) (dayAt (s .args .sec) (s .args .file .now) (s .args .at))
       (c .before .before .slot-start .ensures) (c .place-of .ensures .0) (named (c .before)) (dated (c .before .before .before))
 
-  room : firstWord + 47 * intervalSize (s .args .terms) + width (s .args .sec) ≤ size (s .args .terms)
+  room : firstWord + (intervals - 1) * intervalSize (s .args .terms) + width (s .args .sec) ≤ size (s .args .terms)
   room = row-room (s .args .terms) (s .args .sec) (accountAt (s .args .sec) (s .args .file .now) (s .args .at)) (dayAt (s .args .sec) (s .args .file .now) (s .args .at)) (s .pre .0) (s .pre .1 .account)
 
 account-bytes-requires : tie.Need-account-bytes-requires
