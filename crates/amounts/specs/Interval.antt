@@ -10,8 +10,9 @@ use Rattle.integer.specs.Words.{word, part}
 use Rattle.rulebook.specs.declared.Kind.the-variants.{Load}
 use Rattle.rulebook.specs.Units.{asQuantity, inRange, mostQuantity}
 use Rattle.rulebook.specs.Shares.{mostAccounts}
+use Rattle.rulebook.specs.Sections.{NccLoad}
 use Rattle.rulebook.specs.DayAmount.{tenders, vestedQuantity}
-use Rattle.rulebook.specs.Layout.{intervalWords, accountWords, intervalLength}
+use Rattle.rulebook.specs.Layout.{intervalWords, accountWords, intervalLength, figureAt}
 use Rattle.amounts.specs.declared.interval.Totals.{Totals}
 use Rattle.amounts.specs.declared.interval.Residual.{Residual}
 use Rattle.amounts.specs.Cell.{cellData, Ranged}
@@ -23,7 +24,7 @@ cellOf x a = part x (intervalWords + a * accountWords) accountWords
 
 pub record IntervalRanged (n : ℕ) (x : List ℤ) : Type 0 where
   pub whole : length x ≡ intervalLength n
-  pub load : inRange Load (word x 0) ≡ true
+  pub load : inRange Load (word x (figureAt NccLoad)) ≡ true
   pub cells : (a : ℕ) → a < n → Ranged (cellOf x a)
 
 -- all accounts' BVQ and TVQ
@@ -36,7 +37,7 @@ spareOf n x = sumℕ n (λ b. cellData (cellOf x b) .uegq)
 
 -- R
 unfoldable pub residualOf : ℕ → List ℤ → ℤ
-residualOf n x = pos (asQuantity (word x 0)) -ℤ pos (vestedOf n x)
+residualOf n x = pos (asQuantity (word x (figureAt NccLoad))) -ℤ pos (vestedOf n x)
 
 -- both
 abbrev pub residualAt : ℕ → List ℤ → Residual

@@ -15,6 +15,9 @@ ghost use Rattle.rulebook.specs.Units.{between, inRange};
 ghost use Rattle.rulebook.specs.WellFormed.{isZero};
 ghost use Rattle.book.specs.Parts.{blank, rowWords};
 
+// Words of a row of `are_blank`.
+pub const ROW: usize = 64;
+
 // The word is zero, as absent data and unused pairs are.
 pub fn zero_at(part: &[i64], i: usize) -> bool
     requires { ⌜ i < length (now part) ⌝ }
@@ -68,9 +71,6 @@ pub fn is_blank(part: &[i64]) -> bool
     }
     ok
 }
-
-// Words whose zeros are tested together.
-pub const ROW: usize = 64;
 
 // The same of m rows: a row's loop is unrolled.
 pub fn are_blank(rows: &[i64], m: usize) -> bool

@@ -7,6 +7,7 @@ use rulebook::layout::METER_FLAG;
 use rulebook::layout::NCC_FLAG;
 use rulebook::layout::RESIDUAL_FLAG;
 use rulebook::layout::VESTING_FLAG;
+use rulebook::layout::interval_length;
 use rulebook::units::INTERVALS;
 ghost use mathlib.Core.Path.{_≡_};
 ghost use mathlib.Core.Bool.{true};
@@ -25,7 +26,7 @@ pub fn first_absent(book: &[i64], n: usize, today: usize, then: usize, due: bool
     requires { ⌜ (today + slotLength n ≤ length (now book)) × (due ≡ true → then + slotLength n ≤ length (now book)) × (n ≤ mostAccounts) ⌝ }
     ensures { λ r. ⌜ r ≡ firstAbsent (now (book .entry)) n today then due ⌝ }
 {
-    let size = INTERVAL_WORDS + ACCOUNT_WORDS * n;
+    let size = interval_length(n);
     let mut i = 0;
     'search: loop {
         if i == INTERVALS {

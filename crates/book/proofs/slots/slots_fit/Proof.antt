@@ -25,10 +25,6 @@ slot-told : (o : Terms) (k v p : ℕ) (u : Bool) {r : Bool} (xs : List ℤ) {ys 
     → r ≡ slotFits (o .accounts) (isDay o k (turn-of o k v)) (ltb (turn-of o k v) (o .lag)) ys
 slot-told o k v p u xs e f g h = cc
 
--- slot v of r slots
-slot-room : (xs : List ℤ) (r n size v : ℕ) → size ≡ slotLength n → length xs ≡ r * slotLength n → v < r → v * size + size ≤ length xs
-slot-room xs r n size v f l h = rw (f, l) (row-fits v r (slotLength n) h)
-
 abbrev Inv-loop : tie.InvT-loop
 Inv-loop slots terms closes n r size ok₀ v₀ ok v =
     (n ≡ terms .accounts) × (r ≡ ring terms) × (size ≡ slotLength (terms .accounts)) × (v ≤ ring terms)
@@ -36,6 +32,13 @@ Inv-loop slots terms closes n r size ok₀ v₀ ok v =
 
 abbrev μ-loop : tie.MeasureT-loop
 μ-loop slots terms closes n r size ok₀ v₀ ok v = ring terms - v
+
+-- slot v lies within the slots
+room : (s : tie.After-slot-length Inv-loop μ-loop) (v : ℕ) → v < ring (s .before .before .args .terms)
+    → v * s .slot-length .result + s .slot-length .result ≤ length (s .before .before .args .slots .now)
+room s v h =
+    let a = s .before .before in
+    rw (s .slot-length .ensures, a .pre .2) (row-fits v (ring (a .args .terms)) (slotLength (a .args .terms .accounts)) h)
 
 add-ring : tie.Need-add-ring Inv-loop μ-loop
 unfolding ring
@@ -50,16 +53,16 @@ loop-holds c = search needs
 
 mul-i : tie.Need-mul-i Inv-loop μ-loop
 unfolding ring
-mul-i c = omega (arith, slot-room (c .before .before .before .before .args .slots .now) (ring (c .before .before .before .before .args .terms)) (c .before .before .before .before .args .terms .accounts) (c .before .before .slot-length .result) (c .before .loop .v) (c .before .before .slot-length .ensures) (c .before .before .before .before .pre .2) (omega arith))
+mul-i c = omega (arith, room (c .before .before) (c .before .loop .v) (omega arith))
 
 add-e : tie.Need-add-e Inv-loop μ-loop
-add-e c = omega (arith, slot-room (c .before .before .before .before .args .slots .now) (ring (c .before .before .before .before .args .terms)) (c .before .before .before .before .args .terms .accounts) (c .before .before .slot-length .result) (c .before .loop .v) (c .before .before .slot-length .ensures) (c .before .before .before .before .pre .2) (omega arith))
+add-e c = omega (arith, room (c .before .before) (c .before .loop .v) (omega arith))
 
 place-of-requires : tie.Need-place-of-requires Inv-loop μ-loop
 place-of-requires c κs = search needs
 
 mul-slot-fits : tie.Need-mul-slot-fits Inv-loop μ-loop
-mul-slot-fits c = omega (arith, slot-room (c .before .before .before .before .before .args .slots .now) (ring (c .before .before .before .before .before .args .terms)) (c .before .before .before .before .before .args .terms .accounts) (c .before .before .before .slot-length .result) (c .before .before .loop .v) (c .before .before .before .slot-length .ensures) (c .before .before .before .before .before .pre .2) (omega arith))
+mul-slot-fits c = omega (arith, room (c .before .before .before) (c .before .before .loop .v) (omega arith))
 
 sub-slot-fits : tie.Need-sub-slot-fits Inv-loop μ-loop
 sub-slot-fits c = search needs
@@ -68,7 +71,7 @@ part-slot-fits-start : tie.Need-part-slot-fits-start Inv-loop μ-loop
 part-slot-fits-start c = search needs
 
 part-slot-fits-end : tie.Need-part-slot-fits-end Inv-loop μ-loop
-part-slot-fits-end c = omega (arith, slot-room (c .before .before .before .before .before .args .slots .now) (ring (c .before .before .before .before .before .args .terms)) (c .before .before .before .before .before .args .terms .accounts) (c .before .before .before .slot-length .result) (c .before .before .loop .v) (c .before .before .before .slot-length .ensures) (c .before .before .before .before .before .pre .2) (omega arith))
+part-slot-fits-end c = omega (arith, room (c .before .before .before) (c .before .before .loop .v) (omega arith))
 
 is-day-requires : tie.Need-is-day-requires Inv-loop μ-loop
 is-day-requires c κs = search needs
@@ -79,7 +82,7 @@ slot-fits-requires c κs =
     let v = c .before .before .before .before .before .loop .v in
     let a = s .before .before .args in
     let size = s .slot-length .result in
-    (length-lent (a .slots .now) (v * size) size (slot-room (a .slots .now) (ring (a .terms)) (a .terms .accounts) size v (s .slot-length .ensures) (s .before .before .pre .2) (omega arith)) ∙ s .slot-length .ensures, search needs)
+    (length-lent (a .slots .now) (v * size) size (room s v (omega arith)) ∙ s .slot-length .ensures, search needs)
 
 add-v : tie.Need-add-v Inv-loop μ-loop
 add-v c = search needs

@@ -1,9 +1,11 @@
 -- `first_absent` meets its contract: each turn of either walk that finds nothing is one more of `first`; a turn that finds leaves all walks.
-use mathlib.Core.Path.{_≡_, sym, _∙_}
+use mathlib.Core.List.{List}
+use mathlib.Core.Path.{_≡_, sym, _∙_, subst}
 use mathlib.Core.Logic.{⊎-elim}
-use Prim.Native.Nat.{_+_, _*_, _-_, _≤_, _<_}
+use Prim.Native.Nat.{ℕ, _+_, _*_, _-_, _≤_, _<_}
 use native.Mathlib.Omega.{arith}
 use borrow.Author.Needs.{needs}
+use lib.IntN.{ℤ}
 use lib.ListN.{length}
 use Rattle.integer.specs.declared.Found.{Found}
 use Rattle.integer.specs.Below.{fold, first}
@@ -12,13 +14,26 @@ use Rattle.integer.specs.WordsLaws.{row-fits}
 use Rattle.rulebook.specs.declared.Section.the-variants.{Residual}
 use Rattle.rulebook.specs.Units.{intervals}
 use Rattle.rulebook.specs.Layout.{intervalWords, accountWords, intervalLength, flagAt}
-use Rattle.closing.specs.Search.{absentAt, absentPair, absentIn, firstAbsent}
+use Rattle.closing.specs.Search.{absentAt, absentPair, absentSettled, absentIn, firstAbsent}
 use Rattle.closing.specs.SearchLaws.{absent-here, absent-not, pair-vesting, pair-meter, pair-there, settled-ncc, settled-residual, passed, passed-due, stops-pair, stops-settled}
 use Rattle.closing.proofs.search.first_absent.Statement.{statement}
 use Rattle.closing.proofs.search.first_absent.Tie as tie
 
+-- an interval's length, as the code has it, is `intervalLength n`
+module _ (w : List ℤ) (n from i : ℕ) where
+  cells-at : (m : ℕ) {size : ℕ} {x : Found} → size ≡ intervalLength n → first m (λ a. absentPair w (from + i * size + (intervalWords + a * accountWords))) ≡ x
+      → first m (λ a. absentPair w (from + i * intervalLength n + (intervalWords + a * accountWords))) ≡ x
+  cells-at m {size} {x} e = subst (λ (z : ℕ). first m (λ a. absentPair w (from + i * z + (intervalWords + a * accountWords))) ≡ x) e
+
+  pair-at : (a : ℕ) {size : ℕ} {x : Found} → size ≡ intervalLength n → absentPair w (from + i * size + (intervalWords + a * accountWords)) ≡ x
+      → absentPair w (from + i * intervalLength n + (intervalWords + a * accountWords)) ≡ x
+  pair-at a {size} {x} e = subst (λ (z : ℕ). absentPair w (from + i * z + (intervalWords + a * accountWords)) ≡ x) e
+
+  settled-at : {size : ℕ} {x : Found} → size ≡ intervalLength n → absentSettled w n (from + i * size) ≡ x → absentSettled w n (from + i * intervalLength n) ≡ x
+  settled-at {size} {x} e = subst (λ (z : ℕ). absentSettled w n (from + i * z) ≡ x) e
+
 abbrev Inv-loop : tie.InvT-loop
-Inv-loop book n today then due size i a₀ a = (a ≤ n) × (first a (λ a. absentPair book (today + i * intervalLength n + (intervalWords + a * accountWords))) ≡ Found.Nothing)
+Inv-loop book n today then due size i a₀ a = (a ≤ n) × (first a (λ a. absentPair book (today + i * size + (intervalWords + a * accountWords))) ≡ Found.Nothing)
 
 abbrev μ-loop : tie.MeasureT-loop
 μ-loop book n today then due size i a₀ a = n - a
@@ -35,11 +50,8 @@ Inv-search book n today then due size i₀ i = (i ≤ intervals) × (first i (ab
 abbrev μ-search : tie.MeasureT-search
 μ-search book n today then due size i₀ i = intervals - i
 
-mul-size : tie.Need-mul-size Inv-loop μ-loop Inv-loop2 μ-loop2 Inv-search μ-search
-mul-size c = search needs
-
-add-size : tie.Need-add-size Inv-loop μ-loop Inv-loop2 μ-loop2 Inv-search μ-search
-add-size c = search needs
+interval-length-requires : tie.Need-interval-length-requires Inv-loop μ-loop Inv-loop2 μ-loop2 Inv-search μ-search
+interval-length-requires c κs = search needs
 
 search-holds : tie.Need-search-holds Inv-loop μ-loop Inv-loop2 μ-loop2 Inv-search μ-search
 unfolding fold
@@ -51,13 +63,14 @@ loop-holds c = search needs
 
 -- the cell of a turn lies within today's slot
 fits : (c : tie.In-loop Inv-loop μ-loop Inv-loop2 μ-loop2 Inv-search μ-search)
-    → c .before .before .before .before .args .today + c .before .before .before .search .i * intervalLength (c .before .before .before .before .args .n) + (intervalWords + c .before .loop .a * accountWords) + accountWords
-    ≤ length (c .before .before .before .before .args .book .now)
+    → c .before .before .before .before .before .args .today + c .before .before .before .search .i * c .before .before .before .before .interval-length .result + (intervalWords + c .before .loop .a * accountWords) + accountWords
+    ≤ length (c .before .before .before .before .before .args .book .now)
 fits c =
     let o = c .before .before .before in
-    let s = o .before in
-    let k : o .search .i < intervals = omega arith in
-    omega (arith, row-fits (c .before .loop .a) (s .args .n) accountWords (c .loop-test .taken), row-fits (o .search .i) intervals (intervalLength (s .args .n)) k, s .pre .0)
+    let k = o .before .interval-length in
+    let s = o .before .before in
+    let l : o .search .i < intervals = omega arith in
+    omega (arith, row-fits (c .before .loop .a) (s .args .n) accountWords (c .loop-test .taken), row-fits (o .search .i) intervals (k .result) l, k .ensures, s .pre .0)
 
 mul-at : tie.Need-mul-at Inv-loop μ-loop Inv-loop2 μ-loop2 Inv-search μ-search
 mul-at c = omega (arith, fits c)
@@ -80,8 +93,8 @@ add-zero-at c = omega (arith, fits c)
 zero-at-requires : tie.Need-zero-at-requires Inv-loop μ-loop Inv-loop2 μ-loop2 Inv-search μ-search
 zero-at-requires c κs = omega (arith, fits c)
 
-add-t22 : tie.Need-add-t22 Inv-loop μ-loop Inv-loop2 μ-loop2 Inv-search μ-search
-add-t22 c = omega (arith, fits (c .before .before))
+add-t21 : tie.Need-add-t21 Inv-loop μ-loop Inv-loop2 μ-loop2 Inv-search μ-search
+add-t21 c = omega (arith, fits (c .before .before))
 
 add-zero-at-2 : tie.Need-add-zero-at-2 Inv-loop μ-loop Inv-loop2 μ-loop2 Inv-search μ-search
 add-zero-at-2 c = omega (arith, fits (c .before .before))
@@ -89,8 +102,8 @@ add-zero-at-2 c = omega (arith, fits (c .before .before))
 zero-at-requires-2 : tie.Need-zero-at-requires-2 Inv-loop μ-loop Inv-loop2 μ-loop2 Inv-search μ-search
 zero-at-requires-2 c κs = omega (arith, fits (c .before .before))
 
-add-t24 : tie.Need-add-t24 Inv-loop μ-loop Inv-loop2 μ-loop2 Inv-search μ-search
-add-t24 c = omega (arith, fits (c .before .before .before .before))
+add-t23 : tie.Need-add-t23 Inv-loop μ-loop Inv-loop2 μ-loop2 Inv-search μ-search
+add-t23 c = omega (arith, fits (c .before .before .before .before))
 
 add-a : tie.Need-add-a Inv-loop μ-loop Inv-loop2 μ-loop2 Inv-search μ-search
 add-a c = omega arith
@@ -106,13 +119,14 @@ loop-again c =
 
 -- the interval of a turn lies within then's slot
 settled-fits : (c : tie.Then4 Inv-loop μ-loop Inv-loop2 μ-loop2 Inv-search μ-search)
-    → c .before .before .before .before .before .args .then + c .before .before .before .before .search .i * intervalLength (c .before .before .before .before .before .args .n) + (intervalLength (c .before .before .before .before .before .args .n))
-    ≤ length (c .before .before .before .before .before .args .book .now)
+    → c .before .before .before .before .before .before .args .then + c .before .before .before .before .search .i * c .before .before .before .before .before .interval-length .result + c .before .before .before .before .before .interval-length .result
+    ≤ length (c .before .before .before .before .before .before .args .book .now)
 settled-fits c =
     let o = c .before .before .before .before in
-    let s = o .before in
-    let k : o .search .i < intervals = omega arith in
-    omega (arith, row-fits (o .search .i) intervals (intervalLength (s .args .n)) k, s .pre .1 (c .if4 .taken))
+    let k = o .before .interval-length in
+    let s = o .before .before in
+    let l : o .search .i < intervals = omega arith in
+    omega (arith, row-fits (o .search .i) intervals (k .result) l, k .ensures, s .pre .1 (c .if4 .taken))
 
 mul-at-3 : tie.Need-mul-at-3 Inv-loop μ-loop Inv-loop2 μ-loop2 Inv-search μ-search
 mul-at-3 c = omega (arith, settled-fits c)
@@ -126,8 +140,8 @@ add-zero-at-3 c = omega (arith, settled-fits c)
 zero-at-requires-3 : tie.Need-zero-at-requires-3 Inv-loop μ-loop Inv-loop2 μ-loop2 Inv-search μ-search
 zero-at-requires-3 c κs = omega (arith, settled-fits c)
 
-add-t27 : tie.Need-add-t27 Inv-loop μ-loop Inv-loop2 μ-loop2 Inv-search μ-search
-add-t27 c = omega (arith, settled-fits (c .before .before))
+add-t26 : tie.Need-add-t26 Inv-loop μ-loop Inv-loop2 μ-loop2 Inv-search μ-search
+add-t26 c = omega (arith, settled-fits (c .before .before))
 
 loop2-holds : tie.Need-loop2-holds Inv-loop μ-loop Inv-loop2 μ-loop2 Inv-search μ-search
 unfolding fold
@@ -135,11 +149,12 @@ loop2-holds c = search needs
 
 -- the residual flag of a turn lies within it
 flag-fits : (c : tie.In-loop2 Inv-loop μ-loop Inv-loop2 μ-loop2 Inv-search μ-search)
-    → c .before .before .before .before .before .before .before .before .before .args .then + c .before .before .before .before .before .before .before .before .search .i * intervalLength (c .before .before .before .before .before .before .before .before .before .args .n) + (intervalWords + flagAt Residual + c .before .loop2 .a * accountWords)
-    < length (c .before .before .before .before .before .before .before .before .before .args .book .now)
+    → c .before .before .before .before .before .before .before .before .before .before .args .then + c .before .before .before .before .before .before .before .before .search .i * c .before .before .before .before .before .before .before .before .before .interval-length .result + (intervalWords + flagAt Residual + c .before .loop2 .a * accountWords)
+    < length (c .before .before .before .before .before .before .before .before .before .before .args .book .now)
 flag-fits c =
     let t = c .before .before .before .before in
-    omega (arith, settled-fits t, row-fits (c .before .loop2 .a) (t .before .before .before .before .before .args .n) accountWords (c .loop2-test .taken))
+    let k = t .before .before .before .before .before in
+    omega (arith, settled-fits t, k .interval-length .ensures, row-fits (c .before .loop2 .a) (k .before .args .n) accountWords (c .loop2-test .taken))
 
 mul-flag : tie.Need-mul-flag Inv-loop μ-loop Inv-loop2 μ-loop2 Inv-search μ-search
 mul-flag c = omega (arith, flag-fits c)
@@ -174,15 +189,16 @@ search-again : tie.Need-search-again Inv-loop μ-loop Inv-loop2 μ-loop2 Inv-sea
 search-again c =
     let l = c .before .before .loop in
     let o = c .before .before .before .before in
-    let s = o .before .args in
+    let k = o .before .interval-length in
+    let s = o .before .before .args in
     let e : l .a ≡ s .n = omega arith in
-    let p = rw e at (l .inv .1) in (
+    let p = cells-at (s .book .now) (s .n) (s .today) (o .search .i) (s .n) (k .ensures) (rw e at (l .inv .1)) in (
       omega arith,
       ⊎-elim
           (λ w.
           let q : w .3 .a ≡ s .n = omega (arith, w .4 .left, w .3 .inv .0) in
           passed-due (s .book .now) (s .n) (s .today) (s .then) (s .due) (o .search .i) (o .search .inv .1) p (w .0 .taken)
-          (settled-residual (s .book .now) (s .n) _ (sym (w .1 .ensures) ∙ w .2 .left) (rw q at (w .3 .inv .1))))
+          (settled-at (s .book .now) (s .n) (s .then) (o .search .i) (k .ensures) (settled-residual (s .book .now) (s .n) _ (sym (w .1 .ensures) ∙ w .2 .left) (rw q at (w .3 .inv .1)))))
           (λ w. passed (s .book .now) (s .n) (s .today) (s .then) (s .due) (o .search .i) (o .search .inv .1) p (w .left))
           (c .if4 .came),
     )
@@ -196,9 +212,11 @@ returns-2 c =
     let t = c .before .before in
     let l = t .before .loop in
     let o = t .before .before .before in
-    let s = o .before .args in
+    let k = o .before .interval-length in
+    let s = o .before .before .args in
     let v = sym (c .before .zero-at .ensures) ∙ c .if2 .taken in
-    sym (stops-pair (s .book .now) (s .n) (s .today) (s .then) (s .due) (o .search .i) (o .search .inv .1) (l .a) (omega arith) (t .loop-test .taken) (l .inv .1) (pair-vesting (s .book .now) _ v))
+    sym (stops-pair (s .book .now) (s .n) (s .today) (s .then) (s .due) (o .search .i) (o .search .inv .1) (l .a) (omega arith) (t .loop-test .taken)
+    (cells-at (s .book .now) (s .n) (s .today) (o .search .i) (l .a) (k .ensures) (l .inv .1)) (pair-at (s .book .now) (s .n) (s .today) (o .search .i) (l .a) (k .ensures) (pair-vesting (s .book .now) _ v)))
 
 returns-3 : tie.Need-returns-3 Inv-loop μ-loop Inv-loop2 μ-loop2 Inv-search μ-search
 returns-3 c =
@@ -206,20 +224,24 @@ returns-3 c =
     let t = f .before .before in
     let l = t .before .loop in
     let o = t .before .before .before in
-    let s = o .before .args in
+    let k = o .before .interval-length in
+    let s = o .before .before .args in
     let v = sym (f .before .zero-at .ensures) ∙ f .if2 .left in
     let m = sym (c .before .zero-at2 .ensures) ∙ c .if3 .taken in
-    sym (stops-pair (s .book .now) (s .n) (s .today) (s .then) (s .due) (o .search .i) (o .search .inv .1) (l .a) (omega arith) (t .loop-test .taken) (l .inv .1) (pair-meter (s .book .now) _ v m))
+    sym (stops-pair (s .book .now) (s .n) (s .today) (s .then) (s .due) (o .search .i) (o .search .inv .1) (l .a) (omega arith) (t .loop-test .taken)
+    (cells-at (s .book .now) (s .n) (s .today) (o .search .i) (l .a) (k .ensures) (l .inv .1)) (pair-at (s .book .now) (s .n) (s .today) (o .search .i) (l .a) (k .ensures) (pair-meter (s .book .now) _ v m)))
 
 returns-4 : tie.Need-returns-4 Inv-loop μ-loop Inv-loop2 μ-loop2 Inv-search μ-search
 returns-4 c =
     let d = c .before .before in
     let l = d .before .before .loop in
     let o = d .before .before .before .before in
-    let s = o .before .args in
+    let k = o .before .interval-length in
+    let s = o .before .before .args in
     let e : l .a ≡ s .n = omega arith in
     let v = sym (c .before .zero-at3 .ensures) ∙ c .if5 .taken in
-    sym (stops-settled (s .book .now) (s .n) (s .today) (s .then) (s .due) (o .search .i) (o .search .inv .1) (omega arith) (rw e at (l .inv .1)) (d .if4 .taken) (settled-ncc (s .book .now) (s .n) _ v))
+    sym (stops-settled (s .book .now) (s .n) (s .today) (s .then) (s .due) (o .search .i) (o .search .inv .1) (omega arith)
+    (cells-at (s .book .now) (s .n) (s .today) (o .search .i) (s .n) (k .ensures) (rw e at (l .inv .1))) (d .if4 .taken) (settled-at (s .book .now) (s .n) (s .then) (o .search .i) (k .ensures) (settled-ncc (s .book .now) (s .n) _ v)))
 
 returns-5 : tie.Need-returns-5 Inv-loop μ-loop Inv-loop2 μ-loop2 Inv-search μ-search
 returns-5 c =
@@ -229,13 +251,15 @@ returns-5 c =
     let d = f .before .before in
     let l = d .before .before .loop in
     let o = d .before .before .before .before in
-    let s = o .before .args in
+    let k = o .before .interval-length in
+    let s = o .before .before .args in
     let e : l .a ≡ s .n = omega arith in
     let v = sym (f .before .zero-at3 .ensures) ∙ f .if5 .left in
     let r = absent-here (s .book .now) _ (sym (c .before .zero-at4 .ensures) ∙ c .if6 .taken) in
     sym
-    (stops-settled (s .book .now) (s .n) (s .today) (s .then) (s .due) (o .search .i) (o .search .inv .1) (omega arith) (rw e at (l .inv .1)) (d .if4 .taken)
-    (settled-residual (s .book .now) (s .n) _ v (first-stops (s .n) _ (l2 .a) _ (t .loop2-test .taken) (l2 .inv .1) r)))
+    (stops-settled (s .book .now) (s .n) (s .today) (s .then) (s .due) (o .search .i) (o .search .inv .1) (omega arith)
+    (cells-at (s .book .now) (s .n) (s .today) (o .search .i) (s .n) (k .ensures) (rw e at (l .inv .1))) (d .if4 .taken)
+    (settled-at (s .book .now) (s .n) (s .then) (o .search .i) (k .ensures) (settled-residual (s .book .now) (s .n) _ v (first-stops (s .n) _ (l2 .a) _ (t .loop2-test .taken) (l2 .inv .1) r))))
 
 pub first-absent-spec : {M : Type 1} → statement M
 first-absent-spec =
@@ -247,8 +271,7 @@ first-absent-spec =
     μ-loop2
     Inv-search
     μ-search
-    mul-size
-    add-size
+    interval-length-requires
     search-holds
     loop-holds
     mul-at
@@ -258,10 +281,10 @@ first-absent-spec =
     add-at-3
     add-zero-at
     zero-at-requires
-    add-t22
+    add-t21
     add-zero-at-2
     zero-at-requires-2
-    add-t24
+    add-t23
     add-a
     loop-less
     loop-again
@@ -269,7 +292,7 @@ first-absent-spec =
     add-at-4
     add-zero-at-3
     zero-at-requires-3
-    add-t27
+    add-t26
     loop2-holds
     mul-flag
     add-flag
