@@ -1,8 +1,9 @@
 -- A run on what was read, turn by turn: what the program promises of it, since no contract speaks of standard input. Assumes nothing.
 use mathlib.Core.Path.{_≡_}
-use mathlib.Core.Bool.{true}
+use mathlib.Core.Bool.{Bool, true, false}
+use mathlib.Core.Logic.{_⊎_}
 use mathlib.Core.List.{List}
-use Prim.Native.Nat.{ℕ}
+use Prim.Native.Nat.{ℕ, _≤_}
 use lib.IntN.{ℤ}
 use lib.ListN.{length, take, drop}
 use Rattle.console.specs.Input.{itemBytes}
@@ -16,6 +17,10 @@ SomeItem position read = itemBytes read ≡ read
 abbrev pub RestOf : List ℕ → ℕ → List ℕ → Type 0
 RestOf s position read = read ≡ drop position s
 
+-- more positions than any input has: a proved loop has to end
+abbrev pub farthest : ℕ
+farthest = 9000000000000000000
+
 module _ (Read : ℕ → List ℕ → Type 0) where
   -- the turns that a run reaches: the opening's; and while the last one says so, that of the bytes read, on what the last one handed on
   pub data Reached (book : List ℤ) (opening : List ℕ) : Turn → Type 0 where
@@ -28,6 +33,11 @@ module _ (Read : ℕ → List ℕ → Type 0) where
     pub reached : Reached book opening last
     pub bookLeft : bookAfter ≡ last .book
     pub printed : take (length (last .line)) lineAfter ≡ last .line
+
+  -- all of a run: where every line was written, it ended because nothing more was to be read
+  pub record Runs (book : List ℤ) (opening : List ℕ) (written : Bool) (bookAfter : List ℤ) (lineAfter : List ℕ) : Type 0 where
+    pub left : Leaves book opening bookAfter lineAfter
+    pub whole : written ≡ true → (left .last .more ≡ false) ⊎ (farthest ≤ left .last .position)
 
   -- and between two turns, with what the last one handed on
   pub record Stands (book : List ℤ) (opening : List ℕ) (r : Code·Turn) (bookNow : List ℤ) (lineNow : List ℕ) : Type 0 where

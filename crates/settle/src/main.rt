@@ -16,9 +16,9 @@ ghost use lib.ListN.{length, take};
 ghost use Rattle.console.specs.Input.{openingBytes, longestItem, itemBytes, WithinItem};
 ghost use Rattle.console.specs.Lines.{lineRoom};
 ghost use Rattle.interpreter.specs.Interpreter.{newWords};
-ghost use Rattle.interpreter.specs.Running.{SomeItem, Leaves, Steps};
+ghost use Rattle.interpreter.specs.Running.{SomeItem, Steps, Runs};
 
-// More positions than any input has: a proved loop has to end.
+// More positions than any input has (`farthest`): a proved loop has to end.
 const LIMIT: u64 = 9_000_000_000_000_000_000;
 
 // Reads on as far as the bytes at hand tell, and answers how many there are then.
@@ -56,15 +56,22 @@ fn step(book: &mut [i64], turn: Turn, bytes: &mut [u8], line: &mut [u8]) -> Turn
     perform(book, turn, &bytes[..got], line)
 }
 
-// The opening, and then item after item while the last one says so.
-fn run(book: &mut [i64], opening: &[u8], bytes: &mut [u8], line: &mut [u8])
+// The opening, and then item after item while the last one says so. Answers whether every line was written.
+fn run(book: &mut [i64], opening: &[u8], bytes: &mut [u8], line: &mut [u8]) -> bool
     requires { ⌜ (now book ≡ newWords) × (length (now opening) ≤ openingBytes) × (longestItem ≤ length (now bytes)) × (lineRoom ≤ length (now line)) ⌝ }
-    ensures { λ _. ⌜ Leaves SomeItem newWords (now (opening .entry)) (now (book .exit)) (now (line .exit)) ⌝ }
+    ensures { λ written. ⌜ Runs SomeItem newWords (now (opening .entry)) written (now (book .exit)) (now (line .exit)) ⌝ }
 {
     let mut turn = begin(book, opening, line);
-    while print(line, turn.end) && turn.more && turn.position < LIMIT {
+    while print(line, turn.end) {
+        if !turn.more {
+            return true;
+        }
+        if LIMIT <= turn.position {
+            return true;
+        }
         turn = step(book, turn, bytes, line);
     }
+    false
 }
 
 fn main() {
