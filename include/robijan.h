@@ -150,7 +150,7 @@ robijan_answer robijan_submit(int64_t *book, size_t book_words, const uint8_t *f
  * Refused: 3, 9, 10, 11. */
 robijan_close_answer robijan_close(int64_t *book, size_t book_words, int64_t *statement, size_t statement_words);
 
-/* 0 for a well-formed book, as every call leaves it; else 3. The other calls ask this themselves. */
+/* 0 for a well-formed book, as every accepted call leaves it; else 3. The other calls ask this themselves. */
 uint64_t robijan_judge(const int64_t *book, size_t book_words);
 
 /* ---- Reference price, shares, tranches: no book */

@@ -15,19 +15,23 @@ BEGIN {
 
 function exists(p) { return system("test -e '" p "'") == 0 }
 
-# the file of a name, a crate's folder; of several files the one in the crate that the row has named last
-function file_of(name,    n, i, candidate) {
+# the file of a name, a crate's folder; of several files the one that the row's last name stands in, else one in the crate that the row has
+# named last, else one in the section's own crates
+function file_of(name,    n, i, k, m, candidate, home) {
     if (name in crates) return "crates/" name
     n = split(path[name] others[name], candidate, "\t")
-    for (i = 1; i <= n; i++) if (crate != "" && index(candidate[i], "crates/" crate "/") == 1) return candidate[i]
+    for (i = 1; i <= n; i++) if (candidate[i] == last) return candidate[i]
+    m = split(crate " " homes, home, " ")
+    for (k = 1; k <= m; k++) for (i = 1; i <= n; i++) if (index(candidate[i], "crates/" home[k] "/") == 1) return candidate[i]
     return candidate[1]
 }
 
 # the text of a link that stands here already is taken, its address is made anew
 {
-    if ($0 ~ /^<!-- names of crate /) { crate = $0; sub(/^<!-- names of crate /, "", crate); sub(/ -->.*/, "", crate); home = crate }
-    else if ($0 ~ /^## /) home = ""
-    crate = home
+    if ($0 ~ /^<!-- names of /) { homes = $0; sub(/^<!-- names of /, "", homes); sub(/ -->.*/, "", homes) }
+    else if ($0 ~ /^## /) homes = ""
+    crate = ""
+    last = ""
     rest = $0
     gsub(/\]\(\.\.\/crates\/[^)]*\)/, "]", rest)
     out = ""
@@ -51,7 +55,8 @@ function file_of(name,    n, i, candidate) {
         } else if (name in path) {
             if (name in crates) crate = name
             else if (name ~ /::/) { crate = name; sub(/::.*/, "", crate) }
-            out = out "[" shown "](../" file_of(name) ")"
+            last = file_of(name)
+            out = out "[" shown "](../" last ")"
         } else {
             print name > "/dev/stderr"
             out = out token

@@ -155,7 +155,7 @@ pub fn close(book: &mut [i64], statement: &mut [i64]) -> Result<Closed, Refusal>
     told(answer.number, answer.position, closed)
 }
 
-/// Are these words a well-formed book, as every call leaves one? The other calls ask this themselves.
+/// Are these words a well-formed book, as every accepted call leaves one? The other calls ask this themselves.
 ///
 /// ```
 /// let mut book = vec![0; 5_072];

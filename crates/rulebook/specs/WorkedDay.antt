@@ -5,7 +5,7 @@
 --     R = 600 − 190 − 200 = 210, UEGQ 300 and 100, S = 400: shares 157.5 and 52.5, rounded down 157 and 52.
 --     Account 0: MQ 180 leaves 80 for tranche 1, 77 go to tranche 2: −1000 × 80 − 2000 × 77 = −234,000 thousandths.
 --     Account 1: MQ 400 leaves 200, all 52 go to tranche 1: −83 × 52 = −4,316.
---   interval 20: load 1000. Account 0: BVQ 460. Account 1: a tender of 15. R = 1000 − 460 − 15 = 525 is above S = 40 + 25: shares 40 and 25, in full.
+--   interval 20: load 1000. Account 0: BVQ 460. Account 1: its base contract gives nothing here, a tender 15. R = 1000 − 460 − 15 = 525 is above S = 40 + 25: shares 40 and 25, in full.
 --     Account 0: V 9500, MQ 490 leaves 30: tranches 30 and 10, 100 × 30 − 200 × 10 = 1,000.
 --     Account 1: V 700 (an IEQ below zero has no weight), MQ 10: tranches 10 and 15, −50 × 10 + 20 × 15 = −200.
 --   interval 47: load 58. Account 0: BVQ 30. Account 1: no base contract, a tender of 8.

@@ -1,0 +1,84 @@
+//! Each number of the bindings by an input that it is for, document 01's example where there is one.
+
+use robijan::*;
+
+fn refused<T: std::fmt::Debug>(answer: Result<T, Refusal>) -> (u64, u64) {
+    let refusal = answer.unwrap_err();
+    (refusal.number, refusal.position)
+}
+
+/// A book of two accounts, lag and horizon 1, from this day on.
+fn book(first: usize) -> Vec<i64> {
+    let mut book = vec![0; 5_072];
+    open(&mut book, 2, 1, 1, first).unwrap();
+    book
+}
+
+/// A count of rows, then rows of account 0 without values but zeros: account, day, tranches or facilities, 48 pairs.
+fn rows(count: u8, day: u16, given: u8) -> Vec<u8> {
+    let mut bytes = vec![count, 0];
+    for _ in 0..count {
+        bytes.push(0);
+        bytes.extend(day.to_le_bytes());
+        bytes.push(given);
+        bytes.extend([0; 48 * 8]);
+    }
+    bytes
+}
+
+#[test]
+fn opening() {
+    assert_eq!(numbers::ACCEPTED, 0);
+    let mut words = vec![0; 5_072];
+    assert_eq!(refused(open(&mut words, 0, 1, 1, 9_497)), (1, 0));
+    assert_eq!(numbers::OUTSIDE_RANGE, 1);
+    assert_eq!(refused(open(&mut words[1..], 2, 1, 1, 9_497)), (2, 0));
+    assert_eq!(numbers::WORDS_TOO_FEW, 2);
+}
+
+#[test]
+fn submission() {
+    let mut book = book(9_497);
+    assert_eq!(refused(submit(&mut book, &[0; 7])), (4, 6));
+    assert_eq!(numbers::FIELD_NOT_WHOLE, 4);
+    assert_eq!(refused(submit(&mut book, &[1, 0, 2])), (5, 2));
+    assert_eq!(numbers::FIELD_OUT_OF_RANGE, 5);
+    assert_eq!(refused(submit(&mut book, &[1, 0, 0, 0x1A, 0x25])), (6, 3));
+    assert_eq!(numbers::DAY_NOT_OPEN, 6);
+    assert_eq!(refused(submit(&mut book, &rows(2, 9_497, 0))), (7, 391));
+    assert_eq!(numbers::ROW_REPEATED, 7);
+    assert_eq!(refused(submit(&mut book, &[0; 9])), (8, 8));
+    assert_eq!(numbers::BYTES_AFTER_END, 8);
+    book[0] = 394;
+    assert_eq!(refused(submit(&mut book, &[0; 8])), (3, 0));
+    assert_eq!(numbers::NOT_WELL_FORMED, 3);
+}
+
+#[test]
+fn closing() {
+    let mut two = book(9_497);
+    assert_eq!(refused(close(&mut two, &mut [0; 2])), (10, 0));
+    assert_eq!(numbers::OUTPUT_TOO_SHORT, 10);
+    assert_eq!(refused(close(&mut two, &mut [0; 3])), (11, 84));
+    assert_eq!(numbers::DATUM_ABSENT, 11);
+
+    // One account's last day of all.
+    let mut one = vec![0; 2_760];
+    open(&mut one, 1, 1, 1, 36_524).unwrap();
+    let file = [rows(1, 36_524, 0), rows(1, 36_524, 1), vec![0; 4]].concat();
+    submit(&mut one, &file).unwrap();
+    let closed = close(&mut one, &mut [0; 2]).unwrap();
+    assert_eq!((closed.day, closed.residuals), (36_524, 0));
+    assert_eq!(refused(close(&mut one, &mut [0; 2])), (9, 0));
+    assert_eq!(numbers::BOOK_FINISHED, 9);
+}
+
+#[test]
+fn calendar() {
+    assert_eq!(refused(day(2026, 2, 29)), (12, 0));
+    assert_eq!(numbers::NO_SUCH_DATE, 12);
+    assert_eq!(refused(is_business_day(9_497, &[5, 5])), (13, 0));
+    assert_eq!(numbers::BAD_HOLIDAYS, 13);
+    assert_eq!(refused(statement_day(36_450)), (14, 0));
+    assert_eq!(numbers::PAST_LAST_DAY, 14);
+}

@@ -1,0 +1,159 @@
+/* include/robijan.h against the library: each number by an input that it is for, each answer's fields and each call's arguments by figures of
+ * document 01. A number, a field or an argument exchanged in the header is seen here. */
+#include <inttypes.h>
+#include <stdio.h>
+#include <stdlib.h>
+#include <string.h>
+
+#include "robijan.h"
+
+static int wrong;
+
+static void same(const char *what, int64_t wanted, int64_t got)
+{
+    if (wanted != got) {
+        printf("%s: wanted %" PRId64 ", got %" PRId64 "\n", what, wanted, got);
+        wrong = 1;
+    }
+}
+
+#define NUMBER(wanted, call) same(#wanted " of " #call, wanted, (int64_t)(call))
+
+enum { SIZE = 5072, FIRST = 9497 };
+
+static int64_t book[SIZE], statement[3], output[3];
+
+static robijan_answer opened(size_t words, size_t accounts, size_t first)
+{
+    return robijan_open(book, words, accounts, 1, 1, first);
+}
+
+static robijan_answer taken(const char *bytes, size_t length)
+{
+    return robijan_submit(book, SIZE, (const uint8_t *)bytes, length);
+}
+
+/* A row without tranches, all zeros, given twice: 2 + 2 * 388 bytes. */
+static robijan_answer taken_twice(void)
+{
+    static char file[2 + 2 * 388];
+    file[0] = 2;
+    memcpy(file + 2, "\x00\x19\x25\x00", 4);
+    memcpy(file + 2 + 388, "\x00\x19\x25\x00", 4);
+    return taken(file, sizeof file);
+}
+
+static void numbers_of_a_book(void)
+{
+    NUMBER(0, ROBIJAN_ACCEPTED);
+    NUMBER(ROBIJAN_OUTSIDE_RANGE, opened(SIZE, 0, FIRST).number);
+    NUMBER(1, ROBIJAN_OUTSIDE_RANGE);
+    NUMBER(ROBIJAN_WORDS_TOO_FEW, opened(SIZE - 1, 2, FIRST).number);
+    NUMBER(2, ROBIJAN_WORDS_TOO_FEW);
+    NUMBER(ROBIJAN_ACCEPTED, opened(SIZE, 2, 36524).number);
+    book[ROBIJAN_WORD_NEXT_DAY] = 36525;
+    NUMBER(ROBIJAN_NOT_WELL_FORMED, robijan_judge(book, SIZE)); /* a closed day without rows */
+    NUMBER(3, ROBIJAN_NOT_WELL_FORMED);
+
+    NUMBER(ROBIJAN_ACCEPTED, opened(SIZE, 2, FIRST).number);
+    NUMBER(ROBIJAN_FIELD_NOT_WHOLE, taken("\0\0\0\0\0\0\0", 7).number);
+    NUMBER(4, ROBIJAN_FIELD_NOT_WHOLE);
+    same("position of 4", 6, (int64_t)taken("\0\0\0\0\0\0\0", 7).position);
+    NUMBER(ROBIJAN_FIELD_OUT_OF_RANGE, taken("\1\0\2", 3).number);
+    NUMBER(5, ROBIJAN_FIELD_OUT_OF_RANGE);
+    same("position of 5", 2, (int64_t)taken("\1\0\2", 3).position);
+    NUMBER(ROBIJAN_DAY_NOT_OPEN, taken("\1\0\0\x1A\x25", 5).number);
+    NUMBER(6, ROBIJAN_DAY_NOT_OPEN);
+    NUMBER(ROBIJAN_ROW_REPEATED, taken_twice().number);
+    NUMBER(7, ROBIJAN_ROW_REPEATED);
+    same("position of 7", 391, (int64_t)taken_twice().position);
+    NUMBER(ROBIJAN_BYTES_AFTER_END, taken("\0\0\0\0\0\0\0\0\0", 9).number);
+    NUMBER(8, ROBIJAN_BYTES_AFTER_END);
+    NUMBER(ROBIJAN_ACCEPTED, taken("\0\0\0\0\0\0\0\0", 8).number);
+    NUMBER(ROBIJAN_OUTPUT_TOO_SHORT, robijan_close(book, SIZE, statement, 2).number);
+    NUMBER(10, ROBIJAN_OUTPUT_TOO_SHORT);
+    NUMBER(ROBIJAN_DATUM_ABSENT, robijan_close(book, SIZE, statement, 3).number);
+    NUMBER(11, ROBIJAN_DATUM_ABSENT);
+    same("position of 11", 84, (int64_t)robijan_close(book, SIZE, statement, 3).position);
+}
+
+/* One account's only day, closed; then the book is finished. */
+static void a_closed_book(void)
+{
+    static uint8_t file[784];
+    uint8_t *at = file;
+    memcpy(at, "\1\0\0\xAC\x8E\0", 6), at += 6; /* one vesting row of day 36,524 */
+    for (int i = 0; i < 48; i++, at += 8)
+        memcpy(at, "\x90\1\0\0\x98\x3A\0\0", 8); /* BVQ 400, BVP 15,000 */
+    memcpy(at, "\1\0\0\xAC\x8E\1", 6), at += 6; /* one meter row */
+    for (int i = 0; i < 48; i++, at += 8)
+        memcpy(at, "\x10\x27\0\0\3\0\0\0", 8); /* MEP 10,000, IEQ 3 */
+    NUMBER(ROBIJAN_ACCEPTED, robijan_open(book, SIZE, 1, 1, 1, 36524).number);
+    NUMBER(ROBIJAN_ACCEPTED, robijan_submit(book, SIZE, file, sizeof file).number);
+    robijan_close_answer closed = robijan_close(book, SIZE, statement, 2);
+    NUMBER(ROBIJAN_ACCEPTED, closed.number);
+    same("position of a close", 0, (int64_t)closed.position);
+    same("day closed", 36524, (int64_t)closed.day);
+    same("residuals settled", 0, (int64_t)closed.count);
+    same("account's amount", 96000, statement[0]);
+    same("MSSL's amount", -96000, statement[1]);
+    same("account's balance", 96000, book[ROBIJAN_WORD_BALANCE(0)]);
+    same("MSSL's balance", -96000, book[ROBIJAN_WORD_MSSL_BALANCE]);
+    same("next day", 36525, book[ROBIJAN_WORD_NEXT_DAY]);
+    same("accounts", 1, book[ROBIJAN_WORD_ACCOUNTS]);
+    NUMBER(ROBIJAN_BOOK_FINISHED, robijan_close(book, SIZE, statement, 2).number);
+    NUMBER(9, ROBIJAN_BOOK_FINISHED);
+    same("size's number and words", 5072, (int64_t)robijan_book_size(2, 1, 1).words);
+    same("lag and horizon by place", ROBIJAN_ACCEPTED, (int64_t)robijan_book_size(1, 1, 92).number);
+    same("lag of 92", ROBIJAN_OUTSIDE_RANGE, (int64_t)robijan_book_size(1, 92, 1).number);
+}
+
+static void rules(void)
+{
+    static const int64_t mep[] = {10000, 10001}, ieq[] = {3, 1}, uegq[] = {100, 200, 300};
+    same("price", 10000, robijan_price(mep, 2, ieq, 2).price);
+    NUMBER(ROBIJAN_OUTSIDE_RANGE, robijan_price(mep, 2, ieq, 1).number);
+    /* 2,000,000 is an injection and no price */
+    static const int64_t large[] = {2000000};
+    NUMBER(ROBIJAN_OUTSIDE_RANGE, robijan_price(large, 1, ieq, 1).number);
+    NUMBER(ROBIJAN_ACCEPTED, robijan_price(ieq, 1, large, 1).number);
+    NUMBER(ROBIJAN_ACCEPTED, robijan_share(300, uegq, 3, output, 3));
+    same("first share", 50, output[0]);
+    same("last share", 150, output[2]);
+    NUMBER(ROBIJAN_OUTPUT_TOO_SHORT, robijan_share(300, uegq, 3, output, 2));
+    robijan_tranche_answer tranches = robijan_tranche(150, 400, 490);
+    same("first tranche", 90, tranches.first);
+    same("second tranche", 60, tranches.second);
+}
+
+static void calendar(void)
+{
+    static const int64_t none[1], friday[] = {9575}, bad[] = {5, 5}; /* 20 March 2026 */
+    robijan_date_answer date = robijan_date(9554);
+    same("year", 2026, (int64_t)date.year);
+    same("month", 2, (int64_t)date.month);
+    same("day of the month", 27, (int64_t)date.day);
+    same("day", 9554, (int64_t)robijan_day(2026, 2, 27).day);
+    NUMBER(ROBIJAN_NO_SUCH_DATE, robijan_day(2026, 2, 29).number);
+    NUMBER(12, ROBIJAN_NO_SUCH_DATE);
+    same("weekday", 5, (int64_t)robijan_weekday(FIRST).weekday);
+    same("statement day", 9572, (int64_t)robijan_statement_day(FIRST).day);
+    same("business day", 1, (int64_t)robijan_business_day(9575, none, 0).business);
+    same("holiday", 0, (int64_t)robijan_business_day(9575, friday, 1).business);
+    NUMBER(ROBIJAN_BAD_HOLIDAYS, robijan_business_day(FIRST, bad, 2).number);
+    NUMBER(13, ROBIJAN_BAD_HOLIDAYS);
+    same("final statement", (int64_t)robijan_day(2026, 3, 31).day, (int64_t)robijan_final_statement(FIRST, none, 0).day);
+    same("final statement, a holiday", (int64_t)robijan_day(2026, 4, 1).day, (int64_t)robijan_final_statement(FIRST, friday, 1).day);
+    NUMBER(ROBIJAN_PAST_LAST_DAY, robijan_statement_day(36450).number);
+    NUMBER(14, ROBIJAN_PAST_LAST_DAY);
+    same("residual data due", (int64_t)robijan_day(2026, 3, 11).day, (int64_t)robijan_residual_due(2026, 1, none, 0).day);
+}
+
+int main(void)
+{
+    numbers_of_a_book();
+    a_closed_book();
+    rules();
+    calendar();
+    return wrong;
+}
