@@ -28,7 +28,7 @@ use Rattle.rulebook.specs.File.{Row}
 use Rattle.rulebook.specs.Close.{firstMissing, settled, closed, posted, postedToMssl, residualCount, dayClosed, closeRefused, Closing}
 use Rattle.rulebook.specs.Numbers.{ofClose}
 use Rattle.rulebook.specs.History.{latest, close, Event, closes, inForce, acceptedRows, lastFor, formulaBalance, formulaAmount, residualCounts, closingDay, dataInForce}
-use Rattle.rulebook.specs.Demand3.{vestingOf, meterOf}
+use Rattle.rulebook.specs.Demand3.{vestingOf, meterOf, Missing}
 use Rattle.rulebook.specs.Ledger.{entriesIn, entryOf, State}
 use Rattle.rulebook.specs.AmountLaws.{Agree, posted-same}
 use Rattle.rulebook.specs.RowWordLaws.{flag-inside}
@@ -41,7 +41,7 @@ use Rattle.rulebook.specs.FigureLaws.{rows-ranged, data-agree, rows-agre
 use Rattle.rulebook.specs.CloseLaws.{day-held}
 use Rattle.rulebook.specs.SearchLaws.{all-there, some-missing, today, back}
 use Rattle.rulebook.specs.StepLaws.{day-kept}
-use Rattle.rulebook.specs.StateLaws.{formed, terms, next}
+use Rattle.rulebook.specs.StateLaws.{unchanged, formed, terms, next}
 
 -- a close of D, by whether no day is left, whether there is no room, and what the search found
 abbrev pub closedBy : Terms → List ℤ → ℕ → List ℤ → Bool → Bool → Found → Closing
@@ -51,43 +51,19 @@ module _ (o : Terms) (t : InTerms o) (past : List Event) (w : List ℤ) (h : Sta
   -- refused with 9, 10 or 11: nothing changes
   finished : (st : List ℤ) → lastDay < closingDay o past → State o (record { call = close st; answer = ofClose Finished } ∷ past) w
   unfolding closes inForce acceptedRows formulaBalance residualCounts latest lastFor
-  finished st x = record {
-    holds = h .holds;
-    kept = h .kept;
-    counted = add-zero (residualCounts past) ∙ h .counted;
-    reported = ((λ y. absurd (omega arith), λ m. absurd (omega (arith, m .dayLeft))), h .reported);
-  }
+  finished st x = unchanged o past w h _ refl refl refl (add-zero (residualCounts past)) (λ y. absurd (omega arith), λ m. absurd (omega (arith, m .dayLeft)))
 
   cramped : (st : List ℤ) → length st < o .accounts + 1 → State o (record { call = close st; answer = ofClose NoRoom } ∷ past) w
   unfolding closes inForce acceptedRows formulaBalance residualCounts latest lastFor
-  cramped st x = record {
-    holds = h .holds;
-    kept = h .kept;
-    counted = add-zero (residualCounts past) ∙ h .counted;
-    reported = ((λ y. absurd (omega arith), λ m. absurd (omega (arith, m .room))), h .reported);
-  }
+  cramped st x = unchanged o past w h _ refl refl refl (add-zero (residualCounts past)) (λ y. absurd (omega arith), λ m. absurd (omega (arith, m .room)))
 
   missed : (st : List ℤ) (n : ℕ) → closingDay o past ≤ lastDay → o .accounts + 1 ≤ length st → firstMissing o w (closingDay o past) ≡ At n
       → State o (record { call = close st; answer = ofClose (DatumMissing n) } ∷ past) w
   unfolding closes inForce acceptedRows formulaBalance residualCounts latest lastFor
   missed st n left room e =
       let m = some-missing o t (closes past) (inForce past) (formulaBalance o past) (negℤ (sumℤ (o .accounts) (formulaBalance o past))) w (h .holds) (h .kept) n e in
-      record {
-        holds = h .holds;
-        kept = h .kept;
-        counted = add-zero (residualCounts past) ∙ h .counted;
-        reported = (
-          (
-            λ y. record {
-              dayLeft = left;
-              room = room;
-              missing = record { section = m .section; account = m .account; day = m .day; needed = m .needed; absent = m .absent };
-            },
-            λ y. refl,
-          ),
-          h .reported,
-        );
-      }
+      let lacking : Missing o past = record { section = m .section; account = m .account; day = m .day; needed = m .needed; absent = m .absent } in
+      unchanged o past w h _ refl refl refl (add-zero (residualCounts past)) (λ y. record { dayLeft = left; room = room; missing = lacking }, λ y. refl)
 
   -- accepted
   now : InWindow o (closes past) (closingDay o past)

@@ -19,6 +19,7 @@ use Rattle.rulebook.specs.declared.Verdict.{Verdict}
 use Rattle.rulebook.specs.declared.Verdict.the-variants.{Accepted, Refused}
 use Rattle.rulebook.specs.declared.SubmitAnswer.{SubmitAnswer}
 use Rattle.rulebook.specs.declared.CloseAnswer.{CloseAnswer}
+use Rattle.rulebook.specs.declared.CloseAnswer.the-variants.{Finished, NoRoom, DatumMissing}
 use Rattle.rulebook.specs.Units.{lastDay}
 use Rattle.rulebook.specs.DayAmount.{msslAmount}
 use Rattle.rulebook.specs.Terms.{InTerms}
@@ -26,8 +27,8 @@ use Rattle.rulebook.specs.Layout.{size}
 use Rattle.rulebook.specs.File.{fileRows}
 use Rattle.rulebook.specs.Judging.{limitsOf, judged}
 use Rattle.rulebook.specs.Submit.{Submission, submitted, taken}
-use Rattle.rulebook.specs.Close.{Closing, closed, settled, posted, postedToMssl, residualCount, firstMissing}
-use Rattle.rulebook.specs.Numbers.{notWellFormed, whyNumber, ofVerdict, ofSubmit, ofClose}
+use Rattle.rulebook.specs.Close.{Closing, closeRefused, closed, settled, posted, postedToMssl, residualCount, firstMissing}
+use Rattle.rulebook.specs.Numbers.{accepted, notWellFormed, whyNumber, ofVerdict, ofSubmit, ofClose}
 use Rattle.rulebook.specs.History.{Event, closes, inForce, formulaBalance, closingDay, formulaAmount}
 use Rattle.rulebook.specs.Promises.{SubmitPromise, ClosePromise, Run, begun, thenSubmit, thenClose}
 use Rattle.rulebook.specs.Companion.{firstLacking, searchTold, closeTold, SubmitTells, CloseTells, EachTold, CompanionHolds}
@@ -77,6 +78,19 @@ module _ (o : Terms) (t : InTerms o) (past : List Event) (w : List ℤ) (h : Sta
   abbrev Tells : List ℤ → Closing → Type 0
   Tells st r = CloseTells o past w st (ofClose (r .answer)) (r .words) (r .statement)
 
+  -- a refused close leaves book and statement as they were
+  refused-tells : (st : List ℤ) (answer : CloseAnswer) → ofClose answer ≡ closeTold o past st → ofClose answer .number ≢ notWellFormed → ofClose answer .number ≢ accepted
+      → Tells st (closeRefused w st answer)
+  refused-tells st answer told formed refused = record {
+    answered = told;
+    wellFormed = formed;
+    refused = λ x. (refl, refl);
+    amounts = λ x. absurd (refused x);
+    mssl = λ x. absurd (refused x);
+    beyond = kept-all (size o) w;
+    statementBeyond = kept-all (o .accounts + 1) st;
+  }
+
   settled-by : (st : List ℤ) → o .accounts + 1 ≤ length st → (x : Found) → closeTold o past st ≡ searchTold o past x → Tells st (settled o w (closingDay o past) st x)
   unfolding settled residualCount
   settled-by st room Nothing e = record {
@@ -91,37 +105,13 @@ module _ (o : Terms) (t : InTerms o) (past : List Event) (w : List ℤ) (h : Sta
     where
       mssl-is : postedToMssl o w (closingDay o past) ≡ negℤ (sumℤ (o .accounts) (formulaAmount o past))
       mssl-is = unfold postedToMssl posted msslAmount in ap negℤ (sumℤ-cong (o .accounts) (posted o w (closingDay o past)) (formulaAmount o past) (amount-same o t past w h))
-  settled-by st room (At n) e = record {
-    answered = sym e;
-    wellFormed = λ x. omega arith;
-    refused = λ x. (refl, refl);
-    amounts = λ x. absurd (omega arith);
-    mssl = λ x. absurd (omega arith);
-    beyond = kept-all (size o) w;
-    statementBeyond = kept-all (o .accounts + 1) st;
-  }
+  settled-by st room (At n) e = refused-tells st (DatumMissing n) (sym e) (λ x. omega arith) (λ x. omega arith)
 
   close-by : (st : List ℤ) (a b : Bool) → ltb lastDay (closingDay o past) ≡ a → ltb (length st) (o .accounts + 1) ≡ b
       → Tells st (closedBy o w (closingDay o past) st a b (firstMissing o w (closingDay o past)))
   unfolding closeTold
-  close-by st true b x y = record {
-    answered = rw x refl;
-    wellFormed = λ z. omega arith;
-    refused = λ z. (refl, refl);
-    amounts = λ z. absurd (omega arith);
-    mssl = λ z. absurd (omega arith);
-    beyond = kept-all (size o) w;
-    statementBeyond = kept-all (o .accounts + 1) st;
-  }
-  close-by st false true x y = record {
-    answered = rw (x, y) refl;
-    wellFormed = λ z. omega arith;
-    refused = λ z. (refl, refl);
-    amounts = λ z. absurd (omega arith);
-    mssl = λ z. absurd (omega arith);
-    beyond = kept-all (size o) w;
-    statementBeyond = kept-all (o .accounts + 1) st;
-  }
+  close-by st true b x y = refused-tells st Finished (rw x refl) (λ z. omega arith) (λ z. omega arith)
+  close-by st false true x y = refused-tells st NoRoom (rw (x, y) refl) (λ z. omega arith) (λ z. omega arith)
   close-by st false false x y =
       settled-by st (nltb→le (length st) (o .accounts + 1) (subst (λ (b : Bool). T (not b)) (sym y) tt)) (firstMissing o w (closingDay o past)) (rw (x, y, lacking-is) refl)
 

@@ -102,60 +102,30 @@ pub record Check : Type 0 where
   pub number : ℕ
   pub holds : Bool
 
+-- the same, at a field to be named
+infixl 70 _strikesIf_
+abbrev pub _strikesIf_ : ℕ → Bool → Field → Check
+(number strikesIf condition) f = record { field = f; number = number; holds = condition }
+
 module _ (o : Terms) (C : ℕ) (s : List ℕ) where
-  -- 4: field or count not whole
+  -- 4, of every field: field or count not whole
   abbrev pub notWhole : Field → Bool
   notWhole f = ltb (length s) (start f + fieldBytes f)
 
-  -- 5: account, count or value out of range: accounts from N on, more than 3 tranches, other than 1 to 4 facilities, a figure outside its range
-  abbrev pub outOfRange : Field → Bool
-  outOfRange (RowCount at) = false
-  outOfRange (Account at) = leb (o .accounts) (num 1 s at)
-  outOfRange (Day sec rows i at) = false
-  outOfRange (TrancheCount at) = ltb 3 (num 1 s at)
-  outOfRange (FacilityCount at) = ltb (num 1 s at) 1 || ltb 4 (num 1 s at)
-  outOfRange (Value g at) = ltZ (valueAt s at) (least g) || ltZ (most g) (valueAt s at)
-  outOfRange (EndOfFile at) = false
-
-  -- 6: day not open, or above 36,524
-  abbrev pub notOpen : Field → Bool
-  notOpen (RowCount at) = false
-  notOpen (Account at) = false
-  notOpen (Day sec rows i at) = shut o C sec (num 2 s at)
-  notOpen (TrancheCount at) = false
-  notOpen (FacilityCount at) = false
-  notOpen (Value g at) = false
-  notOpen (EndOfFile at) = false
-
-  -- 7: row repeated in its section
-  abbrev pub repeated : Field → Bool
-  repeated (RowCount at) = false
-  repeated (Account at) = false
-  repeated (Day sec rows i at) = any i (λ j. sameKey (rows j) (rows i))
-  repeated (TrancheCount at) = false
-  repeated (FacilityCount at) = false
-  repeated (Value g at) = false
-  repeated (EndOfFile at) = false
-
-  -- 8: bytes after section 4
-  abbrev pub excess : Field → Bool
-  excess (RowCount at) = false
-  excess (Account at) = false
-  excess (Day sec rows i at) = false
-  excess (TrancheCount at) = false
-  excess (FacilityCount at) = false
-  excess (Value g at) = false
-  excess (EndOfFile at) = ltb at (length s)
+  -- 5 to 8 by the kind of field, in order. 5: accounts from N on, more than 3 tranches, other than 1 to 4 facilities, a figure outside its range;
+  -- 6: day not open, or above 36,524; 7: row repeated in its section; 8: bytes after section 4
+  abbrev pub conditions : Field → List (Field → Check)
+  conditions (RowCount at) = []
+  conditions (Account at) = fieldOutOfRange strikesIf leb (o .accounts) (num 1 s at) ∷ []
+  conditions (Day sec rows i at) = dayNotOpen strikesIf shut o C sec (num 2 s at) ∷ rowRepeated strikesIf any i (λ j. sameKey (rows j) (rows i)) ∷ []
+  conditions (TrancheCount at) = fieldOutOfRange strikesIf ltb 3 (num 1 s at) ∷ []
+  conditions (FacilityCount at) = fieldOutOfRange strikesIf (ltb (num 1 s at) 1 || ltb 4 (num 1 s at)) ∷ []
+  conditions (Value g at) = fieldOutOfRange strikesIf (ltZ (valueAt s at) (least g) || ltZ (most g) (valueAt s at)) ∷ []
+  conditions (EndOfFile at) = bytesAfterEnd strikesIf ltb at (length s) ∷ []
 
   -- the checks of a field: "whole, in range, day open, row not yet given; then the end"
   abbrev pub checksOf : Field → List Check
-  checksOf f =
-      record { field = f; number = fieldNotWhole; holds = notWhole f }
-      ∷ record { field = f; number = fieldOutOfRange; holds = outOfRange f }
-      ∷ record { field = f; number = dayNotOpen; holds = notOpen f }
-      ∷ record { field = f; number = rowRepeated; holds = repeated f }
-      ∷ record { field = f; number = bytesAfterEnd; holds = excess f }
-      ∷ []
+  checksOf f = (fieldNotWhole strikesIf notWhole f) f ∷ map (λ c. c f) (conditions f)
 
   -- those of the file, in file order
   abbrev pub checks : List Check

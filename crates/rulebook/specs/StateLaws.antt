@@ -1,12 +1,10 @@
 -- Each submission keeps what is true of a book after a history. Assumes nothing.
-use mathlib.Core.Path.{_≡_, refl, sym, ap, _∙_, subst}
+use mathlib.Core.Path.{_≡_, refl, sym, ap, _∙_, subst, fun-ext}
 use mathlib.Core.Bool.{Bool, true, false, cond}
 use mathlib.Core.List.{List, [], _∷_}
-use mathlib.Core.Option.{Option}
 use Prim.Native.Nat.{ℕ, _-_}
 use lib.IntN.{ℤ}
 use lib.Dec.{eqb}
-use Rattle.rulebook.specs.declared.Section.{Section}
 use Rattle.rulebook.specs.declared.Terms.{Terms}
 use Rattle.rulebook.specs.declared.Limits.{Limits}
 use Rattle.rulebook.specs.declared.Why.{Why}
@@ -17,12 +15,13 @@ use Rattle.rulebook.specs.declared.SubmitAnswer.the-variants.{FileRefuse
 use Rattle.rulebook.specs.Terms.{InTerms}
 use Rattle.rulebook.specs.BookData.{termsOf, nextDay}
 use Rattle.rulebook.specs.WellFormed.{wellFormed}
-use Rattle.rulebook.specs.File.{Row, fileRows}
+use Rattle.rulebook.specs.File.{fileRows}
 use Rattle.rulebook.specs.Judging.{limitsOf, judged}
 use Rattle.rulebook.specs.Submit.{taken, submitted, Submission}
 use Rattle.rulebook.specs.Numbers.{whyNumber, accepted, ofSubmit}
 use Rattle.rulebook.specs.History.{latest, submit, Event, closes, inForce, acceptedRows, lastFor, formulaBalance, residualCounts, closingDay}
-use Rattle.rulebook.specs.Ledger.{entryOf, ledgerAfter, State}
+use Rattle.rulebook.specs.Demand3.{Reported}
+use Rattle.rulebook.specs.Ledger.{ledgerAfter, State}
 use Rattle.rulebook.specs.TestLaws.{T-path}
 use Rattle.rulebook.specs.LedgerLaws.{held-same, rows-held}
 use Rattle.rulebook.specs.SoundLaws.{file-sound}
@@ -35,6 +34,16 @@ never-accepted OutOfRange = refl
 never-accepted DayNotOpen = refl
 never-accepted Repeated = refl
 never-accepted Excess = refl
+
+-- a call that leaves the book, and of which the history tells nothing new but its answer
+pub unchanged : (o : Terms) (past : List Event) (w : List ℤ) → State o past w → (e : Event) → closes (e ∷ past) ≡ closes past → inForce (e ∷ past) ≡ inForce past
+    → formulaBalance o (e ∷ past) ≡ formulaBalance o past → residualCounts (e ∷ past) ≡ residualCounts past → Reported o (e .call) (e .answer) past → State o (e ∷ past) w
+unchanged o past w h e closed rows balance counts reported = record {
+  holds = rw (closed, rows, balance) (h .holds);
+  kept = rw (closed, rows, balance) (h .kept);
+  counted = rw (closed, counts) (h .counted);
+  reported = (reported, h .reported);
+}
 
 module _ (o : Terms) (t : InTerms o) (past : List Event) (w : List ℤ) (h : State o past w) where
   fit : Fit o (ledgerAfter o past)
@@ -67,15 +76,10 @@ module _ (o : Terms) (t : InTerms o) (past : List Event) (w : List ℤ) (h : Sta
         counted = h .counted;
         reported = (tt, h .reported);
       }
-  submit-done file (Refused why at) e = record {
-    holds = held-same refl (λ s a d i j. ap (λ (x : Option Row). entryOf x i j) (same s a d)) (λ a ha. refl) refl (h .holds);
-    kept = kept-same same (h .kept);
-    counted = h .counted;
-    reported = (tt, h .reported);
-  }
+  submit-done file (Refused why at) e = unchanged o past w h _ refl same refl refl tt
     where
-      same : (s : Section) (a d : ℕ) → inForce past s a d ≡ inForce (record { call = submit file; answer = ofSubmit (FileRefused why at) } ∷ past) s a d
-      same s a d = ap (λ (b : Bool). latest (lastFor (cond b (fileRows file) []) s a d) (inForce past s a d)) (sym (never-accepted why))
+      same : inForce (record { call = submit file; answer = ofSubmit (FileRefused why at) } ∷ past) ≡ inForce past
+      same = fun-ext (λ s. fun-ext (λ a. fun-ext (λ d. ap (λ (b : Bool). latest (lastFor (cond b (fileRows file) []) s a d) (inForce past s a d)) (never-accepted why))))
 
   pub submit-step : (file : List ℕ) → State o (record { call = submit file; answer = ofSubmit (submitted w file .answer) } ∷ past) (submitted w file .words)
   submit-step file = subst (λ (r : Submission). State o (record { call = submit file; answer = ofSubmit (r .answer) } ∷ past) (r .words)) (sym (submit-is file))

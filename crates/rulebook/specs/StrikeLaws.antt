@@ -6,6 +6,7 @@ use mathlib.Core.Logic.{_↔_}
 use Prim.Native.Nat.{ℕ, _<_}
 use native.Mathlib.Omega.{arith}
 use Rattle.integer.specs.Below.{Each}
+use Rattle.integer.specs.BelowLaws.{each-append}
 use Rattle.rulebook.specs.declared.Terms.{Terms}
 use Rattle.rulebook.specs.declared.Why.{Why}
 use Rattle.rulebook.specs.declared.Why.the-variants.{NotWhole, OutOfRange, DayNotOpen, Repeated, Excess}
@@ -14,7 +15,7 @@ use Rattle.rulebook.specs.declared.Verdict.the-variants.{Accepted, Refus
 use Rattle.rulebook.specs.Terms.{InTerms}
 use Rattle.rulebook.specs.Judging.{limitsOf, judged}
 use Rattle.rulebook.specs.Numbers.{Answer, accepted, numbered, whyNumber, ofVerdict}
-use Rattle.rulebook.specs.FileTable.{Field, start, fieldsOf, Check, checksOf, checks, NoneStrikes, FirstStrikes}
+use Rattle.rulebook.specs.FileTable.{Field, RowCount, Account, Day, TrancheCount, FacilityCount, Value, EndOfFile, start, fieldsOf, Check, checksOf, checks, NoneStrikes, FirstStrikes}
 use Rattle.rulebook.specs.FieldVerdictLaws.{toldOr, firstOr, fields-told}
 use Rattle.rulebook.specs.TableLaws.{judged-verdicts}
 
@@ -80,10 +81,19 @@ module _ (o : Terms) (terms : InTerms o) (C : ℕ) (s : List ℕ) where
       ∙ ap (λ v. toldOr v (numbered accepted 0)) (sym (judged-verdicts o C s))
       ∙ told-is (judged (limitsOf o C) s)
 
+  field-numbered : (f : Field) → Each (λ c. 0 < c .number) (checksOf o C s f)
+  field-numbered (RowCount at) = (omega arith, tt)
+  field-numbered (Account at) = (omega arith, (omega arith, tt))
+  field-numbered (Day sec rows i at) = (omega arith, (omega arith, (omega arith, tt)))
+  field-numbered (TrancheCount at) = (omega arith, (omega arith, tt))
+  field-numbered (FacilityCount at) = (omega arith, (omega arith, tt))
+  field-numbered (Value g at) = (omega arith, (omega arith, tt))
+  field-numbered (EndOfFile at) = (omega arith, (omega arith, tt))
+
   all-numbered : (fs : List Field) → Each (λ c. 0 < c .number) (flatMap (checksOf o C s) fs)
   unfolding flatMap
   all-numbered [] = tt
-  all-numbered (f ∷ fs) = (omega arith, (omega arith, (omega arith, (omega arith, (omega arith, all-numbered fs)))))
+  all-numbered (f ∷ fs) = each-append (λ c. 0 < c .number) (checksOf o C s f) (flatMap (checksOf o C s) fs) (field-numbered f) (all-numbered fs)
 
   pub refused-exactly : (n p : ℕ) → 0 < n → (ofVerdict (judged (limitsOf o C) s) ≡ numbered n p) ↔ FirstStrikes (checks o C s) n p
   refused-exactly n p h = (
