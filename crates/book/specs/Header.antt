@@ -6,10 +6,10 @@ use Rattle.integer.specs.Words.{word}
 use Rattle.rulebook.specs.Units.{lastDay, between}
 use Rattle.rulebook.specs.Shares.{mostAccounts}
 use Rattle.rulebook.specs.Terms.{mostLag, mostHorizon, earliestFirstDay}
-use Rattle.rulebook.specs.Layout.{mark, markWord, accountsWord, lagWord, horizonWord, firstDayWord}
+use Rattle.rulebook.specs.Layout.{bookMark, markWord, accountsWord, lagWord, horizonWord, firstDayWord}
 
 -- 395, N, L, H, F
 unfoldable pub termsWordsFit : List ℤ → Bool
-termsWordsFit w = between (pos mark) (pos mark) (word w markWord)
+termsWordsFit w = between (pos bookMark) (pos bookMark) (word w markWord)
     && between (pos 1) (pos mostAccounts) (word w accountsWord) && between (pos 1) (pos mostLag) (word w lagWord) && between (pos 1) (pos mostHorizon) (word w horizonWord)
     && between (pos earliestFirstDay) (pos lastDay) (word w firstDayWord)

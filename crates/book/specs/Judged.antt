@@ -8,7 +8,7 @@ use Rattle.integer.specs.Words.{word}
 use Rattle.rulebook.specs.declared.Terms.{Terms}
 use Rattle.rulebook.specs.Layout.{msslWord}
 use Rattle.rulebook.specs.BookData.{termsOf, nextDay}
-use Rattle.rulebook.specs.WellFormed.{wellFormed, balanceFits, accountFits, daysFit}
+use Rattle.rulebook.specs.WellFormed.{wellFormed, balanceFits, balanceWordsFit, daysFit}
 use Rattle.book.specs.declared.judge.Judged.{Judged}
 use Rattle.book.specs.declared.judge.Judged.the-variants.{WellFormed, IllFormed}
 
@@ -18,4 +18,4 @@ judgedBook w = cond (wellFormed w) (WellFormed (termsOf w) (nextDay w)) IllForme
 
 -- the balances and the days, where k days are closed
 unfoldable pub contentsFit : Terms → List ℤ → ℕ → Bool
-contentsFit o w k = balanceFits (o .accounts) k (word w msslWord) && all (o .accounts) (accountFits w k) && daysFit o w (o .first + k)
+contentsFit o w k = balanceFits (o .accounts) k (word w msslWord) && all (o .accounts) (balanceWordsFit w k) && daysFit o w (o .first + k)

@@ -11,7 +11,7 @@ use Rattle.rulebook.specs.declared.Section.{Section}
 use Rattle.rulebook.specs.declared.Section.the-variants.{Vesting, Meter, Residual, Ncc}
 use Rattle.rulebook.specs.Units.{inRange, intervals}
 use Rattle.rulebook.specs.Layout.{intervalTable, accountTable, intervalWords, accountWords, intervalLength, tablePlace, flagIndex}
-use Rattle.rulebook.specs.WellFormed.{isZero, rowFits, sparesZero}
+use Rattle.rulebook.specs.WellFormed.{isZero, rowFits, paddingZero}
 
 -- every word is zero
 unfoldable pub blank : List ℤ → Bool
@@ -37,14 +37,14 @@ rowsThere xs = not (isZero (rowOf xs Vesting (flagIndex Vesting))) && not (isZer
 
 -- each row absent or fitting; of a closed day, vesting and meter rows there
 unfoldable pub accountFits : Bool → List ℤ → Bool
-accountFits closed xs = (sparesZero accountTable (word xs) && rowFits Vesting (rowOf xs Vesting) && rowFits Meter (rowOf xs Meter) && rowFits Residual (rowOf xs Residual))
+accountFits closed xs = (paddingZero accountTable (word xs) && rowFits Vesting (rowOf xs Vesting) && rowFits Meter (rowOf xs Meter) && rowFits Residual (rowOf xs Residual))
     && (not closed || rowsThere xs)
 
 -- ---- An interval, a slot
 
 -- the interval's own words
 unfoldable pub nccFits : List ℤ → Bool
-nccFits xs = sparesZero intervalTable (word xs) && rowFits Ncc (rowOf xs Ncc)
+nccFits xs = paddingZero intervalTable (word xs) && rowFits Ncc (rowOf xs Ncc)
 
 -- the words of each of n accounts
 unfoldable pub accountsFit : ℕ → Bool → List ℤ → Bool

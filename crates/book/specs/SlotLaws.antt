@@ -14,12 +14,12 @@ use Rattle.rulebook.specs.declared.Section.{Section}
 use Rattle.rulebook.specs.declared.Section.the-variants.{Vesting, Meter, Residual, Ncc}
 use Rattle.rulebook.specs.declared.Terms.{Terms}
 use Rattle.rulebook.specs.Units.{intervals}
-use Rattle.rulebook.specs.Layout.{Word, spare, isSpare, intervalTable, accountTable, accountWords, intervalWords, width, tableOf, tablePlace, accountPlace, intervalLength, slotLength, intervalSize, base, intervalWord}
+use Rattle.rulebook.specs.Layout.{Word, padding, isPadding, intervalTable, accountTable, accountWords, intervalWords, width, tableOf, tablePlace, accountPlace, intervalLength, slotLength, intervalSize, base, intervalWord}
 use Rattle.rulebook.specs.RowWordLaws.{row-word}
 use Rattle.rulebook.specs.TestLaws.{all-same, tests-same}
 use Rattle.rulebook.specs.FormLaws.{fits-same}
 use Rattle.rulebook.specs.WellFormed as rule
-use Rattle.rulebook.specs.WellFormed.{isZero, rowFits, sparesZero, isThere, slotRow, accountWordsFit, bothThere, closedRowsThere, intervalBlank, slotBlank}
+use Rattle.rulebook.specs.WellFormed.{isZero, rowFits, paddingZero, isThere, slotRow, accountWordsFit, bothThere, closedRowsThere, intervalBlank, slotBlank}
 use Rattle.book.specs.Parts.{blank, rowOf, rowsThere, accountFits, nccFits, accountsFit, intervalFits, intervalsFit, slotFits}
 use Rattle.book.specs.LoopLaws.{word-part}
 use Rattle.book.specs.BlankLaws.{all-rows}
@@ -52,9 +52,9 @@ all-closed n p q false = all-and n p (λ i. true) ∙ ap (λ (b : Bool). all n p
 row-same : (s : Section) (f g : ℕ → ℤ) → ((j : ℕ) → j < width s → f j ≡ g j) → rowFits s f ≡ rowFits s g
 row-same s f g e = tests-same (rowFits s f) (rowFits s g) (fits-same s g f (λ j h. sym (e j h))) (fits-same s f g e)
 
-spares-same : (table : List Word) (f g : ℕ → ℤ) → ((q : ℕ) → q < length table → f q ≡ g q) → sparesZero table f ≡ sparesZero table g
-unfolding sparesZero
-spares-same table f g e = all-same (length table) _ _ (λ q h. ap (λ (z : ℤ). not (isSpare (getD table q spare)) || isZero z) (e q h))
+padding-same : (table : List Word) (f g : ℕ → ℤ) → ((q : ℕ) → q < length table → f q ≡ g q) → paddingZero table f ≡ paddingZero table g
+unfolding paddingZero
+padding-same table f g e = all-same (length table) _ _ (λ q h. ap (λ (z : ℤ). not (isPadding (getD table q padding)) || isZero z) (e q h))
 
 module _ (o : Terms) (w : List ℤ) (t i : ℕ) (closed : Bool) where
   -- ---- An account
@@ -66,7 +66,7 @@ module _ (o : Terms) (w : List ℤ) (t i : ℕ) (closed : Bool) where
     pub account-is : accountFits closed xs ≡ (accountWordsFit o w t i a && (not closed || bothThere o w t i a))
     unfolding accountFits rowsThere accountWordsFit bothThere isThere
     account-is = rw (
-      spares-same accountTable (word xs) (λ q. word w (intervalWord o t i (accountPlace a q))) same,
+      padding-same accountTable (word xs) (λ q. word w (intervalWord o t i (accountPlace a q))) same,
       row-same Vesting (rowOf xs Vesting) (slotRow o w t i Vesting a) (account-row Vesting refl),
       row-same Meter (rowOf xs Meter) (slotRow o w t i Meter a) (account-row Meter refl),
       row-same Residual (rowOf xs Residual) (slotRow o w t i Residual a) (account-row Residual refl),
@@ -77,10 +77,10 @@ module _ (o : Terms) (w : List ℤ) (t i : ℕ) (closed : Bool) where
   -- ---- An interval
 
   module _ (xs : List ℤ) (same : (m : ℕ) → m < intervalLength (o .accounts) → word xs m ≡ word w (intervalWord o t i m)) where
-    ncc-words : nccFits xs ≡ (sparesZero intervalTable (λ q. word w (intervalWord o t i q)) && rowFits Ncc (slotRow o w t i Ncc 0))
+    ncc-words : nccFits xs ≡ (paddingZero intervalTable (λ q. word w (intervalWord o t i q)) && rowFits Ncc (slotRow o w t i Ncc 0))
     unfolding nccFits
     ncc-words = rw (
-      spares-same intervalTable (word xs) (λ q. word w (intervalWord o t i q)) (λ q h. same q (omega arith)),
+      padding-same intervalTable (word xs) (λ q. word w (intervalWord o t i q)) (λ q h. same q (omega arith)),
       row-same Ncc (rowOf xs Ncc) (slotRow o w t i Ncc 0) (λ j h. same (tablePlace Ncc j) (omega (arith, row-word Ncc j h .inside))),
     )
 
@@ -98,7 +98,7 @@ module _ (o : Terms) (w : List ℤ) (t i : ℕ) (closed : Bool) where
     pub interval-is : intervalFits (o .accounts) closed xs ≡ (rule.intervalFits o w t i && (not closed || closedRowsThere o w t i))
     unfolding intervalFits rule.intervalFits
     interval-is = rw (ncc-words, accounts-are)
-        (sym (and-assoc (sparesZero intervalTable (λ q. word w (intervalWord o t i q)) && rowFits Ncc (slotRow o w t i Ncc 0)) (all (o .accounts) (accountWordsFit o w t i)) (not closed || closedRowsThere o w t i)))
+        (sym (and-assoc (paddingZero intervalTable (λ q. word w (intervalWord o t i q)) && rowFits Ncc (slotRow o w t i Ncc 0)) (all (o .accounts) (accountWordsFit o w t i)) (not closed || closedRowsThere o w t i)))
 
 -- ---- A slot
 

@@ -15,7 +15,7 @@ use Rattle.rulebook.specs.declared.Terms.{Terms}
 use Rattle.rulebook.specs.Units.{lastDay, intervals}
 use Rattle.rulebook.specs.Layout.{balanceWord, intervalLength, slotLength, intervalSize, ring, base, size}
 use Rattle.rulebook.specs.TestLaws.{all-same, all-yes, all-at, tests-same}
-use Rattle.rulebook.specs.WindowWalk.{windowSlot, windowSlotFits, turn-of}
+use Rattle.rulebook.specs.WindowWalk.{windowSlot, windowSlotFits, windowPlace}
 use Rattle.rulebook.specs.RingLaws.{turn-inside, turned, places-apart}
 use Rattle.rulebook.specs.WalkLaws.{days-are-places}
 use Rattle.rulebook.specs.WellFormed as rule
@@ -44,17 +44,17 @@ module _ (o : Terms) (w : List ℤ) (k : ℕ) (p : 1 ≤ o .horizon) where
   ring-some = omega arith
 
   -- place by place is slot by slot
-  slots-are-places : all (ring o) (windowSlotFits o w k) ≡ all (ring o) (λ v. windowSlotFits o w k (turn-of o k v))
+  slots-are-places : all (ring o) (windowSlotFits o w k) ≡ all (ring o) (λ v. windowSlotFits o w k (windowPlace o k v))
   slots-are-places = tests-same _ _
-      (λ t. all-yes (ring o) (λ v. windowSlotFits o w k (turn-of o k v)) (λ v h. all-at (ring o) (windowSlotFits o w k) t (turn-of o k v) (turn-inside o ring-some k v)))
+      (λ t. all-yes (ring o) (λ v. windowSlotFits o w k (windowPlace o k v)) (λ v h. all-at (ring o) (windowSlotFits o w k) t (windowPlace o k v) (turn-inside o ring-some k v)))
       (λ t. all-yes (ring o) (windowSlotFits o w k) (λ u h.
-      subst (λ (x : ℕ). T (windowSlotFits o w k x)) (back u h) (all-at (ring o) (λ v. windowSlotFits o w k (turn-of o k v)) t (windowSlot o k u) (slot-inside u))))
+      subst (λ (x : ℕ). T (windowSlotFits o w k x)) (back u h) (all-at (ring o) (λ v. windowSlotFits o w k (windowPlace o k v)) t (windowSlot o k u) (slot-inside u))))
     where
       slot-inside : (u : ℕ) → windowSlot o k u < ring o
       slot-inside u = unfold windowSlot in mod-lt _ ring-some
 
-      back : (u : ℕ) → u < ring o → turn-of o k (windowSlot o k u) ≡ u
-      back u h = places-apart o ring-some k (turn-of o k (windowSlot o k u)) u (turn-inside o ring-some k (windowSlot o k u)) h (turned o ring-some k (windowSlot o k u) (slot-inside u))
+      back : (u : ℕ) → u < ring o → windowPlace o k (windowSlot o k u) ≡ u
+      back u h = places-apart o ring-some k (windowPlace o k (windowSlot o k u)) u (turn-inside o ring-some k (windowSlot o k u)) h (turned o ring-some k (windowSlot o k u) (slot-inside u))
 
   module _ (l : size o ≤ length w) where
     abbrev slots : List ℤ
@@ -73,12 +73,12 @@ module _ (o : Terms) (w : List ℤ) (k : ℕ) (p : 1 ≤ o .horizon) where
         length-part slots (v * slotLength (o .accounts)) (slotLength (o .accounts)) (omega (arith, row-fits v (ring o) (slotLength (o .accounts)) hv))
 
     slot-at : (v : ℕ) → v < ring o
-        → slotFits (o .accounts) (isDay o k (turn-of o k v)) (ltb (turn-of o k v) (o .lag)) (part slots (v * slotLength (o .accounts)) (slotLength (o .accounts))) ≡ windowSlotFits o w k (turn-of o k v)
+        → slotFits (o .accounts) (isDay o k (windowPlace o k v)) (ltb (windowPlace o k v) (o .lag)) (part slots (v * slotLength (o .accounts)) (slotLength (o .accounts))) ≡ windowSlotFits o w k (windowPlace o k v)
     unfolding isDay windowSlotFits
     slot-at v hv = rw (turned o ring-some k v hv)
-        (slot-is o w v (part slots (v * slotLength (o .accounts)) (slotLength (o .accounts))) (slot-words v hv) (slot-long v hv) (isDay o k (turn-of o k v)) (ltb (turn-of o k v) (o .lag))
-        ∙ cond-not (ltb (k + turn-of o k v) (o .lag) || ltb lastDay (o .first + (k + turn-of o k v - o .lag)))
-        (all intervals (rule.intervalFits o w v) && (not (ltb (turn-of o k v) (o .lag)) || all intervals (closedRowsThere o w v))) (slotBlank o w v))
+        (slot-is o w v (part slots (v * slotLength (o .accounts)) (slotLength (o .accounts))) (slot-words v hv) (slot-long v hv) (isDay o k (windowPlace o k v)) (ltb (windowPlace o k v) (o .lag))
+        ∙ cond-not (ltb (k + windowPlace o k v) (o .lag) || ltb lastDay (o .first + (k + windowPlace o k v - o .lag)))
+        (all intervals (rule.intervalFits o w v) && (not (ltb (windowPlace o k v) (o .lag)) || all intervals (closedRowsThere o w v))) (slotBlank o w v))
 
     -- the slots of the book fit exactly if its days do
     pub slots-are-days : slotsFit o k slots ≡ daysFit o w (o .first + k)

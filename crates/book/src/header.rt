@@ -19,7 +19,7 @@ ghost use Rattle.rulebook.specs.Shares.{mostAccounts};
 ghost use Rattle.rulebook.specs.Terms.{InTerms};
 ghost use Rattle.rulebook.specs.Layout.{size, headerWords, balanceWords, balanceWord, firstDayWord, nextDayWord, msslWord};
 ghost use Rattle.rulebook.specs.BookData.{termsOf, nextDay};
-ghost use Rattle.rulebook.specs.WellFormed.{headerFits, balanceFits, accountFits};
+ghost use Rattle.rulebook.specs.WellFormed.{headerFits, balanceFits, balanceWordsFit};
 ghost use Rattle.book.specs.Header.{termsWordsFit};
 
 // Limits, as words.
@@ -115,7 +115,7 @@ pub fn book_size(terms: Terms) -> usize
 // Account a's balance within (C − F) × 4,800,000,000,000 cents either way, and its seven zeros.
 fn balance_fits(book: &[i64], closes: usize, a: usize) -> bool
     requires { ⌜ (a < mostAccounts) × (closes ≤ lastDay) × (balanceWord a + balanceWords ≤ length (now book)) ⌝ }
-    ensures { λ r. ⌜ r ≡ accountFits (now (book .entry)) closes a ⌝ }
+    ensures { λ r. ⌜ r ≡ balanceWordsFit (now (book .entry)) closes a ⌝ }
 {
     let i = layout::HEADER_WORDS + a * layout::BALANCE_WORDS;
     let s = i + 1;
@@ -126,7 +126,7 @@ fn balance_fits(book: &[i64], closes: usize, a: usize) -> bool
 // "The book": each account's balance and zeros.
 pub fn balances_fit(book: &[i64], n: usize, closes: usize) -> bool
     requires { ⌜ (n ≤ mostAccounts) × (closes ≤ lastDay) × (balanceWord n ≤ length (now book)) ⌝ }
-    ensures { λ r. ⌜ r ≡ all n (accountFits (now (book .entry)) closes) ⌝ }
+    ensures { λ r. ⌜ r ≡ all n (balanceWordsFit (now (book .entry)) closes) ⌝ }
 {
     let mut ok = true;
     for a in 0..n {

@@ -13,7 +13,7 @@ ghost use Rattle.rulebook.specs.Units.{intervals, lastDay};
 ghost use Rattle.rulebook.specs.Shares.{mostAccounts};
 ghost use Rattle.rulebook.specs.Layout.{intervalLength, slotLength, ring};
 ghost use Rattle.rulebook.specs.Terms.{InTerms};
-ghost use Rattle.rulebook.specs.WindowWalk.{turn-of};
+ghost use Rattle.rulebook.specs.WindowWalk.{windowPlace};
 ghost use Rattle.book.specs.Parts.{intervalsFit, slotFits};
 ghost use Rattle.book.specs.Slots.{isDay, slotsFit};
 
@@ -47,7 +47,7 @@ fn slot_fits(slot: &[i64], n: usize, dated: bool, closed: bool) -> bool
 // The place of slot v in the window of L + H days from C − L on, after some closes.
 fn place_of(terms: Terms, closes: usize, v: usize) -> usize
     requires { ⌜ InTerms terms × (closes ≤ lastDay) × (v < ring terms) ⌝ }
-    ensures { λ r. ⌜ (r ≡ turn-of terms closes v) × (r < ring terms) ⌝ }
+    ensures { λ r. ⌜ (r ≡ windowPlace terms closes v) × (r < ring terms) ⌝ }
 {
     let ring = terms.lag + terms.horizon;
     (v + (ring - (closes + terms.horizon) % ring)) % ring

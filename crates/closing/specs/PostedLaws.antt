@@ -15,7 +15,7 @@ use Rattle.rulebook.specs.BookData.{bookData, termsOf, nextDay}
 use Rattle.rulebook.specs.WellFormed.{wellFormed}
 use Rattle.rulebook.specs.Close.{posted}
 use Rattle.rulebook.specs.Bounds.{SizedDay}
-use Rattle.rulebook.specs.AmountLaws.{Alike, vesting-same, residual-same}
+use Rattle.rulebook.specs.AmountLaws.{SameFigures, vesting-same, residual-same}
 use Rattle.rulebook.specs.BookSizeLaws.{close-sized}
 use Rattle.amounts.specs.declared.day.Residuals.{Residuals}
 use Rattle.amounts.specs.Cell.{cellData, residualPriced, cellResidual}
@@ -51,8 +51,8 @@ module _ (o : Terms) (w : List ℤ) (a : ℕ) (ha : a < o .accounts) where
         ∙ ap (λ (c : List ℤ). cellResidual c (residualOf (o .accounts) interval) (spareOf (o .accounts) interval)) (cell-in-slot (o .accounts) (slotWords o w d) a i ha)
         )
       where
-        alike : (b : ℕ) → b < o .accounts → Alike (bookData o w .account b d i) (cellData (cellOf interval b))
-        alike b hb = subst (λ (c : List ℤ). Alike (bookData o w .account b d i) (cellData c)) (sym (cell-in-slot (o .accounts) (slotWords o w d) b i hb))
+        alike : (b : ℕ) → b < o .accounts → SameFigures (bookData o w .account b d i) (cellData (cellOf interval b))
+        alike b hb = subst (λ (c : List ℤ). SameFigures (bookData o w .account b d i) (cellData c)) (sym (cell-in-slot (o .accounts) (slotWords o w d) b i hb))
             (cell-alike o w d b i hb hi (sized b i hb hi .few))
 
   -- ---- The day
@@ -63,7 +63,7 @@ module _ (o : Terms) (w : List ℤ) (a : ℕ) (ha : a < o .accounts) where
     unfolding slotAmount intervalAmount thenDay residualsDue residualsOf
     amount-same i hi = sum-cong (sym (vesting-same (bookData o w .account a D i) (cellData (cellAt (o .accounts) (slotWords o w D) a i)) alike)) (go (residualDue o D) then)
       where
-        alike : Alike (bookData o w .account a D i) (cellData (cellAt (o .accounts) (slotWords o w D) a i))
+        alike : SameFigures (bookData o w .account a D i) (cellData (cellAt (o .accounts) (slotWords o w D) a i))
         alike = cell-alike o w D a i ha hi (now a i ha hi .few)
 
         days : Bool → Residuals

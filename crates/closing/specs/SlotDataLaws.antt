@@ -11,7 +11,7 @@ use Rattle.rulebook.specs.Units.{positive, asQuantity, intervals}
 use Rattle.rulebook.specs.Sections.{TVQ, TVP, MEP, IEQ}
 use Rattle.rulebook.specs.Layout.{figureIndex, rowWord, flagAt}
 use Rattle.rulebook.specs.BookData.{bookData}
-use Rattle.rulebook.specs.AmountLaws.{Alike}
+use Rattle.rulebook.specs.AmountLaws.{SameFigures}
 use Rattle.rulebook.specs.IndexLaws.{tender-words, facility-words}
 use Rattle.amounts.specs.Cell.{cellData}
 use Rattle.amounts.specs.Day.{intervalOf, cellAt}
@@ -33,7 +33,7 @@ module _ (o : Terms) (w : List ℤ) (d : ℕ) where
     meter-at : (j k : ℕ) → j < 9 → flagAt Meter + j ≡ k → word w (rowWord o Meter a d i j) ≡ word cell k
     meter-at j k h e = meter-word o w d a i ha hi j h ∙ ap (word cell) e
 
-    pub cell-alike : bookData o w .account a d i .facilities ≤ 4 → Alike (bookData o w .account a d i) (cellData (cellAt (o .accounts) (slotWords o w d) a i))
+    pub cell-alike : bookData o w .account a d i .facilities ≤ 4 → SameFigures (bookData o w .account a d i) (cellData (cellAt (o .accounts) (slotWords o w d) a i))
     cell-alike few = record {
       bvq = ap asQuantity (vesting-word o w d a i ha hi 1 (omega arith));
       bvp = vesting-word o w d a i ha hi 2 (omega arith);

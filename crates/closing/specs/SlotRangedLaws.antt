@@ -32,7 +32,7 @@ use Rattle.rulebook.specs.RangeLaws.{RangedEntries, data-sized, even}
 use Rattle.rulebook.specs.RowFlagLaws.{wordFlagged, rowFlagged, row-by-flag, natural}
 use Rattle.rulebook.specs.FormedLaws.{opened-of, next-of, formed-fit}
 use Rattle.rulebook.specs.BookSizeLaws.{book-ranged, D-inside, r-inside}
-use Rattle.rulebook.specs.AmountLaws.{Alike}
+use Rattle.rulebook.specs.AmountLaws.{SameFigures}
 use Rattle.rulebook.specs.IndexLaws.{tender-words}
 use Rattle.amounts.specs.Cell.{cellData, Ranged}
 use Rattle.amounts.specs.Interval.{residualOf}
@@ -85,7 +85,7 @@ module _ (w : List ℤ) (t : T (wellFormed w)) (d : ℕ) (inside : InWindow (ter
     sized : Sized (bookData (termsOf w) w .account a d i)
     sized = data-sized (termsOf w .accounts) (entriesOf (termsOf w) w) d entries a i ha hi
 
-    alike : Alike (bookData (termsOf w) w .account a d i) (cellData (cellAt (termsOf w .accounts) (slotWords (termsOf w) w d) a i))
+    alike : SameFigures (bookData (termsOf w) w .account a d i) (cellData (cellAt (termsOf w .accounts) (slotWords (termsOf w) w d) a i))
     alike = cell-alike (termsOf w) w d a i ha hi (sized .few)
 
     cell-in-range : T (not (isZero (word w (flagWord (termsOf w) Meter a d i)))) → Ranged (cellAt (termsOf w .accounts) (slotWords (termsOf w) w d) a i)

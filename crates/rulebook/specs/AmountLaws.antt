@@ -16,7 +16,7 @@ use Rattle.rulebook.specs.SharesLaws.{share-cong}
 -- ---- One interval
 
 -- figures of an account that agree, as far as they are used
-pub record Alike (f g : AccountData) : Type 0 where
+pub record SameFigures (f g : AccountData) : Type 0 where
   pub bvq : f .bvq ≡ g .bvq
   pub bvp : f .bvp ≡ g .bvp
   pub tvq : (t : ℕ) → t < 3 → f .tvq t ≡ g .tvq t
@@ -30,7 +30,7 @@ pub record Alike (f g : AccountData) : Type 0 where
   pub rvp1 : f .rvp1 ≡ g .rvp1
   pub rvp2 : f .rvp2 ≡ g .rvp2
 
-module _ (f g : AccountData) (e : Alike f g) where
+module _ (f g : AccountData) (e : SameFigures f g) where
   price-same : referencePriceOf f ≡ referencePriceOf g
   unfolding referencePriceOf
   price-same =
@@ -51,7 +51,7 @@ module _ (f g : AccountData) (e : Alike f g) where
     sumℤ-cong 3 (λ t. (f .tvp t -ℤ referencePriceOf g) *ℤ pos (f .tvq t)) (λ t. (g .tvp t -ℤ referencePriceOf g) *ℤ pos (g .tvq t)) (λ t h. rw (e .tvp t h, e .tvq t h)),
   )
 
-module _ (load n : ℕ) (f g : ℕ → AccountData) (e : (b : ℕ) → b < n → Alike (f b) (g b)) where
+module _ (load n : ℕ) (f g : ℕ → AccountData) (e : (b : ℕ) → b < n → SameFigures (f b) (g b)) where
   residual-load-same : residualLoad load n f ≡ residualLoad load n g
   unfolding residualLoad
   residual-load-same = rw (sumℕ-cong n (λ b. vestedQuantity (f b)) (λ b. vestedQuantity (g b)) (λ b hb. vested-same (f b) (g b) (e b hb)))
@@ -69,7 +69,7 @@ module _ (load n : ℕ) (f g : ℕ → AccountData) (e : (b : ℕ) → b < n →
 
 -- the two agree on day d
 pub record Agree (n : ℕ) (g g′ : SettlementData) (d : ℕ) : Type 0 where
-  pub accounts : (a i : ℕ) → a < n → i < 48 → Alike (g .account a d i) (g′ .account a d i)
+  pub accounts : (a i : ℕ) → a < n → i < 48 → SameFigures (g .account a d i) (g′ .account a d i)
   pub loads : (i : ℕ) → i < 48 → g .load d i ≡ g′ .load d i
 
 module _ (o : Terms) (g g′ : SettlementData) (D : ℕ) (now : Agree (o .accounts) g g′ D) (then : T (residualDue o D) → Agree (o .accounts) g g′ (residualDay o D)) where

@@ -25,7 +25,7 @@ use Rattle.rulebook.specs.Layout.{flagIndex, flagWord, balanceWord, mssl
 use Rattle.rulebook.specs.BookData.{Entries, entriesOf, termsOf, nextDay}
 use Rattle.rulebook.specs.WellFormed.{isZero, rowFits, wellFormed, dayBound}
 use Rattle.rulebook.specs.Close.{closed, settled, closeRefused, firstMissing, missingAt, absentFlag, posted, postedToMssl, dayClosed}
-use Rattle.rulebook.specs.Ledger.{Ledger, Holds}
+use Rattle.rulebook.specs.Ledger.{Ledger, HoldsLedger}
 use Rattle.rulebook.specs.TestLaws.{below-suc, T-path}
 use Rattle.rulebook.specs.KeptLaws.{absent-fits}
 use Rattle.rulebook.specs.FormLaws.{Fit, ring-pos, fits-same, well-formed}
@@ -73,8 +73,8 @@ module _ (w : List ℤ) (t : T (wellFormed w)) (k : ℕ) (day : termsOf w .first
   formed : Fit o (record { closed = k; entries = entriesOf o w; balance = λ a. word w (balanceWord a); mssl = word w msslWord })
   formed = subst (λ (n : ℕ). Fit o (record { closed = n; entries = entriesOf o w; balance = λ a. word w (balanceWord a); mssl = word w msslWord })) closes (formed-fit w t)
 
-  held : Holds o (record { closed = k; entries = entriesOf o w; balance = λ a. word w (balanceWord a); mssl = word w msslWord }) w
-  held = subst (λ (n : ℕ). Holds o (record { closed = n; entries = entriesOf o w; balance = λ a. word w (balanceWord a); mssl = word w msslWord }) w) closes (formed-holds w t)
+  held : HoldsLedger o (record { closed = k; entries = entriesOf o w; balance = λ a. word w (balanceWord a); mssl = word w msslWord }) w
+  held = subst (λ (n : ℕ). HoldsLedger o (record { closed = n; entries = entriesOf o w; balance = λ a. word w (balanceWord a); mssl = word w msslWord }) w) closes (formed-holds w t)
 
   within : (s : Section) (a d i j : ℕ) → d < last → before o w last s a d i j ≡ entriesOf o w s a d i j
   within s a d i j h = rw (lt-ltb d last h)
@@ -82,7 +82,7 @@ module _ (w : List ℤ) (t : T (wellFormed w)) (k : ℕ) (day : termsOf w .first
   beyond : (s : Section) (a d i j : ℕ) → last ≤ d → before o w last s a d i j ≡ pos 0
   beyond s a d i j h = rw (le-ltb d last h)
 
-  old-held : Holds o old w
+  old-held : HoldsLedger o old w
   old-held = record {
     long = held .long;
     mark = held .mark;
@@ -92,15 +92,15 @@ module _ (w : List ℤ) (t : T (wellFormed w)) (k : ℕ) (day : termsOf w .first
     first = held .first;
     next = held .next;
     mssl = refl;
-    spare = held .spare;
+    headerZeros = held .headerZeros;
     balances = λ a x. refl;
-    spares = held .spares;
+    balanceZeros = held .balanceZeros;
     held = λ s a d i j x ha hi hj. sym (within s a d i j (x .ahead));
     early = held .early;
     padding = held .padding;
   }
 
-  new-held : Holds o new (dayClosed o w (o .first + k))
+  new-held : HoldsLedger o new (dayClosed o w (o .first + k))
   new-held = day-held o (ring-pos o (opened-of w t)) k (before o w last) (λ a. word w (balanceWord a)) (word w msslWord) w old-held (λ s a i j. beyond s a last i j (omega arith))
 
   -- a day of the new window: of the old one, or new

@@ -7,7 +7,7 @@ use lib.IntN.{ℤ, pos}
 use lib.ListN.{replicate}
 use Rattle.integer.specs.Below.{fold}
 use Rattle.rulebook.specs.Layout.{base, ring, intervalSize, slot, intervalWord}
-use Rattle.rulebook.specs.WellFormed.{rowBlank, rowCounts, rowFits, sparesZero, isThere, intervalBlank, slotBlank, accountWordsFit, intervalFits, bothThere, closedRowsThere, dayFits, isDated, daysFit}
+use Rattle.rulebook.specs.WellFormed.{rowBlank, rowCounts, rowFits, paddingZero, isThere, intervalBlank, slotBlank, accountWordsFit, intervalFits, bothThere, closedRowsThere, dayFits, isDated, daysFit}
 use Rattle.rulebook.specs.Examples.{one, two}
 
 -- zeros, but for a 1 at an index; words past the end read 0
@@ -42,16 +42,16 @@ pub record Days : Type 0 where
   pub secondAlone : closedRowsThere two (pair none rows) 0 0 ≡ false
   -- and in each interval, not in the first alone
   pub firstInterval : dayFits one (replicate 76 (pos 0) ++ rows) 9498 9497 ≡ false
-  -- a vesting row in one interval of an open day; the interval's spare words, 74 and 75, and the account's, 99
+  -- a vesting row in one interval of an open day; the interval's padding words, 74 and 75, and the account's, 99
   pub halfDay : dayFits one (with 76) 9497 9497 ≡ true
   pub halfBook : daysFit one (with 76) 9497 ≡ true
   pub halfPresent : intervalFits one (with 76) 0 0 ≡ true
-  pub spare74 : intervalFits one (with 74) 0 0 ≡ false
-  pub spare75 : intervalFits one (with 75) 0 0 ≡ false
-  pub spare99 : intervalFits one (with 99) 0 0 ≡ false
+  pub padding74 : intervalFits one (with 74) 0 0 ≡ false
+  pub padding75 : intervalFits one (with 75) 0 0 ≡ false
+  pub padding99 : intervalFits one (with 99) 0 0 ≡ false
 
 pub days : Days
-unfolding fold dayFits daysFit isDated closedRowsThere bothThere isThere intervalFits accountWordsFit sparesZero rowFits rowBlank rowCounts slotBlank intervalBlank base ring intervalSize slot intervalWord
+unfolding fold dayFits daysFit isDated closedRowsThere bothThere isThere intervalFits accountWordsFit paddingZero rowFits rowBlank rowCounts slotBlank intervalBlank base ring intervalSize slot intervalWord
 days = record {
   openDay = refl;
   closedDay = refl;
@@ -67,7 +67,7 @@ days = record {
   halfDay = refl;
   halfBook = refl;
   halfPresent = refl;
-  spare74 = refl;
-  spare75 = refl;
-  spare99 = refl;
+  padding74 = refl;
+  padding75 = refl;
+  padding99 = refl;
 }

@@ -75,10 +75,10 @@ pub record LentBooks : Type 0 where
   pub submitMark : (w : List ℤ) (file : List ℕ) → word w 0 ≡ pos 394 → ofSubmit (submitted w file .answer) ≡ numbered 3 0
   pub closeMark : (w statement : List ℤ) → word w 0 ≡ pos 394 → ofClose (closed w statement .answer) ≡ numbered 3 0
   -- an account's eighth word is 1: word 71 of any book, word 79 of two accounts, 319 of 32
-  pub submitSpare : (w : List ℤ) (file : List ℕ) → word w 71 ≡ pos 1 → ofSubmit (submitted w file .answer) ≡ numbered 3 0
-  pub closeSpare : (w statement : List ℤ) → word w 71 ≡ pos 1 → ofClose (closed w statement .answer) ≡ numbered 3 0
-  pub secondSpare : (w statement : List ℤ) → termsOf w .accounts ≡ 2 → word w 79 ≡ pos 1 → ofClose (closed w statement .answer) ≡ numbered 3 0
-  pub lastSpare : (w statement : List ℤ) → termsOf w .accounts ≡ 32 → word w 319 ≡ pos 1 → ofClose (closed w statement .answer) ≡ numbered 3 0
+  pub submitPadding : (w : List ℤ) (file : List ℕ) → word w 71 ≡ pos 1 → ofSubmit (submitted w file .answer) ≡ numbered 3 0
+  pub closePadding : (w statement : List ℤ) → word w 71 ≡ pos 1 → ofClose (closed w statement .answer) ≡ numbered 3 0
+  pub secondPadding : (w statement : List ℤ) → termsOf w .accounts ≡ 2 → word w 79 ≡ pos 1 → ofClose (closed w statement .answer) ≡ numbered 3 0
+  pub lastPadding : (w statement : List ℤ) → termsOf w .accounts ≡ 32 → word w 319 ≡ pos 1 → ofClose (closed w statement .answer) ≡ numbered 3 0
   -- a new book of two accounts, and the same but for its word 79
   pub eighthWord : (lent : List ℤ) → 5072 ≤ length lent
       → (wellFormed (newBook two lent) ≡ true) × (wellFormed (set (newBook two lent) 79 (pos 1)) ≡ false)
@@ -94,13 +94,13 @@ unfolding wellFormed fits headerFits
 not-formed w e = rw e refl
 
 -- account a's eighth word is used: not well formed
-spare-used : (w : List ℤ) (a : ℕ) → (T (wellFormed w) → a < termsOf w .accounts) → word w (64 + 8 * a + 7) ≡ pos 1 → wellFormed w ≡ false
-spare-used w a h e = go (wellFormed w) refl
+padding-used : (w : List ℤ) (a : ℕ) → (T (wellFormed w) → a < termsOf w .accounts) → word w (64 + 8 * a + 7) ≡ pos 1 → wellFormed w ≡ false
+padding-used w a h e = go (wellFormed w) refl
   where
     go : (b : Bool) → wellFormed w ≡ b → b ≡ false
     go true x =
         let t : T (wellFormed w) = subst T (sym x) tt in
-        absurd (omega (arith, ap natAbs (sym e ∙ formed-book w t .spares a 7 (h t) (omega arith) (omega arith))))
+        absurd (omega (arith, ap natAbs (sym e ∙ formed-book w t .balanceZeros a 7 (h t) (omega arith) (omega arith))))
     go false x = refl
 
 eighth-word : (lent : List ℤ) → size two ≤ length lent
@@ -110,17 +110,17 @@ eighth-word lent l =
     let book : List ℤ = newBook two lent in
     let n : termsOf (set book 79 (pos 1)) .accounts ≡ 2 = ap positive (getD-set-other book 79 1 (pos 1) (pos 0) (omega arith) ∙ h .holds .accounts) in
     let e : word (set book 79 (pos 1)) 79 ≡ pos 1 = getD-set-same book 79 (pos 1) (pos 0) (omega (arith, h .holds .long, places .sizeTwo)) in
-    (formed two in-two [] book h, spare-used (set book 79 (pos 1)) 1 (λ t. omega arith) e)
+    (formed two in-two [] book h, padding-used (set book 79 (pos 1)) 1 (λ t. omega arith) e)
 
 pub lent-books : LentBooks
 unfolding submitted closed
 lent-books = record {
   submitMark = λ w file e. rw (not-formed w e) refl;
   closeMark = λ w statement e. rw (not-formed w e) refl;
-  submitSpare = λ w file e. rw (spare-used w 0 (λ t. formed-book w t .terms .accountsFrom) e) refl;
-  closeSpare = λ w statement e. rw (spare-used w 0 (λ t. formed-book w t .terms .accountsFrom) e) refl;
-  secondSpare = λ w statement n e. rw (spare-used w 1 (λ t. omega arith) e) refl;
-  lastSpare = λ w statement n e. rw (spare-used w 31 (λ t. omega arith) e) refl;
+  submitPadding = λ w file e. rw (padding-used w 0 (λ t. formed-book w t .terms .accountsFrom) e) refl;
+  closePadding = λ w statement e. rw (padding-used w 0 (λ t. formed-book w t .terms .accountsFrom) e) refl;
+  secondPadding = λ w statement n e. rw (padding-used w 1 (λ t. omega arith) e) refl;
+  lastPadding = λ w statement n e. rw (padding-used w 31 (λ t. omega arith) e) refl;
   eighthWord = λ lent l. eighth-word lent (omega (arith, places .sizeTwo));
   finished = λ w statement t e. rw (T-path (wellFormed w) t, e) refl;
   noRoom = λ w statement t left short. rw (T-path (wellFormed w) t, le-ltb lastDay (nextDay w) left, lt-ltb (length statement) (termsOf w .accounts + 1) (omega arith)) refl;

@@ -18,11 +18,11 @@ use Rattle.rulebook.specs.declared.Section.{Section}
 use Rattle.rulebook.specs.declared.Terms.{Terms}
 use Rattle.rulebook.specs.DayAmount.{residualDue}
 use Rattle.rulebook.specs.Sections.{accountsOf}
-use Rattle.rulebook.specs.Layout.{stored, width, place, intervalSize, ring, base, size, slot, intervalWord, rowWord, intervalWords, accountWords, markWord, accountsWord, lagWord, horizonWord, firstDayWord, nextDayWord, msslWord, balanceWord, accountSpare, headerSpare, InWindow}
+use Rattle.rulebook.specs.Layout.{stored, width, place, intervalSize, ring, base, size, slot, intervalWord, rowWord, intervalWords, accountWords, markWord, accountsWord, lagWord, horizonWord, firstDayWord, nextDayWord, msslWord, balanceWord, balancePadding, headerPadding, InWindow}
 use Rattle.rulebook.specs.BookData.{Entries}
 use Rattle.rulebook.specs.WindowWalk.{windowSlot}
 use Rattle.rulebook.specs.Close.{posted, postedToMssl, balancesGrown, slotBlanked, dayClosed}
-use Rattle.rulebook.specs.Ledger.{Holds, Padding}
+use Rattle.rulebook.specs.Ledger.{HoldsLedger, Padding}
 use Rattle.rulebook.specs.TestLaws.{below-suc}
 use Rattle.rulebook.specs.LayoutLaws.{days-apart, interval-apart, interval-inside, row-inside, slot-inside, remainder}
 use Rattle.rulebook.specs.WordLaws.{stored-in, stored-out, length-stored}
@@ -159,7 +159,7 @@ module _ (o : Terms) where
         → word (dayClosed o w D) (intervalWord o t i m) ≡ word w (intervalWord o t i m)
     closed-out t i m hi hm f = closed-elsewhere (intervalWord o t i m) (λ x i′ m′ hi′ hm′ e. f x (interval-apart o t (slot o (D - o .lag)) hi hi′ hm hm′ e .0)) ∙ counted-slot t i m
 
-module _ (o : Terms) (p : zero < ring o) (k : ℕ) (g : Entries) (balance : ℕ → ℤ) (m₀ : ℤ) (w : List ℤ) (h : Holds o (record { closed = k; entries = g; balance = balance; mssl = m₀ }) w) where
+module _ (o : Terms) (p : zero < ring o) (k : ℕ) (g : Entries) (balance : ℕ → ℤ) (m₀ : ℤ) (w : List ℤ) (h : HoldsLedger o (record { closed = k; entries = g; balance = balance; mssl = m₀ }) w) where
   residual-begun : T (residualDue o (o .first + k)) → o .lag ≤ k
   unfolding residualDue
   residual-begun t = let x = leb→le (o .first + o .lag) (o .first + k) t in omega arith
@@ -220,7 +220,7 @@ module _ (o : Terms) (p : zero < ring o) (k : ℕ) (g : Entries) (balance : ℕ 
         go (no e) b = out (λ x y. e y)
 
     -- an accepted close leaves one closed day more and each balance grown
-    pub day-held : Holds o (record { closed = suc k; entries = g; balance = λ a. balance a +ℤ posted o w (o .first + k) a; mssl = m₀ +ℤ postedToMssl o w (o .first + k) })
+    pub day-held : HoldsLedger o (record { closed = suc k; entries = g; balance = λ a. balance a +ℤ posted o w (o .first + k) a; mssl = m₀ +ℤ postedToMssl o w (o .first + k) })
         (dayClosed o w (o .first + k))
     unfolding base
     day-held = record {
@@ -232,10 +232,10 @@ module _ (o : Terms) (p : zero < ring o) (k : ℕ) (g : Entries) (balance : ℕ 
       first = front firstDayWord (omega arith) (omega arith) (omega arith) (omega arith) ∙ h .first;
       next = closed-front o w D nextDayWord (omega arith) ∙ counted-next o w D longer ∙ ap pos (sym (add-suc (o .first) k));
       mssl = closed-front o w D msslWord (omega arith) ∙ counted-mssl o w D longer ∙ ap (λ (x : ℤ). x +ℤ postedToMssl o w D) (h .mssl);
-      spare = λ n x. front (headerSpare n) (omega arith) (omega arith) (omega arith) (λ a y e. omega arith) ∙ h .spare n x;
+      headerZeros = λ n x. front (headerPadding n) (omega arith) (omega arith) (omega arith) (λ a y e. omega arith) ∙ h .headerZeros n x;
       balances = λ a x. closed-front o w D (balanceWord a) (omega arith) ∙ counted-balance o w D longer a x ∙ ap (λ (y : ℤ). y +ℤ posted o w D a) (h .balances a x);
-      spares = λ a j x y. front (accountSpare a j) (omega arith) (omega arith) (omega arith)
-          (λ b z e. let q = remainder a b {m = 8} {r = 1 + j} {r′ = 0} (omega arith) (omega arith) (omega arith) in omega arith) ∙ h .spares a j x y;
+      balanceZeros = λ a j x y. front (balancePadding a j) (omega arith) (omega arith) (omega arith)
+          (λ b z e. let q = remainder a b {m = 8} {r = 1 + j} {r′ = 0} (omega arith) (omega arith) (omega arith) in omega arith) ∙ h .balanceZeros a j x y;
       held = closed-held;
       early = λ u i m x hi hm. closed-out o w D (windowSlot o (suc k) u) i m hi hm (λ t e. omega (arith, residual-begun t))
           ∙ subst (λ (y : ℕ). word w (intervalWord o y i m) ≡ pos 0) (later u) (h .early (suc u) i m (omega arith) hi hm);

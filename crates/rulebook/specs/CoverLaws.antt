@@ -9,7 +9,7 @@ use lib.ListN.{length, getD}
 use Rattle.rulebook.specs.declared.Section.{Section}
 use Rattle.rulebook.specs.declared.Section.the-variants.{Vesting, Meter, Residual, Ncc}
 use Rattle.rulebook.specs.Sections.{accountsOf}
-use Rattle.rulebook.specs.Layout.{spare, isSpare, intervalTable, accountTable, intervalWords, accountWords, accountPlace, tableOf, width, tablePlace, place}
+use Rattle.rulebook.specs.Layout.{padding, isPadding, intervalTable, accountTable, intervalWords, accountWords, accountPlace, tableOf, width, tablePlace, place}
 use Rattle.rulebook.specs.Ledger.{Padding, ofInterval, ofAccount}
 use Rattle.rulebook.specs.RowWordLaws.{Named, account-cover, interval-cover}
 
@@ -31,7 +31,7 @@ own-cover n q h = go (interval-cover q h)
     row x Meter e = absurd (not-own (subst (λ (y : Section). tableOf y ≡ intervalTable) e (x .own)))
     row x Residual e = absurd (not-own (subst (λ (y : Section). tableOf y ≡ intervalTable) e (x .own)))
 
-    go : T (isSpare (getD intervalTable q spare)) ⊎ Named intervalTable q → Cover n q
+    go : T (isPadding (getD intervalTable q padding)) ⊎ Named intervalTable q → Cover n q
     go (inl t) = ofPadding q (ofInterval q h t) refl
     go (inr x) = row x (x .section) refl
 
@@ -50,7 +50,7 @@ account-cover-at n a q ha h = go (account-cover q h)
     row x Residual e = ofRow Residual a (x .word) ha (inside-is x Residual e) (place-is x Residual e)
     row x Ncc e = absurd (not-own (sym (subst (λ (y : Section). tableOf y ≡ accountTable) e (x .own))))
 
-    go : T (isSpare (getD accountTable q spare)) ⊎ Named accountTable q → Cover n (accountPlace a q)
+    go : T (isPadding (getD accountTable q padding)) ⊎ Named accountTable q → Cover n (accountPlace a q)
     go (inl t) = ofPadding (accountPlace a q) (ofAccount a q ha h t) refl
     go (inr x) = row x (x .section) refl
 

@@ -14,12 +14,12 @@ use Rattle.rulebook.specs.declared.Section.{Section}
 use Rattle.rulebook.specs.declared.Section.the-variants.{Vesting, Meter, Residual, Ncc}
 use Rattle.rulebook.specs.declared.Terms.{Terms}
 use Rattle.rulebook.specs.Layout.{width, accountTable, intervalTable, accountPlace, place, base, intervalSize, slot, intervalWord}
-use Rattle.rulebook.specs.WellFormed.{isZero, rowFits, sparesZero, isThere, intervalBlank, slotBlank, slotRow, accountWordsFit, intervalFits, bothThere, closedRowsThere, dayFits}
+use Rattle.rulebook.specs.WellFormed.{isZero, rowFits, paddingZero, isThere, intervalBlank, slotBlank, slotRow, accountWordsFit, intervalFits, bothThere, closedRowsThere, dayFits}
 use Rattle.rulebook.specs.FormedBook.{IsQuantity, IsPrice, IsInjection, PairsFormed, ResidualFormed, IntervalFormed, slotWord, DayFormed, DaysFormed}
 use Rattle.rulebook.specs.TestLaws.{and-left, and-right, and-both, or-left, or-right, or-cases, all-yes, all-at}
 use Rattle.rulebook.specs.WindowLaws.{DaysFit}
 use Rattle.rulebook.specs.IndexLaws.{place-run}
-use Rattle.rulebook.specs.SlotLaws.{is-zero, spare-zero, interval-accounts, interval-ncc, account-padding, own-padding, account-rows}
+use Rattle.rulebook.specs.SlotLaws.{is-zero, padding-zero, interval-accounts, interval-ncc, account-padding, own-padding, account-rows}
 use Rattle.rulebook.specs.FormLaws.{zero-yes, fits-same}
 use Rattle.rulebook.specs.RowFormedLaws.{vesting-says, meter-says, says-vesting, says-meter, residual-says, says-residual, ncc-says, says-ncc}
 
@@ -61,7 +61,7 @@ module _ (o : Terms) (w : List ℤ) (t i : ℕ) where
       → PairsFormed IsQuantity IsPrice (λ j. slotWord o w t i (4 + 24 * a + j)) × PairsFormed IsPrice IsInjection (λ j. slotWord o w t i (13 + 24 * a + j))
       × ResidualFormed (λ j. slotWord o w t i (22 + 24 * a + j)) × (slotWord o w t i (27 + 24 * a) ≡ pos 0)
   account-says a x =
-      let p = spare-zero accountTable (λ q. word w (intervalWord o t i (accountPlace a q))) (account-padding o w t i a x) 23 (omega arith) tt in
+      let p = padding-zero accountTable (λ q. word w (intervalWord o t i (accountPlace a q))) (account-padding o w t i a x) 23 (omega arith) tt in
       let r = account-rows o w t i a x in (
         vesting-says (λ j. slotWord o w t i (4 + 24 * a + j)) (row-to Vesting a (4 + 24 * a) (omega arith) (r .0)),
         meter-says (λ j. slotWord o w t i (13 + 24 * a + j)) (row-to Meter a (13 + 24 * a) (omega arith) (r .1)),
@@ -73,7 +73,7 @@ module _ (o : Terms) (w : List ℤ) (t i : ℕ) where
       → ResidualFormed (λ j. slotWord o w t i (22 + 24 * a + j)) → slotWord o w t i (27 + 24 * a) ≡ pos 0 → T (accountWordsFit o w t i a)
   unfolding accountWordsFit
   says-account a v m r e =
-      let p : T (sparesZero accountTable (λ q. word w (intervalWord o t i (accountPlace a q)))) = unfold sparesZero fold in zero-yes (last-word a ∙ e) in
+      let p : T (paddingZero accountTable (λ q. word w (intervalWord o t i (accountPlace a q)))) = unfold paddingZero fold in zero-yes (last-word a ∙ e) in
       let x = row-from Vesting a (4 + 24 * a) (omega arith) (says-vesting (λ j. slotWord o w t i (4 + 24 * a + j)) v) in
       let y = row-from Meter a (13 + 24 * a) (omega arith) (says-meter (λ j. slotWord o w t i (13 + 24 * a + j)) m) in
       let z = row-from Residual a (22 + 24 * a) (omega arith) (says-residual (λ j. slotWord o w t i (22 + 24 * a + j)) r) in
@@ -83,24 +83,24 @@ module _ (o : Terms) (w : List ℤ) (t i : ℕ) where
   unfolding intervalWord base intervalSize
   interval-says x =
       let each : (a : ℕ) → a < o .accounts → T (accountWordsFit o w t i a) = all-at (o .accounts) (accountWordsFit o w t i) (interval-accounts o w t i x) in
-      let own = spare-zero intervalTable (λ q. word w (intervalWord o t i q)) (own-padding o w t i x) in
+      let own = padding-zero intervalTable (λ q. word w (intervalWord o t i q)) (own-padding o w t i x) in
       record {
         ncc = ncc-says (slotWord o w t i) (fits-same Ncc (slotWord o w t i) (slotRow o w t i Ncc 0) (λ j h. sym (ncc-words j h)) (interval-ncc o w t i x));
-        spare = (is-zero (slotWord o w t i 2) (own 2 (omega arith) tt), is-zero (slotWord o w t i 3) (own 3 (omega arith) tt));
+        padding = (is-zero (slotWord o w t i 2) (own 2 (omega arith) tt), is-zero (slotWord o w t i 3) (own 3 (omega arith) tt));
         vesting = λ a h. account-says a (each a h) .0;
         meter = λ a h. account-says a (each a h) .1;
         residual = λ a h. account-says a (each a h) .2;
         last = λ a h. account-says a (each a h) .3;
       }
 
-  own-spares : slotWord o w t i 2 ≡ pos 0 → slotWord o w t i 3 ≡ pos 0 → T (sparesZero intervalTable (λ q. word w (intervalWord o t i q)))
-  unfolding sparesZero fold intervalWord base intervalSize
-  own-spares x y = and-both (isZero (slotWord o w t i 2)) (isZero (slotWord o w t i 3)) (zero-yes x) (zero-yes y)
+  own-zeros : slotWord o w t i 2 ≡ pos 0 → slotWord o w t i 3 ≡ pos 0 → T (paddingZero intervalTable (λ q. word w (intervalWord o t i q)))
+  unfolding paddingZero fold intervalWord base intervalSize
+  own-zeros x y = and-both (isZero (slotWord o w t i 2)) (isZero (slotWord o w t i 3)) (zero-yes x) (zero-yes y)
 
   says-interval : IntervalFormed (o .accounts) (slotWord o w t i) → T (intervalFits o w t i)
   unfolding intervalFits
   says-interval h =
-      let p = own-spares (h .spare .0) (h .spare .1) in
+      let p = own-zeros (h .padding .0) (h .padding .1) in
       let n = fits-same Ncc (slotRow o w t i Ncc 0) (slotWord o w t i) ncc-words (says-ncc (slotWord o w t i) (h .ncc)) in
       let each = all-yes (o .accounts) (accountWordsFit o w t i) (λ a l. says-account a (h .vesting a l) (h .meter a l) (h .residual a l) (h .last a l)) in
       search and-both depth 4

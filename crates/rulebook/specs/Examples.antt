@@ -14,7 +14,7 @@ use Rattle.rulebook.specs.declared.Terms.{Terms}
 use Rattle.rulebook.specs.Terms.{InTerms}
 use Rattle.rulebook.specs.Sections.{valueInRange}
 use Rattle.rulebook.specs.Layout.{base, balanceWord}
-use Rattle.rulebook.specs.WellFormed.{rowFits, rowBlank, rowCounts, headerFits, balanceFits, accountFits}
+use Rattle.rulebook.specs.WellFormed.{rowFits, rowBlank, rowCounts, headerFits, balanceFits, balanceWordsFit}
 use Rattle.rulebook.specs.Figures.{accounts}
 
 -- ---- Terms
@@ -123,10 +123,10 @@ pub record Headers : Type 0 where
   pub earlyFirst : headed (pos 395) (pos 2) (pos 1) (pos 1) (pos 9496) (pos 9497) [] ≡ false
   pub beforeFirst : headed (pos 395) (pos 2) (pos 1) (pos 1) (pos 9498) (pos 9497) [] ≡ false
   pub pastLast : headed (pos 395) (pos 2) (pos 1) (pos 1) (pos 9497) (pos 36526) [] ≡ false
-  pub lastSpareUsed : headed (pos 395) (pos 2) (pos 1) (pos 1) (pos 9497) (pos 9497) (replicate 57 (pos 0) ++ (pos 1 ∷ [])) ≡ false
+  pub lastPaddingUsed : headed (pos 395) (pos 2) (pos 1) (pos 1) (pos 9497) (pos 9497) (replicate 57 (pos 0) ++ (pos 1 ∷ [])) ≡ false
   -- words 6 and 64 are balances
   pub balances : headed (pos 395) (pos 2) (pos 1) (pos 1) (pos 9497) (pos 9497) (pos 1 ∷ replicate 57 (pos 0) ++ (pos 1 ∷ [])) ≡ true
-  pub spareUsed : headed (pos 395) (pos 2) (pos 1) (pos 1) (pos 9497) (pos 9497) (pos 0 ∷ pos 1 ∷ []) ≡ false
+  pub paddingUsed : headed (pos 395) (pos 2) (pos 1) (pos 1) (pos 9497) (pos 9497) (pos 0 ∷ pos 1 ∷ []) ≡ false
 
 pub headers : Headers
 unfolding headerFits fold
@@ -140,9 +140,9 @@ headers = record {
   earlyFirst = refl;
   beforeFirst = refl;
   pastLast = refl;
-  lastSpareUsed = refl;
+  lastPaddingUsed = refl;
   balances = refl;
-  spareUsed = refl;
+  paddingUsed = refl;
 }
 
 -- ---- Balances: (C − F) × 4,800,000,000,000 either way, the MSSL's N times that
@@ -161,7 +161,7 @@ balances = record { newBook = (refl, refl); oneDay = (refl, refl); below = (refl
 
 -- account a's words after a closed day, of a book of zeros but for a 1 at an index
 abbrev used : ℕ → ℕ → Bool
-used a n = accountFits (replicate n (pos 0) ++ (pos 1 ∷ [])) 1 a
+used a n = balanceWordsFit (replicate n (pos 0) ++ (pos 1 ∷ [])) 1 a
 
 pub record AccountWords : Type 0 where
   -- where balances stand, and after the last account's eight words the first slot
@@ -174,5 +174,5 @@ pub record AccountWords : Type 0 where
   pub last : tabulate 10 (λ n. used 31 (311 + n)) ≡ true ∷ true ∷ false ∷ false ∷ false ∷ false ∷ false ∷ false ∷ false ∷ true ∷ []
 
 pub account-words : AccountWords
-unfolding tabulate fold accountFits balanceFits base
+unfolding tabulate fold balanceWordsFit balanceFits base
 account-words = record { balances = (refl, refl); slots = (refl, refl, refl); first = refl; second = refl; last = refl }

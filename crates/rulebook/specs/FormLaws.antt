@@ -17,11 +17,11 @@ use Rattle.rulebook.specs.declared.Terms.{Terms}
 use Rattle.rulebook.specs.Units.{lastDay, between, positive}
 use Rattle.rulebook.specs.Terms.{InTerms}
 use Rattle.rulebook.specs.Sections.{accountsOf, mostCount}
-use Rattle.rulebook.specs.Layout.{width, intervalSize, ring, size, slot, intervalWord, rowWord, Word, spare, isSpare, intervalTable, accountTable, intervalWords, accountWords, accountPlace, wordName, flagIndex, msslWord, markWord, accountsWord, lagWord, horizonWord, firstDayWord, nextDayWord, balanceWord, accountSpare, headerSpare, headerSpares, accountSpares, InWindow}
+use Rattle.rulebook.specs.Layout.{width, intervalSize, ring, size, slot, intervalWord, rowWord, Word, padding, isPadding, intervalTable, accountTable, intervalWords, accountWords, accountPlace, wordName, flagIndex, msslWord, markWord, accountsWord, lagWord, horizonWord, firstDayWord, nextDayWord, balanceWord, balancePadding, headerPadding, headerPaddingWords, balancePaddingWords, InWindow}
 use Rattle.rulebook.specs.BookData.{termsOf, nextDay}
-use Rattle.rulebook.specs.WellFormed.{isZero, rowFits, rowBlank, rowCounts, wordFits, sparesZero, isThere, intervalBlank, slotBlank, slotRow, accountWordsFit, intervalFits, bothThere, closedRowsThere, accountFits, balanceFits, headerFits, fits, wellFormed, dayBound}
+use Rattle.rulebook.specs.WellFormed.{isZero, rowFits, rowBlank, rowCounts, wordFits, paddingZero, isThere, intervalBlank, slotBlank, slotRow, accountWordsFit, intervalFits, bothThere, closedRowsThere, balanceWordsFit, balanceFits, headerFits, fits, wellFormed, dayBound}
 use Rattle.rulebook.specs.WindowWalk.{windowSlot, windowSlotFits}
-use Rattle.rulebook.specs.Ledger.{Ledger, Holds, Padding, ofInterval, ofAccount}
+use Rattle.rulebook.specs.Ledger.{Ledger, HoldsLedger, Padding, ofInterval, ofAccount}
 use Rattle.rulebook.specs.TestLaws.{all-same, any-same, all-yes, between-yes, cond-yes, and-both, or-cases, nor-left}
 use Rattle.rulebook.specs.RowWordLaws.{flag-inside}
 use Rattle.rulebook.specs.RingLaws.{place-slot, place-day}
@@ -60,12 +60,12 @@ fits-same s f g e t =
     = any-same (suc (mostCount s)) (rowCounts s f) (rowCounts s g) (λ c hc. rw (words c)) in
     rw (blank, counts) t
 
--- a table's spare words
-spares-zero : (table : List Word) (f : ℕ → ℤ) → ((q : ℕ) → q < length table → T (isSpare (getD table q spare)) → T (isZero (f q))) → T (sparesZero table f)
-unfolding sparesZero
-spares-zero table f h = all-yes (length table) (λ q. not (isSpare (getD table q spare)) || isZero (f q)) (λ q hq. not-or (isSpare (getD table q spare)) (isZero (f q)) (h q hq))
+-- a table's padding words
+padding-zeros : (table : List Word) (f : ℕ → ℤ) → ((q : ℕ) → q < length table → T (isPadding (getD table q padding)) → T (isZero (f q))) → T (paddingZero table f)
+unfolding paddingZero
+padding-zeros table f h = all-yes (length table) (λ q. not (isPadding (getD table q padding)) || isZero (f q)) (λ q hq. not-or (isPadding (getD table q padding)) (isZero (f q)) (h q hq))
 
-module _ (o : Terms) (t : InTerms o) (b : Ledger) (w : List ℤ) (h : Holds o b w) (q : Fit o b) where
+module _ (o : Terms) (t : InTerms o) (b : Ledger) (w : List ℤ) (h : HoldsLedger o b w) (q : Fit o b) where
   abbrev k : ℕ
   k = b .closed
 
@@ -100,7 +100,7 @@ module _ (o : Terms) (t : InTerms o) (b : Ledger) (w : List ℤ) (h : Holds o b 
     cell-fits : (a i : ℕ) → a < o .accounts → i < 48 → T (accountWordsFit o w (windowSlot o k u) i a)
     unfolding accountWordsFit
     cell-fits a i ha hi =
-        let x = spares-zero accountTable (λ q. word w (intervalWord o (windowSlot o k u) i (accountPlace a q))) (λ q hq t. slot-padding i (accountPlace a q) hi (ofAccount a q ha hq t)) in
+        let x = padding-zeros accountTable (λ q. word w (intervalWord o (windowSlot o k u) i (accountPlace a q))) (λ q hq t. slot-padding i (accountPlace a q) hi (ofAccount a q ha hq t)) in
         let v = section-fits Vesting a i ha hi in
         let m = section-fits Meter a i ha hi in
         let r = section-fits Residual a i ha hi in
@@ -109,7 +109,7 @@ module _ (o : Terms) (t : InTerms o) (b : Ledger) (w : List ℤ) (h : Holds o b 
     interval-fits : (i : ℕ) → i < 48 → T (intervalFits o w (windowSlot o k u) i)
     unfolding intervalFits
     interval-fits i hi =
-        let x = spares-zero intervalTable (λ q. word w (intervalWord o (windowSlot o k u) i q)) (λ q hq t. slot-padding i q hi (ofInterval q hq t)) in
+        let x = padding-zeros intervalTable (λ q. word w (intervalWord o (windowSlot o k u) i q)) (λ q hq t. slot-padding i q hi (ofInterval q hq t)) in
         let n = section-fits Ncc 0 i (omega arith) hi in
         let c = all-yes (o .accounts) (accountWordsFit o w (windowSlot o k u) i) (λ a ha. cell-fits a i ha hi) in
         search and-both
@@ -163,14 +163,14 @@ module _ (o : Terms) (t : InTerms o) (b : Ledger) (w : List ℤ) (h : Holds o b 
       let z : T (between (pos 1) (pos 92) (word w horizonWord)) = rw (h .horizon) (between-yes 1 92 (o .horizon) (omega arith) (omega arith)) in
       let f : T (between (pos 9497) (pos 36524) (word w firstDayWord)) = rw (h .first) (between-yes 9497 36524 (o .first) (omega arith) (omega arith)) in
       let c : T (between (word w firstDayWord) (pos 36525) (word w nextDayWord)) = rw (h .first, h .next) (between-yes (o .first) 36525 (o .first + k) (omega arith) (omega (arith, q .begun))) in
-      let s : T (all headerSpares (λ n. isZero (word w (headerSpare n)))) = all-yes headerSpares (λ n. isZero (word w (headerSpare n))) (λ n hn. zero-yes (h .spare n hn)) in
+      let s : T (all headerPaddingWords (λ n. isZero (word w (headerPadding n)))) = all-yes headerPaddingWords (λ n. isZero (word w (headerPadding n))) (λ n hn. zero-yes (h .headerZeros n hn)) in
       search and-both depth 8
 
-  account-fits : (a : ℕ) → a < o .accounts → T (accountFits w k a)
-  unfolding accountFits balanceFits
-  account-fits a ha = and-both (balanceFits 1 k (word w (balanceWord a))) (all accountSpares (λ j. isZero (word w (accountSpare a j))))
+  account-fits : (a : ℕ) → a < o .accounts → T (balanceWordsFit w k a)
+  unfolding balanceWordsFit balanceFits
+  account-fits a ha = and-both (balanceFits 1 k (word w (balanceWord a))) (all balancePaddingWords (λ j. isZero (word w (balancePadding a j))))
       (rw (h .balances a ha) (le→leb (natAbs (b .balance a)) (1 * (k * dayBound)) (rw one-mul (q .bounded a ha))))
-      (all-yes accountSpares (λ j. isZero (word w (accountSpare a j))) (λ j hj. zero-yes (h .spares a j ha hj)))
+      (all-yes balancePaddingWords (λ j. isZero (word w (balancePadding a j))) (λ j hj. zero-yes (h .balanceZeros a j ha hj)))
 
   mssl-fits : T (balanceFits (o .accounts) k (word w msslWord))
   unfolding balanceFits
@@ -183,7 +183,7 @@ module _ (o : Terms) (t : InTerms o) (b : Ledger) (w : List ℤ) (h : Holds o b 
       let a = header-fits in
       let l = le→leb (size o) (length w) (h .long) in
       let c : T (balanceFits (o .accounts) (o .first + k - o .first) (word w msslWord)) = rw n mssl-fits in
-      let d : T (all (o .accounts) (accountFits w (o .first + k - o .first))) = rw n (all-yes (o .accounts) (accountFits w k) account-fits) in
+      let d : T (all (o .accounts) (balanceWordsFit w (o .first + k - o .first))) = rw n (all-yes (o .accounts) (balanceWordsFit w k) account-fits) in
       let e = walk-days o w k (t .horizonFrom) (all-yes (ring o) (windowSlotFits o w k) window-fits) in
       search and-both depth 6
 

@@ -64,7 +64,7 @@ pub data NccFormed (f : ℕ → ℤ) : Type 0 where
 -- the 4 + 24n words of an interval with n accounts
 pub record IntervalFormed (n : ℕ) (f : ℕ → ℤ) : Type 0 where
   pub ncc : NccFormed f
-  pub spare : (f 2 ≡ pos 0) × (f 3 ≡ pos 0)
+  pub padding : (f 2 ≡ pos 0) × (f 3 ≡ pos 0)
   pub vesting : (a : ℕ) → a < n → PairsFormed IsQuantity IsPrice (λ j. f (4 + 24 * a + j))
   pub meter : (a : ℕ) → a < n → PairsFormed IsPrice IsInjection (λ j. f (13 + 24 * a + j))
   pub residual : (a : ℕ) → a < n → ResidualFormed (λ j. f (22 + 24 * a + j))
@@ -98,9 +98,9 @@ pub record FormedBook (o : Terms) (C : ℕ) (w : List ℤ) : Type 0 where
   pub first : word w 4 ≡ pos (o .first)
   pub next : word w 5 ≡ pos C
   pub mssl : natAbs (word w 6) ≤ o .accounts * ((C - o .first) * 4800000000000)
-  pub spare : (n : ℕ) → 7 ≤ n → n < 64 → word w n ≡ pos 0
+  pub headerZeros : (n : ℕ) → 7 ≤ n → n < 64 → word w n ≡ pos 0
   pub balances : (a : ℕ) → a < o .accounts → natAbs (word w (64 + 8 * a)) ≤ (C - o .first) * 4800000000000
-  pub spares : (a j : ℕ) → a < o .accounts → 1 ≤ j → j < 8 → word w (64 + 8 * a + j) ≡ pos 0
+  pub balanceZeros : (a j : ℕ) → a < o .accounts → 1 ≤ j → j < 8 → word w (64 + 8 * a + j) ≡ pos 0
   pub terms : InTerms o
   pub begun : o .first ≤ C
   pub ended : C ≤ 36525

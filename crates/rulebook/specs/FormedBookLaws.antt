@@ -11,9 +11,9 @@ use Rattle.integer.specs.Below.{all}
 use Rattle.integer.specs.Words.{word}
 use Rattle.rulebook.specs.declared.Terms.{Terms}
 use Rattle.rulebook.specs.Units.{between, positive}
-use Rattle.rulebook.specs.Layout.{headerSpares, headerSpare, accountSpares, accountSpare, balanceWord, msslWord, base, ring, intervalSize, size}
+use Rattle.rulebook.specs.Layout.{headerPaddingWords, headerPadding, balancePaddingWords, balancePadding, balanceWord, msslWord, base, ring, intervalSize, size}
 use Rattle.rulebook.specs.BookData.{termsOf, nextDay}
-use Rattle.rulebook.specs.WellFormed.{isZero, balanceFits, accountFits, headerFits, daysFit, fits, wellFormed}
+use Rattle.rulebook.specs.WellFormed.{isZero, balanceFits, balanceWordsFit, headerFits, daysFit, fits, wellFormed}
 use Rattle.rulebook.specs.FormedBook.{FormedBook}
 use Rattle.rulebook.specs.TestLaws.{and-left, and-right, and-both, between-yes, all-yes}
 use Rattle.rulebook.specs.WindowLaws.{days-fit-say, say-days-fit}
@@ -41,9 +41,9 @@ module _ (w : List ℤ) (t : T (wellFormed w)) where
         first = h .first;
         next = next-of w t .0;
         mssl = mssl-at w t;
-        spare = λ n a b. subst (λ (m : ℕ). word w m ≡ pos 0) (omega arith) (h .spare (n - 7) (omega arith));
+        headerZeros = λ n a b. subst (λ (m : ℕ). word w m ≡ pos 0) (omega arith) (h .headerZeros (n - 7) (omega arith));
         balances = balance-at w t;
-        spares = λ a j ha x y. subst (λ (m : ℕ). word w m ≡ pos 0) (omega arith) (h .spares a (j - 1) ha (omega arith));
+        balanceZeros = λ a j ha x y. subst (λ (m : ℕ). word w m ≡ pos 0) (omega arith) (h .balanceZeros a (j - 1) ha (omega arith));
         terms = opened-of w t;
         begun = next-of w t .1;
         ended = next-of w t .2;
@@ -65,15 +65,15 @@ module _ (o : Terms) (C : ℕ) (w : List ℤ) (h : FormedBook o C w) where
       let z : T (between (pos 1) (pos 92) (word w 3)) = rw (h .horizon) (between-yes 1 92 (o .horizon) (omega arith) (omega arith)) in
       let f : T (between (pos 9497) (pos 36524) (word w 4)) = rw (h .first) (between-yes 9497 36524 (o .first) (omega arith) (omega arith)) in
       let c : T (between (word w 4) (pos 36525) (word w 5)) = rw (h .first, h .next) (between-yes (o .first) 36525 C (omega arith) (omega arith)) in
-      let s : T (all headerSpares (λ n. isZero (word w (headerSpare n)))) = all-yes headerSpares (λ n. isZero (word w (headerSpare n))) (λ n hn. zero-yes (h .spare (headerSpare n) (omega arith) (omega arith))) in
+      let s : T (all headerPaddingWords (λ n. isZero (word w (headerPadding n)))) = all-yes headerPaddingWords (λ n. isZero (word w (headerPadding n))) (λ n hn. zero-yes (h .headerZeros (headerPadding n) (omega arith) (omega arith))) in
       search and-both depth 8
 
-  account-passes : (a : ℕ) → a < o .accounts → T (accountFits w (C - o .first) a)
-  unfolding accountFits balanceFits
-  account-passes a ha = and-both (balanceFits 1 (C - o .first) (word w (balanceWord a))) (all accountSpares (λ j. isZero (word w (accountSpare a j))))
+  account-passes : (a : ℕ) → a < o .accounts → T (balanceWordsFit w (C - o .first) a)
+  unfolding balanceWordsFit balanceFits
+  account-passes a ha = and-both (balanceFits 1 (C - o .first) (word w (balanceWord a))) (all balancePaddingWords (λ j. isZero (word w (balancePadding a j))))
       (le→leb (natAbs (word w (balanceWord a))) (1 * ((C - o .first) * 4800000000000)) (rw one-mul (h .balances a ha)))
-      (all-yes accountSpares (λ j. isZero (word w (accountSpare a j)))
-      (λ j hj. zero-yes (subst (λ (m : ℕ). word w m ≡ pos 0) (omega arith) (h .spares a (1 + j) ha (omega arith) (omega arith)))))
+      (all-yes balancePaddingWords (λ j. isZero (word w (balancePadding a j)))
+      (λ j hj. zero-yes (subst (λ (m : ℕ). word w m ≡ pos 0) (omega arith) (h .balanceZeros a (1 + j) ha (omega arith) (omega arith)))))
 
   all-pass : T (fits o w C)
   unfolding fits balanceFits size base ring intervalSize
@@ -81,7 +81,7 @@ module _ (o : Terms) (C : ℕ) (w : List ℤ) (h : FormedBook o C w) where
       let a = header-passes in
       let l = le→leb (size o) (length w) (h .long) in
       let c = le→leb (natAbs (word w msslWord)) (o .accounts * ((C - o .first) * 4800000000000)) (h .mssl) in
-      let d = all-yes (o .accounts) (accountFits w (C - o .first)) account-passes in
+      let d = all-yes (o .accounts) (balanceWordsFit w (C - o .first)) account-passes in
       let e = say-days-fit o w C (say-days o w C (h .days)) in
       search and-both depth 6
 

@@ -16,11 +16,11 @@ use Rattle.rulebook.specs.declared.Terms.{Terms}
 use Rattle.rulebook.specs.Units.{lastDay, between, positive}
 use Rattle.rulebook.specs.Terms.{InTerms}
 use Rattle.rulebook.specs.Sections.{accountsOf}
-use Rattle.rulebook.specs.Layout.{width, place, ring, size, intervalSize, slot, intervalWord, rowWord, markWord, accountsWord, lagWord, horizonWord, firstDayWord, nextDayWord, msslWord, balanceWord, accountSpare, headerSpare, headerSpares, accountSpares, InWindow}
+use Rattle.rulebook.specs.Layout.{width, place, ring, size, intervalSize, slot, intervalWord, rowWord, markWord, accountsWord, lagWord, horizonWord, firstDayWord, nextDayWord, msslWord, balanceWord, balancePadding, headerPadding, headerPaddingWords, balancePaddingWords, InWindow}
 use Rattle.rulebook.specs.BookData.{termsOf, nextDay, entriesOf}
-use Rattle.rulebook.specs.WellFormed.{isZero, rowFits, isThere, intervalBlank, slotBlank, intervalFits, closedRowsThere, accountFits, balanceFits, headerFits, fits, wellFormed, dayBound, daysFit}
-use Rattle.rulebook.specs.WindowWalk.{windowSlot, windowSlotFits, turn-of}
-use Rattle.rulebook.specs.Ledger.{Padding, Holds, ledgerOf}
+use Rattle.rulebook.specs.WellFormed.{isZero, rowFits, isThere, intervalBlank, slotBlank, intervalFits, closedRowsThere, balanceWordsFit, balanceFits, headerFits, fits, wellFormed, dayBound, daysFit}
+use Rattle.rulebook.specs.WindowWalk.{windowSlot, windowSlotFits, windowPlace}
+use Rattle.rulebook.specs.Ledger.{Padding, HoldsLedger, ledgerOf}
 use Rattle.rulebook.specs.TestLaws.{and-left, and-right, all-at}
 use Rattle.rulebook.specs.RingLaws.{turned, turn-inside}
 use Rattle.rulebook.specs.WalkLaws.{days-walk}
@@ -71,9 +71,9 @@ module _ (w : List ℤ) (t : T (wellFormed w)) where
       let y : T (between (word w firstDayWord) (pos 36525) (word w nextDayWord)) = search (and-left, and-right) depth 8 in
       is-natural (positive (word w firstDayWord)) 36525 (word w nextDayWord) (subst (λ (z : ℤ). T (between z (pos 36525) (word w nextDayWord))) (first-of .0) y)
 
-  spares-of : T (all headerSpares (λ n. isZero (word w (headerSpare n))))
+  header-zeros : T (all headerPaddingWords (λ n. isZero (word w (headerPadding n))))
   unfolding headerFits
-  spares-of = let x = header-of in search (and-left, and-right) depth 8
+  header-zeros = let x = header-of in search (and-left, and-right) depth 8
 
   pub opened-of : InTerms (termsOf w)
   opened-of = record {
@@ -91,20 +91,20 @@ module _ (w : List ℤ) (t : T (wellFormed w)) where
   unfolding fits
   long-of = let x = all-fits in leb→le (size (termsOf w)) (length w) (search (and-left, and-right) depth 6)
 
-  account-of : (a : ℕ) → a < termsOf w .accounts → T (accountFits w (nextDay w - termsOf w .first) a)
+  account-of : (a : ℕ) → a < termsOf w .accounts → T (balanceWordsFit w (nextDay w - termsOf w .first) a)
   unfolding fits
   account-of a ha = let x = all-fits in
-      all-at (termsOf w .accounts) (accountFits w (nextDay w - termsOf w .first)) (search (and-left, and-right) depth 6) a ha
+      all-at (termsOf w .accounts) (balanceWordsFit w (nextDay w - termsOf w .first)) (search (and-left, and-right) depth 6) a ha
 
-  spares-at : (a j : ℕ) → a < termsOf w .accounts → j < accountSpares → word w (accountSpare a j) ≡ pos 0
-  unfolding accountFits
-  spares-at a j ha hj = is-zero (word w (accountSpare a j)) (all-at accountSpares (λ j. isZero (word w (accountSpare a j)))
-      (and-right (balanceFits 1 (nextDay w - termsOf w .first) (word w (balanceWord a))) (all accountSpares (λ j. isZero (word w (accountSpare a j)))) (account-of a ha)) j hj)
+  balance-zeros : (a j : ℕ) → a < termsOf w .accounts → j < balancePaddingWords → word w (balancePadding a j) ≡ pos 0
+  unfolding balanceWordsFit
+  balance-zeros a j ha hj = is-zero (word w (balancePadding a j)) (all-at balancePaddingWords (λ j. isZero (word w (balancePadding a j)))
+      (and-right (balanceFits 1 (nextDay w - termsOf w .first) (word w (balanceWord a))) (all balancePaddingWords (λ j. isZero (word w (balancePadding a j)))) (account-of a ha)) j hj)
 
   pub balance-at : (a : ℕ) → a < termsOf w .accounts → natAbs (word w (balanceWord a)) ≤ (nextDay w - termsOf w .first) * dayBound
-  unfolding accountFits balanceFits
+  unfolding balanceWordsFit balanceFits
   balance-at a ha = let x = leb→le (natAbs (word w (balanceWord a))) (1 * ((nextDay w - termsOf w .first) * dayBound))
-      (and-left (balanceFits 1 (nextDay w - termsOf w .first) (word w (balanceWord a))) (all accountSpares (λ j. isZero (word w (accountSpare a j)))) (account-of a ha)) in
+      (and-left (balanceFits 1 (nextDay w - termsOf w .first) (word w (balanceWord a))) (all balancePaddingWords (λ j. isZero (word w (balancePadding a j)))) (account-of a ha)) in
       rw one-mul at x
 
   pub mssl-at : natAbs (word w msslWord) ≤ termsOf w .accounts * ((nextDay w - termsOf w .first) * dayBound)
@@ -141,21 +141,21 @@ module _ (o : Terms) (w : List ℤ) (k : ℕ) (t : T (all (ring o) (windowSlotFi
   padding-at : (v i m : ℕ) → v < ring o → i < 48 → Padding (o .accounts) m → word w (intervalWord o v i m) ≡ pos 0
   unfolding windowSlotFits
   padding-at v i m hv hi hm = subst (λ (y : ℕ). word w (intervalWord o y i m) ≡ pos 0) (turned o p k v hv)
-      (go (ltb (k + turn-of o k v) (o .lag) || ltb lastDay (o .first + (k + turn-of o k v - o .lag))) (slot-test (turn-of o k v) (turn-inside o p k v)))
+      (go (ltb (k + windowPlace o k v) (o .lag) || ltb lastDay (o .first + (k + windowPlace o k v - o .lag))) (slot-test (windowPlace o k v) (turn-inside o p k v)))
     where
-      full : T (intervalFits o w (windowSlot o k (turn-of o k v)) i) → Padding (o .accounts) m → word w (intervalWord o (windowSlot o k (turn-of o k v)) i m) ≡ pos 0
-      full x y = is-zero (word w (intervalWord o (windowSlot o k (turn-of o k v)) i m)) (interval-padding o w (windowSlot o k (turn-of o k v)) i x m y)
+      full : T (intervalFits o w (windowSlot o k (windowPlace o k v)) i) → Padding (o .accounts) m → word w (intervalWord o (windowSlot o k (windowPlace o k v)) i m) ≡ pos 0
+      full x y = is-zero (word w (intervalWord o (windowSlot o k (windowPlace o k v)) i m)) (interval-padding o w (windowSlot o k (windowPlace o k v)) i x m y)
 
-      go : (a : Bool) → T (cond a (slotBlank o w (windowSlot o k (turn-of o k v)))
-          (all 48 (intervalFits o w (windowSlot o k (turn-of o k v))) && (not (ltb (turn-of o k v) (o .lag)) || all 48 (closedRowsThere o w (windowSlot o k (turn-of o k v))))))
-          → word w (intervalWord o (windowSlot o k (turn-of o k v)) i m) ≡ pos 0
-      go true x = blank-at (windowSlot o k (turn-of o k v)) i m hi (padding-fits o m hm) x
-      go false x = full (all-at 48 (intervalFits o w (windowSlot o k (turn-of o k v)))
-          (and-left (all 48 (intervalFits o w (windowSlot o k (turn-of o k v)))) (not (ltb (turn-of o k v) (o .lag)) || all 48 (closedRowsThere o w (windowSlot o k (turn-of o k v)))) x) i hi) hm
+      go : (a : Bool) → T (cond a (slotBlank o w (windowSlot o k (windowPlace o k v)))
+          (all 48 (intervalFits o w (windowSlot o k (windowPlace o k v))) && (not (ltb (windowPlace o k v) (o .lag)) || all 48 (closedRowsThere o w (windowSlot o k (windowPlace o k v))))))
+          → word w (intervalWord o (windowSlot o k (windowPlace o k v)) i m) ≡ pos 0
+      go true x = blank-at (windowSlot o k (windowPlace o k v)) i m hi (padding-fits o m hm) x
+      go false x = full (all-at 48 (intervalFits o w (windowSlot o k (windowPlace o k v)))
+          (and-left (all 48 (intervalFits o w (windowSlot o k (windowPlace o k v)))) (not (ltb (windowPlace o k v) (o .lag)) || all 48 (closedRowsThere o w (windowSlot o k (windowPlace o k v)))) x) i hi) hm
 
 module _ (w : List ℤ) (t : T (wellFormed w)) where
   -- a well-formed book holds what its words tell
-  pub formed-holds : Holds (termsOf w) (ledgerOf w) w
+  pub formed-holds : HoldsLedger (termsOf w) (ledgerOf w) w
   formed-holds = record {
     long = long-of w t;
     mark = mark-of w t;
@@ -165,9 +165,9 @@ module _ (w : List ℤ) (t : T (wellFormed w)) where
     first = first-of w t .0;
     next = next-of w t .0 ∙ ap pos (omega (arith, next-of w t .1));
     mssl = refl;
-    spare = λ n x. is-zero (word w (headerSpare n)) (all-at headerSpares (λ n. isZero (word w (headerSpare n))) (spares-of w t) n x);
+    headerZeros = λ n x. is-zero (word w (headerPadding n)) (all-at headerPaddingWords (λ n. isZero (word w (headerPadding n))) (header-zeros w t) n x);
     balances = λ a x. refl;
-    spares = spares-at w t;
+    balanceZeros = balance-zeros w t;
     held = λ s a d i j x ha hi hj. refl;
     early = early-at (termsOf w) w (nextDay w - termsOf w .first) (walk-of w t) (ring-pos (termsOf w) (opened-of w t));
     padding = padding-at (termsOf w) w (nextDay w - termsOf w .first) (walk-of w t) (ring-pos (termsOf w) (opened-of w t));

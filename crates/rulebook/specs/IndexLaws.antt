@@ -11,7 +11,7 @@ use Rattle.rulebook.specs.declared.Section.the-variants.{Vesting, Meter,
 use Rattle.rulebook.specs.declared.Terms.{Terms}
 use Rattle.rulebook.specs.Sections.{TVQ, TVP, MEP, IEQ}
 use Rattle.rulebook.specs.Layout.{width, tablePlace, place, figureIndex, ring, intervalWord, rowWord}
-use Rattle.rulebook.specs.WindowWalk.{windowSlot, turn-of}
+use Rattle.rulebook.specs.WindowWalk.{windowSlot, windowPlace}
 use Rattle.rulebook.specs.TestLaws.{all-at, all-yes, tests-same}
 use Rattle.rulebook.specs.RingLaws.{turn-inside, turned, places-apart}
 
@@ -60,18 +60,18 @@ facility-words (suc (suc (suc (suc f)))) h = absurd (omega arith)
 -- ---- Slots
 
 -- a test of every place of the window is one of every slot
-pub all-slots : (o : Terms) → zero < ring o → (k : ℕ) (p : ℕ → ℕ → Bool) → all (ring o) (λ u. p u (windowSlot o k u)) ≡ all (ring o) (λ v. p (turn-of o k v) v)
-all-slots o some k p = tests-same (all (ring o) (λ u. p u (windowSlot o k u))) (all (ring o) (λ v. p (turn-of o k v) v)) there back
+pub all-slots : (o : Terms) → zero < ring o → (k : ℕ) (p : ℕ → ℕ → Bool) → all (ring o) (λ u. p u (windowSlot o k u)) ≡ all (ring o) (λ v. p (windowPlace o k v) v)
+all-slots o some k p = tests-same (all (ring o) (λ u. p u (windowSlot o k u))) (all (ring o) (λ v. p (windowPlace o k v) v)) there back
   where
-    there : T (all (ring o) (λ u. p u (windowSlot o k u))) → T (all (ring o) (λ v. p (turn-of o k v) v))
-    there t = all-yes (ring o) (λ v. p (turn-of o k v) v) (λ v h.
-        subst (λ (x : ℕ). T (p (turn-of o k v) x)) (turned o some k v h) (all-at (ring o) (λ u. p u (windowSlot o k u)) t (turn-of o k v) (turn-inside o some k v)))
+    there : T (all (ring o) (λ u. p u (windowSlot o k u))) → T (all (ring o) (λ v. p (windowPlace o k v) v))
+    there t = all-yes (ring o) (λ v. p (windowPlace o k v) v) (λ v h.
+        subst (λ (x : ℕ). T (p (windowPlace o k v) x)) (turned o some k v h) (all-at (ring o) (λ u. p u (windowSlot o k u)) t (windowPlace o k v) (turn-inside o some k v)))
 
-    back : T (all (ring o) (λ v. p (turn-of o k v) v)) → T (all (ring o) (λ u. p u (windowSlot o k u)))
+    back : T (all (ring o) (λ v. p (windowPlace o k v) v)) → T (all (ring o) (λ u. p u (windowSlot o k u)))
     back t = all-yes (ring o) (λ u. p u (windowSlot o k u)) (λ u h.
         let i = slot-inside u in
-        let e = places-apart o some k (turn-of o k (windowSlot o k u)) u (turn-inside o some k (windowSlot o k u)) h (turned o some k (windowSlot o k u) i) in
-        subst (λ (x : ℕ). T (p x (windowSlot o k u))) e (all-at (ring o) (λ v. p (turn-of o k v) v) t (windowSlot o k u) i))
+        let e = places-apart o some k (windowPlace o k (windowSlot o k u)) u (turn-inside o some k (windowSlot o k u)) h (turned o some k (windowSlot o k u) i) in
+        subst (λ (x : ℕ). T (p x (windowSlot o k u))) e (all-at (ring o) (λ v. p (windowPlace o k v) v) t (windowSlot o k u) i))
       where
         slot-inside : (u : ℕ) → windowSlot o k u < ring o
         slot-inside u = unfold windowSlot in mod-lt _ some

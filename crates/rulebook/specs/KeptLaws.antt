@@ -15,7 +15,7 @@ use Rattle.rulebook.specs.declared.Kind.{Kind}
 use Rattle.rulebook.specs.declared.Kind.the-variants.{Quantity, Price, Injection, Load}
 use Rattle.rulebook.specs.Units.{inRange}
 use Rattle.rulebook.specs.Sections.{kindOf, perInterval, leastCount, mostCount, valueInRange, sameSection, Figure, figureSection, figurePlace}
-use Rattle.rulebook.specs.Layout.{width, present, Word, flag, figure, spare, flagIndex, figureIndex, wordName}
+use Rattle.rulebook.specs.Layout.{width, present, Word, flag, figure, padding, flagIndex, figureIndex, wordName}
 use Rattle.rulebook.specs.WellFormed.{isZero, rowFits, rowBlank, rowCounts, wordFits}
 use Rattle.rulebook.specs.File.{Row, numberOf, figureOf}
 use Rattle.rulebook.specs.Submit.{entry, wordOf}
@@ -89,7 +89,7 @@ figure-fits r h i hi g = go (sameSection (r .section) (figureSection g))
 word-fits : (r : Row) → Ranged r → (i : ℕ) → i < 48 → (n : Word) → T (wordFits (r .section) (r .count) n (wordOf r i n))
 word-fits r h i hi (flag s) = between-yes _ _ (present (r .section) (r .count)) (omega arith) (omega arith)
 word-fits r h i hi (figure g) = figure-fits r h i hi g
-word-fits r h i hi spare = tt
+word-fits r h i hi padding = tt
 
 pub there-fits : (r : Row) → Ranged r → (f : ℕ → ℤ) (i : ℕ) → i < 48 → ((j : ℕ) → j < width (r .section) → f j ≡ entry r i j) → T (rowFits (r .section) f)
 unfolding rowFits rowCounts entry

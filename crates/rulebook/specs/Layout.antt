@@ -46,15 +46,15 @@ abbrev pub msslWord : ℕ
 msslWord = 6
 
 -- word 0 of every book
-abbrev pub mark : ℕ
-mark = 395
+abbrev pub bookMark : ℕ
+bookMark = 395
 
 -- the header's zeros, to word 63
-abbrev pub headerSpares : ℕ
-headerSpares = 57
+abbrev pub headerPaddingWords : ℕ
+headerPaddingWords = 57
 
-abbrev pub headerSpare : ℕ → ℕ
-headerSpare n = 7 + n
+abbrev pub headerPadding : ℕ → ℕ
+headerPadding n = 7 + n
 
 -- ---- Accounts
 
@@ -65,11 +65,11 @@ balanceWords = 8
 abbrev pub balanceWord : ℕ → ℕ
 balanceWord a = headerWords + balanceWords * a
 
-abbrev pub accountSpares : ℕ
-accountSpares = 7
+abbrev pub balancePaddingWords : ℕ
+balancePaddingWords = 7
 
-abbrev pub accountSpare : ℕ → ℕ → ℕ
-accountSpare a j = 65 + 8 * a + j
+abbrev pub balancePadding : ℕ → ℕ → ℕ
+balancePadding a j = 65 + 8 * a + j
 
 -- ---- An interval's words, by name
 
@@ -77,18 +77,18 @@ accountSpare a j = 65 + 8 * a + j
 pub data Word : Type 0 where
   flag : Section → Word
   figure : Figure → Word
-  spare : Word
+  padding : Word
 
 -- first the interval's own
 abbrev pub intervalTable : List Word
-intervalTable = figure NccLoad ∷ flag Ncc ∷ spare ∷ spare ∷ []
+intervalTable = figure NccLoad ∷ flag Ncc ∷ padding ∷ padding ∷ []
 
 -- then those of each account
 abbrev pub accountTable : List Word
 accountTable =
     flag Vesting ∷ figure BVQ ∷ figure BVP ∷ figure (TVQ 0) ∷ figure (TVP 0) ∷ figure (TVQ 1) ∷ figure (TVP 1) ∷ figure (TVQ 2) ∷ figure (TVP 2)
     ∷ flag Meter ∷ figure (MEP 0) ∷ figure (IEQ 0) ∷ figure (MEP 1) ∷ figure (IEQ 1) ∷ figure (MEP 2) ∷ figure (IEQ 2) ∷ figure (MEP 3) ∷ figure (IEQ 3)
-    ∷ flag Residual ∷ figure UEGQ ∷ figure MQ ∷ figure RVP1 ∷ figure RVP2 ∷ spare ∷ []
+    ∷ flag Residual ∷ figure UEGQ ∷ figure MQ ∷ figure RVP1 ∷ figure RVP2 ∷ padding ∷ []
 
 abbrev pub intervalWords : ℕ
 intervalWords = length intervalTable
@@ -130,24 +130,24 @@ firstPlace p xs = getD (placesFrom 0 p xs) 0 0
 abbrev pub isFlag : Word → Bool
 isFlag (flag s) = true
 isFlag (figure g) = false
-isFlag spare = false
+isFlag padding = false
 
-abbrev pub isSpare : Word → Bool
-isSpare (flag s) = false
-isSpare (figure g) = false
-isSpare spare = true
+abbrev pub isPadding : Word → Bool
+isPadding (flag s) = false
+isPadding (figure g) = false
+isPadding padding = true
 
 -- a row of section s has this word
 abbrev pub ofSection : Section → Word → Bool
 ofSection s (flag t) = sameSection t s
 ofSection s (figure g) = sameSection (figureSection g) s
-ofSection s spare = false
+ofSection s padding = false
 
 -- the word is the figure of its row at this place
 abbrev pub ofPlace : ℕ → Word → Bool
 ofPlace k (flag t) = false
 ofPlace k (figure g) = eqb (figurePlace g) k
-ofPlace k spare = false
+ofPlace k padding = false
 
 abbrev pub tableOf : Section → List Word
 tableOf Vesting = accountTable
@@ -163,7 +163,7 @@ abbrev pub width : Section → ℕ
 width s = length (rowTable s)
 
 abbrev pub wordName : Section → ℕ → Word
-wordName s j = getD (rowTable s) j spare
+wordName s j = getD (rowTable s) j padding
 
 -- which of a row's words is its flag, and which a figure
 abbrev pub flagIndex : Section → ℕ

@@ -10,7 +10,7 @@ use Rattle.integer.specs.Words.{word}
 use Rattle.rulebook.specs.declared.Section.the-variants.{Vesting, Meter, Residual, Ncc}
 use Rattle.rulebook.specs.declared.Terms.{Terms}
 use Rattle.rulebook.specs.Sections.{Figure, BVQ, BVP, TVQ, TVP, MEP, IEQ, UEGQ, MQ, RVP1, RVP2, NccLoad, figureSection}
-use Rattle.rulebook.specs.Layout.{spare, isSpare, intervalTable, accountTable, figureIndex, size, base, ring, intervalSize, slot, intervalWord, rowWord, flagWord}
+use Rattle.rulebook.specs.Layout.{padding, isPadding, intervalTable, accountTable, figureIndex, size, base, ring, intervalSize, slot, intervalWord, rowWord, flagWord}
 use Rattle.rulebook.specs.WellFormed.{isDated}
 use Rattle.rulebook.specs.Opening.{header}
 use Rattle.rulebook.specs.Judging.{limitsOf}
@@ -26,7 +26,7 @@ pub record Places : Type 0 where
   -- the interval's own words
   pub load : at two 0 9497 0 NccLoad ≡ 80
   pub loadFlag : flagWord two Ncc 0 9497 0 ≡ 81
-  pub intervalSpare : tabulate 4 (λ q. isSpare (getD intervalTable q spare)) ≡ false ∷ false ∷ true ∷ true ∷ []
+  pub intervalPadding : tabulate 4 (λ q. isPadding (getD intervalTable q padding)) ≡ false ∷ false ∷ true ∷ true ∷ []
   -- account 1's, 108 to 131
   pub vestingFlag : flagWord two Vesting 1 9497 0 ≡ 108
   pub bvq : at two 1 9497 0 BVQ ≡ 109
@@ -41,7 +41,7 @@ pub record Places : Type 0 where
   pub mq : at two 1 9497 0 MQ ≡ 128
   pub rvp1 : at two 1 9497 0 RVP1 ≡ 129
   pub rvp2 : at two 1 9497 0 RVP2 ≡ 130
-  pub accountSpare : tabulate 24 (λ q. isSpare (getD accountTable q spare))
+  pub accountPadding : tabulate 24 (λ q. isPadding (getD accountTable q padding))
       ≡ false ∷ false ∷ false ∷ false ∷ false ∷ false ∷ false ∷ false ∷ false ∷ false ∷ false ∷ false ∷ false ∷ false ∷ false ∷ false ∷ false ∷ false ∷ false ∷ false ∷ false ∷ false ∷ false ∷ true ∷ []
   -- the first account, the next interval, the last word that a row has, the next day, and the day after it on the first slot again
   pub firstAccount : flagWord two Vesting 0 9497 0 ≡ 84
@@ -58,7 +58,7 @@ places = record {
   sizeThree = refl;
   load = refl;
   loadFlag = refl;
-  intervalSpare = refl;
+  intervalPadding = refl;
   vestingFlag = refl;
   bvq = refl;
   bvp = refl;
@@ -72,7 +72,7 @@ places = record {
   mq = refl;
   rvp1 = refl;
   rvp2 = refl;
-  accountSpare = refl;
+  accountPadding = refl;
   firstAccount = refl;
   oneAccount = refl;
   nextInterval = refl;

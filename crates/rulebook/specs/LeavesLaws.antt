@@ -23,7 +23,7 @@ use Rattle.rulebook.specs.declared.Verdict.{Verdict}
 use Rattle.rulebook.specs.declared.Verdict.the-variants.{Accepted, Refused}
 use Rattle.rulebook.specs.Units.{lastDay}
 use Rattle.rulebook.specs.DayAmount.{residualDue, msslAmount}
-use Rattle.rulebook.specs.Layout.{base, ring, intervalSize, slot, intervalWord, rowWord, width, place, rowTable, spare}
+use Rattle.rulebook.specs.Layout.{base, ring, intervalSize, slot, intervalWord, rowWord, width, place, rowTable, padding}
 use Rattle.rulebook.specs.BookData.{termsOf, nextDay}
 use Rattle.rulebook.specs.WellFormed.{wellFormed}
 use Rattle.rulebook.specs.File.{Row, fileRows, figureOf}
@@ -175,7 +175,7 @@ getD-map f (x ∷ xs) (suc j) d = getD-map f xs j d
 
 entry-word : (r : Row) (i j : ℕ) → entry r i j ≡ word (wordsOf (r .section) (r .count) (figureOf r i)) j
 unfolding entry
-entry-word r i j = sym (getD-map (wordOf r i) (rowTable (r .section)) j spare) ∙ ap (λ (l : List ℤ). word l j) (words-are r i (r .section) refl)
+entry-word r i j = sym (getD-map (wordOf r i) (rowTable (r .section)) j padding) ∙ ap (λ (l : List ℤ). word l j) (words-are r i (r .section) refl)
 
 widths : (s : Section) → wordsIn s ≡ width s
 widths Vesting = refl

@@ -1,4 +1,4 @@
--- Between a book's words and the history of its calls stands the ledger, in two layers. Below it is all index arithmetic: `Holds` says which word has
+-- Between a book's words and the history of its calls stands the ledger, in two layers. Below it is all index arithmetic: `HoldsLedger` says which word has
 -- which figure of the ledger, slot by slot. Above it is none: a history tells a ledger (`ledgerAfter`), whose figures are those of the rows in force
 -- and whose balances are the formula's. Demand 3 is that each call keeps the two together: `State` holds of a new book, and after each call of what it
 -- left. Every book that is well formed holds a ledger, a lent one too (`ledgerOf`). The laws stand in `LedgerLaws` (a row stored), `CloseLaws` (a day
@@ -19,7 +19,7 @@ use Rattle.rulebook.specs.declared.Section.the-variants.{Vesting, Meter}
 use Rattle.rulebook.specs.declared.Terms.{Terms}
 use Rattle.rulebook.specs.Units.{lastDay}
 use Rattle.rulebook.specs.Sections.{accountsOf, leastCount, mostCount, perInterval, valueInRange}
-use Rattle.rulebook.specs.Layout.{width, intervalSize, ring, size, InWindow, intervalWord, rowWord, spare, isSpare, intervalTable, accountTable, accountPlace, intervalWords, accountWords, markWord, accountsWord, lagWord, horizonWord, firstDayWord, nextDayWord, msslWord, balanceWord, accountSpare, headerSpare, headerSpares, accountSpares}
+use Rattle.rulebook.specs.Layout.{width, intervalSize, ring, size, InWindow, intervalWord, rowWord, padding, isPadding, intervalTable, accountTable, accountPlace, intervalWords, accountWords, markWord, accountsWord, lagWord, horizonWord, firstDayWord, nextDayWord, msslWord, balanceWord, balancePadding, headerPadding, headerPaddingWords, balancePaddingWords}
 use Rattle.rulebook.specs.BookData.{Entries, termsOf, nextDay, entriesOf}
 use Rattle.rulebook.specs.WellFormed.{dayBound}
 use Rattle.rulebook.specs.WindowWalk.{windowSlot}
@@ -74,11 +74,11 @@ submittedTo rs b = record { closed = b .closed; entries = overlaid rs (b .entrie
 
 -- the words of an interval that belong to no row
 pub data Padding (n : ℕ) : ℕ → Type 0 where
-  ofInterval : (q : ℕ) → q < intervalWords → T (isSpare (getD intervalTable q spare)) → Padding n q
-  ofAccount : (a q : ℕ) → a < n → q < accountWords → T (isSpare (getD accountTable q spare)) → Padding n (accountPlace a q)
+  ofInterval : (q : ℕ) → q < intervalWords → T (isPadding (getD intervalTable q padding)) → Padding n q
+  ofAccount : (a q : ℕ) → a < n → q < accountWords → T (isPadding (getD accountTable q padding)) → Padding n (accountPlace a q)
 
 -- the words w hold the ledger b, word by word to the book's size
-pub record Holds (o : Terms) (b : Ledger) (w : List ℤ) : Type 0 where
+pub record HoldsLedger (o : Terms) (b : Ledger) (w : List ℤ) : Type 0 where
   pub long : size o ≤ length w
   -- the header
   pub mark : word w markWord ≡ pos 395
@@ -88,10 +88,10 @@ pub record Holds (o : Terms) (b : Ledger) (w : List ℤ) : Type 0 where
   pub first : word w firstDayWord ≡ pos (o .first)
   pub next : word w nextDayWord ≡ pos (o .first + b .closed)
   pub mssl : word w msslWord ≡ b .mssl
-  pub spare : (n : ℕ) → n < headerSpares → word w (headerSpare n) ≡ pos 0
+  pub headerZeros : (n : ℕ) → n < headerPaddingWords → word w (headerPadding n) ≡ pos 0
   -- the accounts
   pub balances : (a : ℕ) → a < o .accounts → word w (balanceWord a) ≡ b .balance a
-  pub spares : (a j : ℕ) → a < o .accounts → j < accountSpares → word w (accountSpare a j) ≡ pos 0
+  pub balanceZeros : (a j : ℕ) → a < o .accounts → j < balancePaddingWords → word w (balancePadding a j) ≡ pos 0
   -- the slots: each word of each row of a day of the window; the slots of no day yet, while fewer than L days are closed; padding
   pub held : (s : Section) (a d i j : ℕ) → InWindow o (b .closed) d → a < accountsOf s (o .accounts) → i < 48 → j < width s
       → word w (rowWord o s a d i j) ≡ b .entries s a d i j
@@ -124,7 +124,7 @@ pub record Kept (o : Terms) (k : ℕ) (rows : RowsInForce) (balance : ℕ → �
 
 -- the words hold the history's ledger; demand 3's counts and its 11 are as the history tells
 pub record State (o : Terms) (past : List Event) (w : List ℤ) : Type 0 where
-  pub holds : Holds o (ledgerAfter o past) w
+  pub holds : HoldsLedger o (ledgerAfter o past) w
   pub kept : Kept o (closes past) (inForce past) (formulaBalance o past)
   pub counted : residualCounts past ≡ 48 * o .accounts * (closes past - o .lag)
   pub reported : EachReported o past

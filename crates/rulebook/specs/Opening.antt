@@ -9,11 +9,11 @@ use Rattle.rulebook.specs.declared.Terms.{Terms}
 use Rattle.rulebook.specs.declared.OpenAnswer.{OpenAnswer}
 use Rattle.rulebook.specs.declared.OpenAnswer.the-variants.{Opened, BadTerms, TooShort}
 use Rattle.rulebook.specs.Terms.{termsFit}
-use Rattle.rulebook.specs.Layout.{mark, size, stored}
+use Rattle.rulebook.specs.Layout.{bookMark, size, stored}
 
 -- 395, N, L, H, F, C = F
 abbrev pub header : Terms → List ℤ
-header o = pos mark ∷ pos (o .accounts) ∷ pos (o .lag) ∷ pos (o .horizon) ∷ pos (o .first) ∷ pos (o .first) ∷ []
+header o = pos bookMark ∷ pos (o .accounts) ∷ pos (o .lag) ∷ pos (o .horizon) ∷ pos (o .first) ∷ pos (o .first) ∷ []
 
 -- every word of the size is written: the header's, and zeros
 unfoldable pub newBook : Terms → List ℤ → List ℤ

@@ -10,10 +10,10 @@ use Rattle.integer.specs.Below.{fold, sumℤ}
 use Rattle.integer.specs.Words.{word}
 use Rattle.rulebook.specs.declared.Section.{Section}
 use Rattle.rulebook.specs.declared.Terms.{Terms}
-use Rattle.rulebook.specs.Layout.{stored, ring, base, size, slot, intervalWord, rowWord, markWord, accountsWord, lagWord, horizonWord, firstDayWord, nextDayWord, msslWord, balanceWord, accountSpare, headerSpare}
+use Rattle.rulebook.specs.Layout.{stored, ring, base, size, slot, intervalWord, rowWord, markWord, accountsWord, lagWord, horizonWord, firstDayWord, nextDayWord, msslWord, balanceWord, balancePadding, headerPadding}
 use Rattle.rulebook.specs.WindowWalk.{windowSlot}
 use Rattle.rulebook.specs.Opening.{header, newBook}
-use Rattle.rulebook.specs.Ledger.{Holds}
+use Rattle.rulebook.specs.Ledger.{HoldsLedger}
 use Rattle.rulebook.specs.LayoutLaws.{interval-inside}
 use Rattle.rulebook.specs.WordLaws.{stored-in, length-stored, row-word-inside}
 use Rattle.rulebook.specs.LedgerLaws.{padding-fits}
@@ -37,7 +37,7 @@ module _ (o : Terms) (lent : List ℤ) (p : zero < ring o) (l : size o ≤ lengt
   unfolding intervalWord base
   late t i m = omega arith
 
-  pub book-new : Holds o (record { closed = 0; entries = λ s a d i j. pos 0; balance = λ a. pos 0; mssl = pos 0 }) (newBook o lent)
+  pub book-new : HoldsLedger o (record { closed = 0; entries = λ s a d i j. pos 0; balance = λ a. pos 0; mssl = pos 0 }) (newBook o lent)
   unfolding base newBook
   book-new = record {
     long = omega (arith, l, length-stored lent 0 (size o) (word (header o)));
@@ -48,9 +48,9 @@ module _ (o : Terms) (lent : List ℤ) (p : zero < ring o) (l : size o ≤ lengt
     first = new-word firstDayWord (omega (arith, base-fits o));
     next = new-word nextDayWord (omega (arith, base-fits o)) ∙ ap pos (sym (add-zero (o .first)));
     mssl = new-zero msslWord (omega (arith, base-fits o)) (omega arith);
-    spare = λ n x. new-zero (headerSpare n) (omega (arith, base-fits o)) (omega arith);
+    headerZeros = λ n x. new-zero (headerPadding n) (omega (arith, base-fits o)) (omega arith);
     balances = λ a x. new-zero (balanceWord a) (omega (arith, base-fits o)) (omega arith);
-    spares = λ a j x y. new-zero (accountSpare a j) (omega (arith, base-fits o)) (omega arith);
+    balanceZeros = λ a j x y. new-zero (balancePadding a j) (omega (arith, base-fits o)) (omega arith);
     held = λ s a d i j x ha hi hj. new-zero (rowWord o s a d i j) (row-word-inside o s d p ha hi hj) (row-late s a d i j);
     early = λ u i m x hi hm. new-zero (intervalWord o (windowSlot o 0 u) i m) (interval-inside o (window-inside u) hi hm) (late (windowSlot o 0 u) i m);
     padding = λ t i m ht hi hm. new-zero (intervalWord o t i m) (interval-inside o ht hi (padding-fits o m hm)) (late t i m);

@@ -13,7 +13,7 @@ use Rattle.rulebook.specs.declared.Section.{Section}
 use Rattle.rulebook.specs.declared.Section.the-variants.{Vesting, Meter, Residual, Ncc}
 use Rattle.rulebook.specs.Units.{between, positive}
 use Rattle.rulebook.specs.Sections.{leastCount, mostCount, perInterval, valueInRange, figurePlace}
-use Rattle.rulebook.specs.Layout.{Word, flag, figure, spare, isFlag, present, width, wordName, flagIndex}
+use Rattle.rulebook.specs.Layout.{Word, flag, figure, padding, isFlag, present, width, wordName, flagIndex}
 use Rattle.rulebook.specs.WellFormed.{isZero, rowBlank, wordFits, rowCounts, rowFits}
 use Rattle.rulebook.specs.TestLaws.{tests-same, and-left, and-right, and-both, or-left, or-right, or-cases, between-yes, all-yes, any-yes, all-at, any-at}
 use Rattle.rulebook.specs.RowWordLaws.{flag-inside, flag-named}
@@ -39,7 +39,7 @@ flagged Ncc v = v
 abbrev pub wordFlagged : Section → ℕ → Word → ℤ → Bool
 wordFlagged s v (flag t) z = true
 wordFlagged s v (figure g) z = cond (ltb (figurePlace g) (flagged s v)) (valueInRange s (figurePlace g) z) (isZero z)
-wordFlagged s v spare z = isZero z
+wordFlagged s v padding z = isZero z
 
 unfoldable pub rowFlagged : Section → (ℕ → ℤ) → Bool
 rowFlagged s f = between (pos 0) (pos (mostFlag s)) (f (flagIndex s)) && all (width s) (λ j. wordFlagged s (positive (f (flagIndex s))) (wordName s j) (f j))
@@ -86,22 +86,22 @@ counted Ncc v h l = record { count = 0; least = omega arith; most = omega arith;
 to-flag : (s : Section) (c : ℕ) (n : Word) (z : ℤ) → T (wordFits s c n z) → T (wordFlagged s (present s c) n z)
 to-flag s c (flag t) z x = tt
 to-flag s c (figure g) z x = rw (flagged-present s c) x
-to-flag s c spare z x = x
+to-flag s c padding z x = x
 
 of-flag : (s : Section) (c : ℕ) (n : Word) (z : ℤ) → (T (wordFlagged s (present s c) n z)) → ((t : Section) → n ≡ flag t → z ≡ pos (present s c)) → T (wordFits s c n z)
 of-flag s c (flag t) z x e = rw (e t refl) (between-yes (present s c) (present s c) (present s c) (omega arith) (omega arith))
 of-flag s c (figure g) z x e = rw (flagged-present s c) at x
-of-flag s c spare z x e = x
+of-flag s c padding z x e = x
 
 blank-word : (s : Section) (n : Word) (z : ℤ) → T (isZero z) → T (wordFlagged s 0 n z)
 blank-word s (flag t) z x = tt
 blank-word s (figure g) z x = rw (none-flagged s (figurePlace g)) x
-blank-word s spare z x = x
+blank-word s padding z x = x
 
 word-blank : (s : Section) (n : Word) (z : ℤ) → T (wordFlagged s 0 n z) → ((t : Section) → n ≡ flag t → T (isZero z)) → T (isZero z)
 word-blank s (flag t) z x e = e t refl
 word-blank s (figure g) z x e = rw (none-flagged s (figurePlace g)) at x
-word-blank s spare z x e = x
+word-blank s padding z x e = x
 
 -- a number in a range that starts at 0
 pub natural : (most : ℕ) (z : ℤ) → T (between (pos 0) (pos most) z) → (z ≡ pos (positive z)) × (positive z ≤ most)

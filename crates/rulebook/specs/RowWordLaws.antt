@@ -1,4 +1,4 @@
--- A row's words in the layout's tables: where each stands, no two at one place, and every other word spare. By computation on the tables.
+-- A row's words in the layout's tables: where each stands, no two at one place, and every other word padding. By computation on the tables.
 -- Assumes nothing.
 use mathlib.Core.Path.{_≡_, refl, sym, ap, _∙_, subst}
 use mathlib.Core.Logic.{_⊎_, inl, inr}
@@ -12,7 +12,7 @@ use Rattle.integer.specs.Below.{fold, all}
 use Rattle.rulebook.specs.declared.Section.{Section}
 use Rattle.rulebook.specs.declared.Section.the-variants.{Vesting, Meter, Residual, Ncc}
 use Rattle.rulebook.specs.Sections.{sameSection, Figure, BVQ, BVP, TVQ, TVP, MEP, IEQ, UEGQ, MQ, RVP1, RVP2, NccLoad, figureSection}
-use Rattle.rulebook.specs.Layout.{Word, flag, figure, spare, isSpare, those, ofSection, tableOf, accountTable, intervalTable, width, wordName, flagIndex, figureIndex, tablePlace}
+use Rattle.rulebook.specs.Layout.{Word, flag, figure, padding, isPadding, those, ofSection, tableOf, accountTable, intervalTable, width, wordName, flagIndex, figureIndex, tablePlace}
 use Rattle.rulebook.specs.TestLaws.{and-left, and-right, or-cases, all-at}
 use Rattle.rulebook.specs.SectionsLaws.{same-section}
 
@@ -22,20 +22,20 @@ use Rattle.rulebook.specs.SectionsLaws.{same-section}
 abbrev wordSection : Word → Section
 wordSection (flag s) = s
 wordSection (figure g) = figureSection g
-wordSection spare = Ncc
+wordSection padding = Ncc
 
 -- how many of the section's words stand before place q
 abbrev rank : Section → ℕ → ℕ
 rank s q = length (those (ofSection s) (take q (tableOf s)))
 
 abbrev wordAt : List Word → ℕ → Word
-wordAt table q = getD table q spare
+wordAt table q = getD table q padding
 
 -- ---- Word j of a row
 
 unfoldable placed : Section → ℕ → Bool
 placed s j = ltb (tablePlace s j) (length (tableOf s)) && sameSection (wordSection (wordAt (tableOf s) (tablePlace s j))) s
-    && eqb (rank s (tablePlace s j)) j && not (isSpare (wordAt (tableOf s) (tablePlace s j)))
+    && eqb (rank s (tablePlace s j)) j && not (isPadding (wordAt (tableOf s) (tablePlace s j)))
 
 all-placed : (s : Section) → T (all (width s) (placed s))
 unfolding fold placed
@@ -48,7 +48,7 @@ pub record RowWord (s : Section) (j : ℕ) : Type 0 where
   pub inside : tablePlace s j < length (tableOf s)
   pub section : wordSection (wordAt (tableOf s) (tablePlace s j)) ≡ s
   pub before : rank s (tablePlace s j) ≡ j
-  pub named : T (not (isSpare (wordAt (tableOf s) (tablePlace s j))))
+  pub named : T (not (isPadding (wordAt (tableOf s) (tablePlace s j))))
 
 pub row-word : (s : Section) (j : ℕ) → j < width s → RowWord s j
 unfolding placed
@@ -70,9 +70,9 @@ places-apart s s′ j j′ t h h′ e =
     ∙ ap (λ (n : ℕ). wordSection (wordAt (tableOf s′) n)) e ∙ x′ .section in
     (q, sym (x .before) ∙ ap (rank s) e ∙ ap (λ (y : Section). rank y (tablePlace s′ j′)) q ∙ x′ .before)
 
--- a row's word is none of its table's spare ones
-pub not-spare : (s : Section) (j q : ℕ) → j < width s → tablePlace s j ≡ q → T (isSpare (wordAt (tableOf s) q)) → ⊥
-not-spare s j q h e t = go (isSpare (wordAt (tableOf s) (tablePlace s j))) (row-word s j h .named) (subst (λ (n : ℕ). T (isSpare (wordAt (tableOf s) n))) (sym e) t)
+-- a row's word is none of its table's padding ones
+pub not-padding : (s : Section) (j q : ℕ) → j < width s → tablePlace s j ≡ q → T (isPadding (wordAt (tableOf s) q)) → ⊥
+not-padding s j q h e t = go (isPadding (wordAt (tableOf s) (tablePlace s j))) (row-word s j h .named) (subst (λ (n : ℕ). T (isPadding (wordAt (tableOf s) n))) (sym e) t)
   where
     go : (b : Bool) → T (not b) → T b → ⊥
     go true x y = x
@@ -92,10 +92,10 @@ unfoldable found : Section → ℕ → Bool
 found s q = ltb (rank s q) (width s) && eqb (tablePlace s (rank s q)) q
 
 unfoldable accountNamed : ℕ → Bool
-accountNamed q = isSpare (wordAt accountTable q) || not (sameSection (wordSection (wordAt accountTable q)) Ncc) && found (wordSection (wordAt accountTable q)) q
+accountNamed q = isPadding (wordAt accountTable q) || not (sameSection (wordSection (wordAt accountTable q)) Ncc) && found (wordSection (wordAt accountTable q)) q
 
 unfoldable intervalNamed : ℕ → Bool
-intervalNamed q = isSpare (wordAt intervalTable q) || found Ncc q
+intervalNamed q = isPadding (wordAt intervalTable q) || found Ncc q
 
 account-named : T (all (length accountTable) accountNamed)
 unfolding fold accountNamed found
@@ -121,17 +121,17 @@ accounts-own Meter t = refl
 accounts-own Residual t = refl
 accounts-own Ncc t = absurd t
 
-pub account-cover : (q : ℕ) → q < length accountTable → T (isSpare (wordAt accountTable q)) ⊎ Named accountTable q
+pub account-cover : (q : ℕ) → q < length accountTable → T (isPadding (wordAt accountTable q)) ⊎ Named accountTable q
 unfolding accountNamed
 account-cover q h =
     let s : Section = wordSection (wordAt accountTable q) in
-    or-cases (isSpare (wordAt accountTable q)) (not (sameSection s Ncc) && found s q) (all-at (length accountTable) accountNamed account-named q h) inl
+    or-cases (isPadding (wordAt accountTable q)) (not (sameSection s Ncc) && found s q) (all-at (length accountTable) accountNamed account-named q h) inl
     (λ x. inr (named s accountTable q (accounts-own s (and-left (not (sameSection s Ncc)) (found s q) x)) (and-right (not (sameSection s Ncc)) (found s q) x)))
 
-pub interval-cover : (q : ℕ) → q < length intervalTable → T (isSpare (wordAt intervalTable q)) ⊎ Named intervalTable q
+pub interval-cover : (q : ℕ) → q < length intervalTable → T (isPadding (wordAt intervalTable q)) ⊎ Named intervalTable q
 unfolding intervalNamed
 interval-cover q h =
-    or-cases (isSpare (wordAt intervalTable q)) (found Ncc q) (all-at (length intervalTable) intervalNamed interval-named q h) inl
+    or-cases (isPadding (wordAt intervalTable q)) (found Ncc q) (all-at (length intervalTable) intervalNamed interval-named q h) inl
     (λ x. inr (named Ncc intervalTable q refl x))
 
 -- ---- Flags and figures

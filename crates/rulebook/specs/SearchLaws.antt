@@ -26,7 +26,7 @@ use Rattle.rulebook.specs.Close.{absentFlag, missingAt, firstMissing}
 use Rattle.rulebook.specs.History.{RowsInForce}
 use Rattle.rulebook.specs.Demand3.{Needed, vestingOf, meterOf, nccOf, residualOf}
 use Rattle.rulebook.specs.Companion.{flagLacking}
-use Rattle.rulebook.specs.Ledger.{entriesIn, entryOf, Holds, Kept}
+use Rattle.rulebook.specs.Ledger.{entriesIn, entryOf, HoldsLedger, Kept}
 use Rattle.rulebook.specs.RowWordLaws.{flag-inside}
 use Rattle.rulebook.specs.KeptLaws.{none-or, flag-more, nonzero}
 use Rattle.rulebook.specs.FormLaws.{zero-yes}
@@ -40,7 +40,7 @@ either-at v {x} {y} e = ⊎-elim inl (λ h. inr (h .1)) (orElse-at x y v e)
 somewhere : (n : ℕ) (f : ℕ → Found) (v : ℕ) → first n f ≡ At v → (i : ℕ) × (i < n) × (f i ≡ At v)
 somewhere n f v e = let r = first-at n f v e in (r .0, r .1, r .2)
 
-module _ (o : Terms) (t : InTerms o) (k : ℕ) (rows : RowsInForce) (balance : ℕ → ℤ) (m₀ : ℤ) (w : List ℤ) (h : Holds o (record { closed = k; entries = entriesIn rows; balance = balance; mssl = m₀ }) w) (q : Kept o k rows balance) where
+module _ (o : Terms) (t : InTerms o) (k : ℕ) (rows : RowsInForce) (balance : ℕ → ℤ) (m₀ : ℤ) (w : List ℤ) (h : HoldsLedger o (record { closed = k; entries = entriesIn rows; balance = balance; mssl = m₀ }) w) (q : Kept o k rows balance) where
   pub today : InWindow o k (o .first + k)
   today = omega arith
 

@@ -15,9 +15,9 @@ use Rattle.rulebook.specs.declared.Section.the-variants.{Vesting, Meter,
 use Rattle.rulebook.specs.declared.Terms.{Terms}
 use Rattle.rulebook.specs.Units.{lastDay, between, positive}
 use Rattle.rulebook.specs.Sections.{accountsOf, perInterval, leastCount, mostCount, valueInRange, Figure, figureSection, figurePlace}
-use Rattle.rulebook.specs.Layout.{width, place, ring, intervalSize, slot, intervalWord, rowWord, Word, spare, isSpare, intervalTable, accountTable, accountPlace, wordName, flagIndex, figureIndex, InWindow}
+use Rattle.rulebook.specs.Layout.{width, place, ring, intervalSize, slot, intervalWord, rowWord, Word, padding, isPadding, intervalTable, accountTable, accountPlace, wordName, flagIndex, figureIndex, InWindow}
 use Rattle.rulebook.specs.BookData.{entriesOf}
-use Rattle.rulebook.specs.WellFormed.{isZero, rowBlank, wordFits, sparesZero, rowCounts, rowFits, isThere, bothThere, slotRow, accountWordsFit, slotBlank, intervalFits, closedRowsThere}
+use Rattle.rulebook.specs.WellFormed.{isZero, rowBlank, wordFits, paddingZero, rowCounts, rowFits, isThere, bothThere, slotRow, accountWordsFit, slotBlank, intervalFits, closedRowsThere}
 use Rattle.rulebook.specs.WindowWalk.{windowSlot, windowSlotFits}
 use Rattle.rulebook.specs.Ledger.{Padding, ofInterval, ofAccount}
 use Rattle.rulebook.specs.TestLaws.{and-left, and-right, or-cases, all-at, any-at}
@@ -76,10 +76,10 @@ fit-few f t = go (fit-words Meter f t)
     go (inl x) = rw (is-zero (f (flagIndex Meter)) (x (flagIndex Meter) (flag-inside Meter))) (omega arith)
     go (inr x) = rw (is-number (x .0) (f (flagIndex Meter)) (x .2 (flagIndex Meter) (flag-inside Meter))) (omega (arith, x .1))
 
--- a table's spare words are zero
-pub spare-zero : (table : List Word) (f : ℕ → ℤ) → T (sparesZero table f) → (q : ℕ) → q < length table → T (isSpare (getD table q spare)) → T (isZero (f q))
-unfolding sparesZero
-spare-zero table f t q hq x = go (isSpare (getD table q spare)) x (all-at (length table) (λ q. not (isSpare (getD table q spare)) || isZero (f q)) t q hq)
+-- a table's padding words are zero
+pub padding-zero : (table : List Word) (f : ℕ → ℤ) → T (paddingZero table f) → (q : ℕ) → q < length table → T (isPadding (getD table q padding)) → T (isZero (f q))
+unfolding paddingZero
+padding-zero table f t q hq x = go (isPadding (getD table q padding)) x (all-at (length table) (λ q. not (isPadding (getD table q padding)) || isZero (f q)) t q hq)
   where
     go : (b : Bool) → T b → T (not b || isZero (f q)) → T (isZero (f q))
     go true x y = y
@@ -94,17 +94,17 @@ module _ (o : Terms) (w : List ℤ) (t i : ℕ) where
   unfolding intervalFits
   interval-ncc z = search (and-left, and-right)
 
-  pub account-padding : (a : ℕ) → T (accountWordsFit o w t i a) → T (sparesZero accountTable (λ q. word w (intervalWord o t i (accountPlace a q))))
+  pub account-padding : (a : ℕ) → T (accountWordsFit o w t i a) → T (paddingZero accountTable (λ q. word w (intervalWord o t i (accountPlace a q))))
   unfolding accountWordsFit
   account-padding a z = search (and-left, and-right)
 
-  pub own-padding : T (intervalFits o w t i) → T (sparesZero intervalTable (λ q. word w (intervalWord o t i q)))
+  pub own-padding : T (intervalFits o w t i) → T (paddingZero intervalTable (λ q. word w (intervalWord o t i q)))
   unfolding intervalFits
   own-padding z = search (and-left, and-right)
 
   pub interval-padding : T (intervalFits o w t i) → (m : ℕ) → Padding (o .accounts) m → T (isZero (word w (intervalWord o t i m)))
-  interval-padding z m (ofInterval q hq x) = spare-zero intervalTable (λ q. word w (intervalWord o t i q)) (own-padding z) q hq x
-  interval-padding z m (ofAccount a q ha hq x) = spare-zero accountTable (λ q. word w (intervalWord o t i (accountPlace a q)))
+  interval-padding z m (ofInterval q hq x) = padding-zero intervalTable (λ q. word w (intervalWord o t i q)) (own-padding z) q hq x
+  interval-padding z m (ofAccount a q ha hq x) = padding-zero accountTable (λ q. word w (intervalWord o t i (accountPlace a q)))
       (account-padding a (all-at (o .accounts) (accountWordsFit o w t i) (interval-accounts z) a ha)) q hq x
 
   pub account-rows : (a : ℕ) → T (accountWordsFit o w t i a)

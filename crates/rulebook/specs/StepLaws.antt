@@ -60,18 +60,19 @@ last-one P (q ∷ rs) s a d r x e = go (λ y. last-one P rs s a d r (x .1) y) (l
     go ih (inl y) = ih y
     go ih (inr y) = here (isFor s a d q) refl y
 
-pub record OpenDay (o : Terms) (k d : ℕ) : Type 0 where
+-- a day of the window, and not past the last
+pub record StorableDay (o : Terms) (k d : ℕ) : Type 0 where
   pub window : InWindow o k d
   pub dated : d ≤ lastDay
 
-pub open-day : (o : Terms) (k : ℕ) (s : Section) (d : ℕ) → 1 ≤ o .horizon → openFrom (limitsOf o (o .first + k)) s ≤ d → d ≤ limitsOf o (o .first + k) .last → OpenDay o k d
+pub open-day : (o : Terms) (k : ℕ) (s : Section) (d : ℕ) → 1 ≤ o .horizon → openFrom (limitsOf o (o .first + k)) s ≤ d → d ≤ limitsOf o (o .first + k) .last → StorableDay o k d
 open-day o k Vesting d z h x = record { window = omega arith; dated = omega arith }
 open-day o k Meter d z h x = record { window = omega arith; dated = omega arith }
 open-day o k Residual d z h x = record { window = omega arith; dated = omega arith }
 open-day o k Ncc d z h x = record { window = omega arith; dated = omega arith }
 
 -- a sound row's day
-pub sound-day : (o : Terms) (k : ℕ) → 1 ≤ o .horizon → (r : Row) → Sound (limitsOf o (o .first + k)) r → OpenDay o k (r .day)
+pub sound-day : (o : Terms) (k : ℕ) → 1 ≤ o .horizon → (r : Row) → Sound (limitsOf o (o .first + k)) r → StorableDay o k (r .day)
 sound-day o k z r x = open-day o k (r .section) (r .day) z (x .early) (x .late)
 
 pub storable : (o : Terms) (k : ℕ) → 1 ≤ o .horizon → (rs : List Row) → Each (Sound (limitsOf o (o .first + k))) rs → Each (Storable o k) rs

@@ -13,7 +13,7 @@ use Rattle.rulebook.specs.declared.Terms.{Terms}
 use Rattle.rulebook.specs.Units.{lastDay}
 use Rattle.rulebook.specs.Layout.{ring, slot, windowFrom, windowDays, InWindow}
 use Rattle.rulebook.specs.WellFormed.{slotBlank, intervalFits, closedRowsThere, dayFits, isDated, daysFit}
-use Rattle.rulebook.specs.WindowWalk.{windowSlot, windowSlotFits, turn-of}
+use Rattle.rulebook.specs.WindowWalk.{windowSlot, windowSlotFits, windowPlace}
 use Rattle.rulebook.specs.TestLaws.{and-left, and-right, and-both, or-left, or-right, or-cases, nor-left, nor-right, cond-yes, not-ltb, all-yes, any-yes, all-at, any-at, tests-same}
 use Rattle.rulebook.specs.RingLaws.{turn-inside, turned, places-apart, place-slot, place-day, placeOf, day-place}
 
@@ -139,29 +139,29 @@ module _ (o : Terms) (w : List ℤ) (k : ℕ) (p : 1 ≤ o .horizon) where
         (go (ltb (k + u) (o .lag) || ltb lastDay (o .first + (k + u - o .lag))) refl (all-at (ring o) (windowSlotFits o w k) t u (turn-inside o ring-some k v)))
       where
         u : ℕ
-        u = turn-of o k v
+        u = windowPlace o k v
 
-        inside : turn-of o k v < ring o
+        inside : windowPlace o k v < ring o
         inside = turn-inside o ring-some k v
 
-        dated : o .lag ≤ k + turn-of o k v → o .first + (k + turn-of o k v - o .lag) ≤ lastDay → T (isDated o (o .first + k) (windowSlot o k (turn-of o k v)))
+        dated : o .lag ≤ k + windowPlace o k v → o .first + (k + windowPlace o k v - o .lag) ≤ lastDay → T (isDated o (o .first + k) (windowSlot o k (windowPlace o k v)))
         dated a b =
-            let d : ℕ = o .first + (k + turn-of o k v - o .lag) in
-            let z = place-day o k (turn-of o k v) inside a in
-            any-yes (windowDays o (o .first + k)) (λ i. eqb (slot o (windowFrom o (o .first + k) + i)) (windowSlot o k (turn-of o k v))) (indexOf d) (index-inside d z b)
-            (subst (λ (y : ℕ). T (eqb (slot o y) (windowSlot o k (turn-of o k v)))) (sym (index-day d z))
-            (subst (λ (y : ℕ). T (eqb y (windowSlot o k (turn-of o k v)))) (place-slot o k (turn-of o k v) inside a) (eqb-refl (windowSlot o k (turn-of o k v)))))
+            let d : ℕ = o .first + (k + windowPlace o k v - o .lag) in
+            let z = place-day o k (windowPlace o k v) inside a in
+            any-yes (windowDays o (o .first + k)) (λ i. eqb (slot o (windowFrom o (o .first + k) + i)) (windowSlot o k (windowPlace o k v))) (indexOf d) (index-inside d z b)
+            (subst (λ (y : ℕ). T (eqb (slot o y) (windowSlot o k (windowPlace o k v)))) (sym (index-day d z))
+            (subst (λ (y : ℕ). T (eqb y (windowSlot o k (windowPlace o k v)))) (place-slot o k (windowPlace o k v) inside a) (eqb-refl (windowSlot o k (windowPlace o k v)))))
 
-        go : (b : Bool) → (ltb (k + turn-of o k v) (o .lag) || ltb lastDay (o .first + (k + turn-of o k v - o .lag))) ≡ b
-            → T (cond b (slotBlank o w (windowSlot o k (turn-of o k v)))
-            (all 48 (intervalFits o w (windowSlot o k (turn-of o k v))) && (not (ltb (turn-of o k v) (o .lag)) || all 48 (closedRowsThere o w (windowSlot o k (turn-of o k v))))))
-            → T (isDated o (o .first + k) (windowSlot o k (turn-of o k v)) || slotBlank o w (windowSlot o k (turn-of o k v)))
-        go true e x = or-right (isDated o (o .first + k) (windowSlot o k (turn-of o k v))) _ x
+        go : (b : Bool) → (ltb (k + windowPlace o k v) (o .lag) || ltb lastDay (o .first + (k + windowPlace o k v - o .lag))) ≡ b
+            → T (cond b (slotBlank o w (windowSlot o k (windowPlace o k v)))
+            (all 48 (intervalFits o w (windowSlot o k (windowPlace o k v))) && (not (ltb (windowPlace o k v) (o .lag)) || all 48 (closedRowsThere o w (windowSlot o k (windowPlace o k v))))))
+            → T (isDated o (o .first + k) (windowSlot o k (windowPlace o k v)) || slotBlank o w (windowSlot o k (windowPlace o k v)))
+        go true e x = or-right (isDated o (o .first + k) (windowSlot o k (windowPlace o k v))) _ x
         go false e x =
-            let n : T (not (ltb (k + turn-of o k v) (o .lag) || ltb lastDay (o .first + (k + turn-of o k v - o .lag)))) = subst (λ (b : Bool). T (not b)) (sym e) tt in
-            or-left (isDated o (o .first + k) (windowSlot o k (turn-of o k v))) (slotBlank o w (windowSlot o k (turn-of o k v))) (dated
-            (nltb→le (k + turn-of o k v) (o .lag) (nor-left (ltb (k + turn-of o k v) (o .lag)) (ltb lastDay (o .first + (k + turn-of o k v - o .lag))) n))
-            (nltb→le lastDay (o .first + (k + turn-of o k v - o .lag)) (nor-right (ltb (k + turn-of o k v) (o .lag)) (ltb lastDay (o .first + (k + turn-of o k v - o .lag))) n)))
+            let n : T (not (ltb (k + windowPlace o k v) (o .lag) || ltb lastDay (o .first + (k + windowPlace o k v - o .lag)))) = subst (λ (b : Bool). T (not b)) (sym e) tt in
+            or-left (isDated o (o .first + k) (windowSlot o k (windowPlace o k v))) (slotBlank o w (windowSlot o k (windowPlace o k v))) (dated
+            (nltb→le (k + windowPlace o k v) (o .lag) (nor-left (ltb (k + windowPlace o k v) (o .lag)) (ltb lastDay (o .first + (k + windowPlace o k v - o .lag))) n))
+            (nltb→le lastDay (o .first + (k + windowPlace o k v - o .lag)) (nor-right (ltb (k + windowPlace o k v) (o .lag)) (ltb lastDay (o .first + (k + windowPlace o k v - o .lag))) n)))
 
     pub walk-days : T (daysFit o w (o .first + k))
     unfolding daysFit

@@ -14,7 +14,7 @@ use Rattle.rulebook.specs.Units.{lastDay, intervals, between}
 use Rattle.rulebook.specs.Shares.{mostAccounts}
 use Rattle.rulebook.specs.Terms.{mostLag, mostHorizon, earliestFirstDay}
 use Rattle.rulebook.specs.Sections.{valueInRange, perInterval, leastCount, mostCount, figurePlace}
-use Rattle.rulebook.specs.Layout.{mark, markWord, accountsWord, lagWord, horizonWord, firstDayWord, nextDayWord, msslWord, balanceWord, headerSpares, headerSpare, accountSpares, accountSpare, Word, flag, figure, spare, isSpare, intervalTable, accountTable, accountPlace, present, width, wordName, flagIndex, place, intervalSize, ring, size, intervalWord, slot, windowFrom, windowDays}
+use Rattle.rulebook.specs.Layout.{bookMark, markWord, accountsWord, lagWord, horizonWord, firstDayWord, nextDayWord, msslWord, balanceWord, headerPaddingWords, headerPadding, balancePaddingWords, balancePadding, Word, flag, figure, padding, isPadding, intervalTable, accountTable, accountPlace, present, width, wordName, flagIndex, place, intervalSize, ring, size, intervalWord, slot, windowFrom, windowDays}
 use Rattle.rulebook.specs.BookData.{termsOf, nextDay}
 
 -- a day's amount is at most so many cents, either way, and can be (`BoundReached`)
@@ -33,7 +33,7 @@ rowBlank s f = all (width s) (λ j. isZero (f j))
 abbrev pub wordFits : Section → ℕ → Word → ℤ → Bool
 wordFits s c (flag t) z = between (pos (present s c)) (pos (present s c)) z
 wordFits s c (figure g) z = cond (ltb (figurePlace g) (perInterval s c)) (valueInRange s (figurePlace g) z) (isZero z)
-wordFits s c spare z = isZero z
+wordFits s c padding z = isZero z
 
 unfoldable pub rowCounts : Section → (ℕ → ℤ) → ℕ → Bool
 rowCounts s f c = leb (leastCount s) c && all (width s) (λ j. wordFits s c (wordName s j) (f j))
@@ -41,9 +41,9 @@ rowCounts s f c = leb (leastCount s) c && all (width s) (λ j. wordFits s c (wor
 unfoldable pub rowFits : Section → (ℕ → ℤ) → Bool
 rowFits s f = rowBlank s f || any (suc (mostCount s)) (rowCounts s f)
 
--- the words f 0, f 1, .. of a table that are spare are zero
-unfoldable pub sparesZero : List Word → (ℕ → ℤ) → Bool
-sparesZero table f = all (length table) (λ q. not (isSpare (getD table q spare)) || isZero (f q))
+-- the words f 0, f 1, .. of a table that are padding are zero
+unfoldable pub paddingZero : List Word → (ℕ → ℤ) → Bool
+paddingZero table f = all (length table) (λ q. not (isPadding (getD table q padding)) || isZero (f q))
 
 -- slot t is of a day of the window
 unfoldable pub isDated : Terms → ℕ → ℕ → Bool
@@ -66,13 +66,13 @@ module _ (o : Terms) (w : List ℤ) where
   abbrev pub slotRow : ℕ → ℕ → Section → ℕ → ℕ → ℤ
   slotRow t i s a j = word w (intervalWord o t i (place s a j))
 
-  -- interval i of slot t: spare words zero, each row absent or fitting
+  -- interval i of slot t: padding words zero, each row absent or fitting
   unfoldable pub accountWordsFit : ℕ → ℕ → ℕ → Bool
-  accountWordsFit t i a = sparesZero accountTable (λ q. word w (intervalWord o t i (accountPlace a q)))
+  accountWordsFit t i a = paddingZero accountTable (λ q. word w (intervalWord o t i (accountPlace a q)))
       && rowFits Vesting (slotRow t i Vesting a) && rowFits Meter (slotRow t i Meter a) && rowFits Residual (slotRow t i Residual a)
 
   unfoldable pub intervalFits : ℕ → ℕ → Bool
-  intervalFits t i = sparesZero intervalTable (λ q. word w (intervalWord o t i q)) && rowFits Ncc (slotRow t i Ncc 0) && all (o .accounts) (accountWordsFit t i)
+  intervalFits t i = paddingZero intervalTable (λ q. word w (intervalWord o t i q)) && rowFits Ncc (slotRow t i Ncc 0) && all (o .accounts) (accountWordsFit t i)
 
   unfoldable pub bothThere : ℕ → ℕ → ℕ → Bool
   bothThere t i a = isThere Vesting a t i && isThere Meter a t i
@@ -95,22 +95,23 @@ module _ (o : Terms) (w : List ℤ) where
 unfoldable pub balanceFits : ℕ → ℕ → ℤ → Bool
 balanceFits n k z = leb (natAbs z) (n * (k * dayBound))
 
-unfoldable pub accountFits : List ℤ → ℕ → ℕ → Bool
-accountFits w k a = balanceFits 1 k (word w (balanceWord a)) && all accountSpares (λ j. isZero (word w (accountSpare a j)))
+-- account a's eight words: its balance, and zeros
+unfoldable pub balanceWordsFit : List ℤ → ℕ → ℕ → Bool
+balanceWordsFit w k a = balanceFits 1 k (word w (balanceWord a)) && all balancePaddingWords (λ j. isZero (word w (balancePadding a j)))
 
 -- 395, N, L, H, F, C from F to 36,525, zeros to word 63
 unfoldable pub headerFits : List ℤ → Bool
-headerFits w = between (pos mark) (pos mark) (word w markWord)
+headerFits w = between (pos bookMark) (pos bookMark) (word w markWord)
     && between (pos 1) (pos mostAccounts) (word w accountsWord) && between (pos 1) (pos mostLag) (word w lagWord) && between (pos 1) (pos mostHorizon) (word w horizonWord)
     && between (pos earliestFirstDay) (pos lastDay) (word w firstDayWord) && between (word w firstDayWord) (pos (suc lastDay)) (word w nextDayWord)
-    && all headerSpares (λ n. isZero (word w (headerSpare n)))
+    && all headerPaddingWords (λ n. isZero (word w (headerPadding n)))
 
 -- ---- The book
 
 -- with its terms, C the next day to close
 unfoldable pub fits : Terms → List ℤ → ℕ → Bool
 fits o w C = headerFits w && leb (size o) (length w) && balanceFits (o .accounts) (C - o .first) (word w msslWord)
-    && all (o .accounts) (accountFits w (C - o .first)) && daysFit o w C
+    && all (o .accounts) (balanceWordsFit w (C - o .first)) && daysFit o w C
 
 unfoldable pub wellFormed : List ℤ → Bool
 wellFormed w = fits (termsOf w) w (nextDay w)

@@ -15,7 +15,7 @@ use Rattle.rulebook.specs.Units.{lastDay}
 use Rattle.rulebook.specs.Layout.{ring, slot, windowFrom, windowDays, InWindow}
 use Rattle.rulebook.specs.WellFormed.{slotBlank, dayFits, isDated, daysFit}
 use Rattle.rulebook.specs.FormedBook.{WindowDay, SlotDay, ofDay, ofNone}
-use Rattle.rulebook.specs.WindowWalk.{turn-of}
+use Rattle.rulebook.specs.WindowWalk.{windowPlace}
 use Rattle.rulebook.specs.TestLaws.{and-left, and-right, and-both, or-left, or-right, or-cases, all-yes, any-yes, all-at, any-at}
 use Rattle.rulebook.specs.LayoutLaws.{days-apart}
 use Rattle.rulebook.specs.RingLaws.{turn-inside, turned, places-apart, place-slot, place-day, placeOf, day-place}
@@ -43,22 +43,22 @@ module _ (o : Terms) (C : ℕ) (horizon : 1 ≤ o .horizon) (begun : o .first �
   slot-day v h = go (decLe (o .lag) (k + u)) (decLe (o .first + (k + u - o .lag)) lastDay)
     where
       u : ℕ
-      u = turn-of o k v
+      u = windowPlace o k v
 
-      inside : turn-of o k v < ring o
+      inside : windowPlace o k v < ring o
       inside = turn-inside o ring-some k v
 
       -- a day with this slot has this place
-      same-place : (d′ : ℕ) → WindowDay o C d′ → slot o d′ ≡ v → placeOf o k d′ ≡ turn-of o k v
+      same-place : (d′ : ℕ) → WindowDay o C d′ → slot o d′ ≡ v → placeOf o k d′ ≡ windowPlace o k v
       same-place d′ h′ e =
           let z = day-place o k d′ (in-window d′ h′) in
-          places-apart o ring-some k (placeOf o k d′) (turn-of o k v) (z .inside) inside (z .slot-is ∙ e ∙ sym (turned o ring-some k v h))
+          places-apart o ring-some k (placeOf o k d′) (windowPlace o k v) (z .inside) inside (z .slot-is ∙ e ∙ sym (turned o ring-some k v h))
 
-      go : Dec (o .lag ≤ k + turn-of o k v) → Dec (o .first + (k + turn-of o k v - o .lag) ≤ lastDay) → SlotDay o C v
+      go : Dec (o .lag ≤ k + windowPlace o k v) → Dec (o .first + (k + windowPlace o k v - o .lag) ≤ lastDay) → SlotDay o C v
       go (yes a) (yes b) =
-          let w = window-day (o .first + (k + turn-of o k v - o .lag)) (place-day o k (turn-of o k v) inside a) b in
-          let s : slot o (o .first + (k + turn-of o k v - o .lag)) ≡ v = sym (place-slot o k (turn-of o k v) inside a) ∙ turned o ring-some k v h in
-          ofDay (o .first + (k + turn-of o k v - o .lag)) w s (λ d′ h′ e. window-days-apart d′ (o .first + (k + turn-of o k v - o .lag)) h′ w (e ∙ sym s))
+          let w = window-day (o .first + (k + windowPlace o k v - o .lag)) (place-day o k (windowPlace o k v) inside a) b in
+          let s : slot o (o .first + (k + windowPlace o k v - o .lag)) ≡ v = sym (place-slot o k (windowPlace o k v) inside a) ∙ turned o ring-some k v h in
+          ofDay (o .first + (k + windowPlace o k v - o .lag)) w s (λ d′ h′ e. window-days-apart d′ (o .first + (k + windowPlace o k v - o .lag)) h′ w (e ∙ sym s))
       go (no a) b = ofNone (λ d′ h′ e. let z = day-place o k d′ (in-window d′ h′) .late in a (omega (arith, same-place d′ h′ e)))
       go (yes a) (no b) = ofNone (λ d′ h′ e.
           let z = day-place o k d′ (in-window d′ h′) .back in

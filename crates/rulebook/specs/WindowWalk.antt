@@ -14,8 +14,8 @@ use Rattle.rulebook.specs.WellFormed.{slotBlank, intervalFits, closedRow
 unfoldable pub windowSlot : Terms → ℕ → ℕ → ℕ
 windowSlot o k u = (k + u + o .horizon) % ring o
 
-unfoldable pub turn-of : Terms → ℕ → ℕ → ℕ
-turn-of o k v = (v + (ring o - (k + o .horizon) % ring o)) % ring o
+unfoldable pub windowPlace : Terms → ℕ → ℕ → ℕ
+windowPlace o k v = (v + (ring o - (k + o .horizon) % ring o)) % ring o
 
 -- blank where it is of no day, before F or past the last; of a closed day, or of an open one
 unfoldable pub windowSlotFits : Terms → List ℤ → ℕ → ℕ → Bool

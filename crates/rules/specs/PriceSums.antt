@@ -33,7 +33,7 @@ sums-suc n mep ieq = rw (
 )
 
 -- what the sums of facilities in range stay within
-pub record Within (s : Sums) : Type 0 where
+pub record SumsWithin (s : Sums) : Type 0 where
   pub weighted : natAbs (s .weighted) ≤ s .facilities * (mostPrice * mostQuantity)
   pub weights : s .weights ≤ s .facilities * mostQuantity
   pub simple : natAbs (s .simple) ≤ s .facilities * mostPrice
@@ -45,7 +45,7 @@ pub sums-count : (n : ℕ) (mep ieq : ℕ → ℤ) → sumsOf n mep ieq .facilit
 unfolding sumsOf
 sums-count n mep ieq = refl
 
-pub sums-within : (n : ℕ) (mep ieq : ℕ → ℤ) → ((f : ℕ) → f < n → natAbs (mep f) ≤ mostPrice) → ((f : ℕ) → f < n → natAbs (ieq f) ≤ mostQuantity) → Within (sumsOf n mep ieq)
+pub sums-within : (n : ℕ) (mep ieq : ℕ → ℤ) → ((f : ℕ) → f < n → natAbs (mep f) ≤ mostPrice) → ((f : ℕ) → f < n → natAbs (ieq f) ≤ mostQuantity) → SumsWithin (sumsOf n mep ieq)
 unfolding sumsOf
 sums-within n mep ieq p q = record {
   weighted = abs-sumℤ n (mostPrice * mostQuantity) (λ f. mep f *ℤ pos (weight (ieq f))) (λ f l. abs-mul-le (mep f) (pos (weight (ieq f))) mostPrice mostQuantity (p f l) (weight-le (ieq f) (q f l)));

@@ -16,7 +16,7 @@ ghost use Rattle.rulebook.specs.Units.{mostPrice, mostQuantity};
 ghost use Rattle.rulebook.specs.ReferencePrice.{mostFacilities, weight, average};
 ghost use Rattle.rulebook.specs.Numbers.{priceReturned};
 ghost use Rattle.rulebook.specs.Calls.{priceInput, priceCall, PricesIn};
-ghost use Rattle.rules.specs.PriceSums.{sumsOf, added, Within};
+ghost use Rattle.rules.specs.PriceSums.{sumsOf, added, SumsWithin};
 
 // The sums of some facilities, of which V is the average: MEP times weight, weight, MEP, and their number.
 pub struct Sums {
@@ -43,7 +43,7 @@ fn weighted_more(weighted: i64, mep: i64, w: u64) -> i64
 
 // The sums with one facility more.
 pub fn with_facility(sums: Sums, mep: i64, ieq: i64) -> Sums
-    requires { ⌜ (Within sums) × (sums .facilities < mostFacilities) × (natAbs mep ≤ mostPrice) × (natAbs ieq ≤ mostQuantity) ⌝ }
+    requires { ⌜ (SumsWithin sums) × (sums .facilities < mostFacilities) × (natAbs mep ≤ mostPrice) × (natAbs ieq ≤ mostQuantity) ⌝ }
     ensures { λ r. ⌜ r ≡ added sums mep ieq ⌝ }
 {
     let w = weight_of(ieq);
@@ -57,7 +57,7 @@ pub fn with_facility(sums: Sums, mep: i64, ieq: i64) -> Sums
 
 // V of the sums: the weighted average, or where the weights sum to 0 the simple average.
 pub fn price_of(sums: Sums) -> i64
-    requires { ⌜ (Within sums) × (0 < sums .facilities) × (sums .facilities ≤ mostFacilities) ⌝ }
+    requires { ⌜ (SumsWithin sums) × (0 < sums .facilities) × (sums .facilities ≤ mostFacilities) ⌝ }
     ensures { λ r. ⌜ r ≡ average (sums .weighted) (sums .weights) (sums .simple) (sums .facilities) ⌝ }
 {
     let weights = sums.weights;

@@ -20,7 +20,7 @@ use Rattle.rulebook.specs.Units.{intervals}
 use Rattle.rulebook.specs.Shares.{mostAccounts}
 use Rattle.rulebook.specs.Terms.{InTerms}
 use Rattle.rulebook.specs.Sections.{accountsOf, mostCount, perInterval, sameSection, figureSection, figurePlace}
-use Rattle.rulebook.specs.Layout.{Word, flag, figure, spare, present, rowTable, wordName, width, flagIndex, place, size, intervalSize, slot, intervalWord, rowWord}
+use Rattle.rulebook.specs.Layout.{Word, flag, figure, padding, present, rowTable, wordName, width, flagIndex, place, size, intervalSize, slot, intervalWord, rowWord}
 use Rattle.rulebook.specs.File.{Row, rowAt, accountAt, dayAt, countAt, valuesPos, numberOf, figureOf, rowPos, rowsIn, sectionRows, fileRows, meterPos, residualPos, nccPos}
 use Rattle.rulebook.specs.Submit.{wordOf, entry, rowStored, rowsStored}
 use Rattle.rulebook.specs.TestLaws.{T-path, and-left, and-right, all-at}
@@ -39,7 +39,7 @@ use Rattle.submission.specs.Stored.{formOf, numberFrom, turnOf, wordFrom
 abbrev inTurn : Section → ℕ → Word → Bool
 inTurn sec j (flag t) = eqb j (flagIndex sec)
 inTurn sec j (figure g) = not (eqb j (flagIndex sec)) && sameSection sec (figureSection g) && eqb (figurePlace g) (turnOf (flagIndex sec) j)
-inTurn sec j spare = false
+inTurn sec j padding = false
 
 unfoldable named : Section → ℕ → Bool
 named sec j = inTurn sec j (wordName sec j)
@@ -98,7 +98,7 @@ module _ (sec : Section) (s : List ℕ) (at i : ℕ) (hi : i < intervals) where
       let r : T (eqb (figurePlace g) (turnOf (flagIndex sec) j)) = search (and-left, and-right) in
       rw (T-path (sameSection sec (figureSection g)) q, not-true (eqb j (flagIndex sec)) (T-path (not (eqb j (flagIndex sec))) p), ← eqb→eq (figurePlace g) (turnOf (flagIndex sec) j) r)
       (number-from (figurePlace g))
-  word-named j spare h = absurd h
+  word-named j padding h = absurd h
 
   -- past a row's words both are zero
   word-past : (j : ℕ) → count ≤ mostCount sec → width sec ≤ j → pos 0 ≡ wordFrom (formOf sec count) s from j
@@ -112,7 +112,7 @@ module _ (sec : Section) (s : List ℕ) (at i : ℕ) (hi : i < intervals) where
   unfolding entry rowFrom named
   word-from j few =
       ⊎-elim (λ h. word-named j (wordName sec j) (all-at (width sec) (named sec) (all-named sec) j h))
-      (λ h. rw (List·getD-eq-default (rowTable sec) spare {n = j} h) (word-past j few h))
+      (λ h. rw (List·getD-eq-default (rowTable sec) padding {n = j} h) (word-past j few h))
       (lt-or-le j (width sec))
 
 -- ---- A row

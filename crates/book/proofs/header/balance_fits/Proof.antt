@@ -5,7 +5,7 @@ use native.Mathlib.Nat.{one-mul}
 use native.Mathlib.Omega.{arith}
 use borrow.Author.Needs.{needs}
 use Rattle.integer.specs.WordsLaws.{lent}
-use Rattle.rulebook.specs.WellFormed.{balanceFits, accountFits}
+use Rattle.rulebook.specs.WellFormed.{balanceFits, balanceWordsFit}
 use Rattle.book.specs.BlankLaws.{blank-part}
 use Rattle.book.proofs.header.balance_fits.Statement.{statement}
 use Rattle.book.proofs.header.balance_fits.Tie as tie
@@ -44,7 +44,7 @@ is-blank-requires : tie.Need-is-blank-requires
 is-blank-requires c κs = search needs
 
 returns : tie.Need-returns
-unfolding accountFits balanceFits
+unfolding balanceWordsFit balanceFits
 returns c =
     let a = c .before .before .before .args in
     let i : 64 + 8 * a .a ≡ 64 + a .a * 8 = omega arith in

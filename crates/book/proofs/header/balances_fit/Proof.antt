@@ -4,13 +4,13 @@ use Prim.Native.Nat.{_-_, _≤_}
 use native.Mathlib.Omega.{arith}
 use borrow.Author.Needs.{needs}
 use Rattle.integer.specs.Below.{fold, all}
-use Rattle.rulebook.specs.WellFormed.{accountFits}
+use Rattle.rulebook.specs.WellFormed.{balanceWordsFit}
 use Rattle.book.specs.LoopLaws.{all-step}
 use Rattle.book.proofs.header.balances_fit.Statement.{statement}
 use Rattle.book.proofs.header.balances_fit.Tie as tie
 
 abbrev Inv-loop : tie.InvT-loop
-Inv-loop book n closes ok₀ a₀ ok a = (a ≤ n) × (ok ≡ all a (accountFits book closes))
+Inv-loop book n closes ok₀ a₀ ok a = (a ≤ n) × (ok ≡ all a (balanceWordsFit book closes))
 
 abbrev μ-loop : tie.MeasureT-loop
 μ-loop book n closes ok₀ a₀ ok a = n - a

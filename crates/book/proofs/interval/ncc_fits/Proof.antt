@@ -4,7 +4,7 @@ use mathlib.Core.Path.{_≡_}
 use borrow.Author.Needs.{needs}
 use Rattle.integer.specs.Below.{fold}
 use Rattle.integer.specs.Words.{word}
-use Rattle.rulebook.specs.WellFormed.{isZero, sparesZero}
+use Rattle.rulebook.specs.WellFormed.{isZero, paddingZero}
 use Rattle.book.specs.LoopLaws.{passed, left}
 use Rattle.book.specs.Parts.{nccFits}
 use Rattle.book.specs.RowLaws.{ncc-is}
@@ -17,20 +17,20 @@ zero-at-requires c κs = search needs
 zero-at-requires-2 : tie.Need-zero-at-requires-2
 zero-at-requires-2 c κs = search needs
 
--- both spare words were read
-spares : (c : tie.After-zero-at2) → (c .before .zero-at .result && c .zero-at2 .result) ≡ (isZero (word (c .before .before .args .interval .now) 2) && isZero (word (c .before .before .args .interval .now) 3))
-spares c = cc
+-- both padding words were read
+padding-read : (c : tie.After-zero-at2) → (c .before .zero-at .result && c .zero-at2 .result) ≡ (isZero (word (c .before .before .args .interval .now) 2) && isZero (word (c .before .before .args .interval .now) 3))
+padding-read c = cc
 
 returns : tie.Need-returns
-unfolding nccFits sparesZero fold
-returns c = rw (left (spares (c .before)) (c .if1 .taken))
+unfolding nccFits paddingZero fold
+returns c = rw (left (padding-read (c .before)) (c .if1 .taken))
 
 between-at-requires : tie.Need-between-at-requires
 between-at-requires c κs = search needs
 
 returns-2 : tie.Need-returns-2
-unfolding nccFits sparesZero fold
-returns-2 c = rw (ncc-is _, passed (spares (c .before .before .before)) (c .before .before .if1 .left), left (c .before .between-at .ensures) (c .if2 .taken))
+unfolding nccFits paddingZero fold
+returns-2 c = rw (ncc-is _, passed (padding-read (c .before .before .before)) (c .before .before .if1 .left), left (c .before .between-at .ensures) (c .if2 .taken))
 
 above-at-requires : tie.Need-above-at-requires
 above-at-requires c κs = search needs
@@ -42,12 +42,12 @@ zero-at-requires-3 : tie.Need-zero-at-requires-3
 zero-at-requires-3 c κs = search needs
 
 returns-3 : tie.Need-returns-3
-unfolding nccFits sparesZero fold
-returns-3 c = rw (ncc-is _, passed (spares (c .before .before .before .before .before .before)) (c .before .before .before .before .before .if1 .left), passed (c .before .before .before .before .between-at .ensures) (c .before .before .before .if2 .left), ← c .before .before .above-at .ensures, c .before .if3 .taken) (c .value-at .ensures)
+unfolding nccFits paddingZero fold
+returns-3 c = rw (ncc-is _, passed (padding-read (c .before .before .before .before .before .before)) (c .before .before .before .before .before .if1 .left), passed (c .before .before .before .before .between-at .ensures) (c .before .before .before .if2 .left), ← c .before .before .above-at .ensures, c .before .if3 .taken) (c .value-at .ensures)
 
 returns-4 : tie.Need-returns-4
-unfolding nccFits sparesZero fold
-returns-4 c = rw (ncc-is _, passed (spares (c .before .before .before .before .before .before)) (c .before .before .before .before .before .if1 .left), passed (c .before .before .before .before .between-at .ensures) (c .before .before .before .if2 .left), ← c .before .before .above-at .ensures, c .before .if3 .left) (c .zero-at3 .ensures)
+unfolding nccFits paddingZero fold
+returns-4 c = rw (ncc-is _, passed (padding-read (c .before .before .before .before .before .before)) (c .before .before .before .before .before .if1 .left), passed (c .before .before .before .before .between-at .ensures) (c .before .before .before .if2 .left), ← c .before .before .above-at .ensures, c .before .if3 .left) (c .zero-at3 .ensures)
 
 pub ncc-fits-spec : {M : Type 1} → statement M
 ncc-fits-spec =

@@ -1,11 +1,11 @@
--- `place_of` meets its contract: its arithmetic is that of `turn-of`.
+-- `place_of` meets its contract: its arithmetic is that of `windowPlace`.
 use mathlib.Core.Path.{refl}
 use Prim.Native.Nat.{_+_}
 use native.Mathlib.Nat.{mod-lt}
 use native.Mathlib.Omega.{arith}
 use borrow.Author.Needs.{needs}
 use Rattle.rulebook.specs.Layout.{ring}
-use Rattle.rulebook.specs.WindowWalk.{turn-of}
+use Rattle.rulebook.specs.WindowWalk.{windowPlace}
 use Rattle.book.proofs.slots.place_of.Statement.{statement}
 use Rattle.book.proofs.slots.place_of.Tie as tie
 
@@ -31,7 +31,7 @@ rem-result-2 : tie.Need-rem-result-2
 rem-result-2 c = search needs
 
 returns : tie.Need-returns
-unfolding ring turn-of
+unfolding ring windowPlace
 returns c = (refl, mod-lt _ (omega arith))
 
 pub place-of-spec : {M : Type 1} → statement M

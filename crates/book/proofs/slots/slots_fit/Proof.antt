@@ -13,7 +13,7 @@ use Rattle.integer.specs.WordsLaws.{row-fits, lent}
 use Rattle.integer.specs.Words.{part}
 use Rattle.rulebook.specs.Layout.{slotLength, ring}
 use Rattle.rulebook.specs.declared.Terms.{Terms}
-use Rattle.rulebook.specs.WindowWalk.{turn-of}
+use Rattle.rulebook.specs.WindowWalk.{windowPlace}
 use Rattle.book.specs.LoopLaws.{all-step, length-lent}
 use Rattle.book.specs.Parts.{slotFits}
 use Rattle.book.specs.Slots.{isDay, slotsFit}
@@ -21,14 +21,14 @@ use Rattle.book.proofs.slots.slots_fit.Statement.{statement}
 use Rattle.book.proofs.slots.slots_fit.Tie as tie
 
 -- what `slot_fits` answered, of the slot's place
-slot-told : (o : Terms) (k v p : ℕ) (u : Bool) {r : Bool} (xs : List ℤ) {ys : List ℤ} → r ≡ slotFits (o .accounts) u (ltb p (o .lag)) xs → u ≡ isDay o k p → p ≡ turn-of o k v → xs ≡ ys
-    → r ≡ slotFits (o .accounts) (isDay o k (turn-of o k v)) (ltb (turn-of o k v) (o .lag)) ys
+slot-told : (o : Terms) (k v p : ℕ) (u : Bool) {r : Bool} (xs : List ℤ) {ys : List ℤ} → r ≡ slotFits (o .accounts) u (ltb p (o .lag)) xs → u ≡ isDay o k p → p ≡ windowPlace o k v → xs ≡ ys
+    → r ≡ slotFits (o .accounts) (isDay o k (windowPlace o k v)) (ltb (windowPlace o k v) (o .lag)) ys
 slot-told o k v p u xs e f g h = cc
 
 abbrev Inv-loop : tie.InvT-loop
 Inv-loop slots terms closes n r size ok₀ v₀ ok v =
     (n ≡ terms .accounts) × (r ≡ ring terms) × (size ≡ slotLength (terms .accounts)) × (v ≤ ring terms)
-    × (ok ≡ all v (λ v. slotFits (terms .accounts) (isDay terms closes (turn-of terms closes v)) (ltb (turn-of terms closes v) (terms .lag)) (part slots (v * slotLength (terms .accounts)) (slotLength (terms .accounts)))))
+    × (ok ≡ all v (λ v. slotFits (terms .accounts) (isDay terms closes (windowPlace terms closes v)) (ltb (windowPlace terms closes v) (terms .lag)) (part slots (v * slotLength (terms .accounts)) (slotLength (terms .accounts)))))
 
 abbrev μ-loop : tie.MeasureT-loop
 μ-loop slots terms closes n r size ok₀ v₀ ok v = ring terms - v

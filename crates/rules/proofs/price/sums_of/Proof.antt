@@ -14,7 +14,7 @@ use Rattle.rulebook.specs.Units.{mostPrice, mostQuantity}
 use Rattle.rulebook.specs.Calls.{PricesIn}
 use Rattle.rulebook.specs.UnitsLaws.{price-range, injection-range}
 use Rattle.rulebook.specs.CallsLaws.{in-range-at}
-use Rattle.rules.specs.PriceSums.{sumsOf, added, Within, sums-zero, sums-suc, sums-count, sums-within}
+use Rattle.rules.specs.PriceSums.{sumsOf, added, SumsWithin, sums-zero, sums-suc, sums-count, sums-within}
 use Rattle.rules.proofs.price.sums_of.Statement.{statement}
 use Rattle.rules.proofs.price.sums_of.Tie as tie
 
