@@ -147,8 +147,8 @@ dueAfter year month =
     (record { year = year; month = month + 2; day = 10 })
 
 -- 003, 2.5.7: the first business day after it
-unfoldable pub residualDue : List ℤ → ℕ → ℕ → Found
-residualDue holidays year month = nthAfter (isBusinessDay holidays) 1 (dayOf (dueAfter year month))
+unfoldable pub dueDay : List ℤ → ℕ → ℕ → Found
+dueDay holidays year month = nthAfter (isBusinessDay holidays) 1 (dayOf (dueAfter year month))
 
 -- ---- What each call returns: number and figures; refused, every figure is 0
 
@@ -255,4 +255,4 @@ unfoldable pub finalStatementTold : ℤ → List ℤ → DayReturned
 finalStatementTold day holidays = searchTold (isDay day) holidays (finalStatement holidays (positive day))
 
 unfoldable pub residualDueTold : ℤ → ℤ → List ℤ → DayReturned
-residualDueTold year month holidays = searchTold (isMonth (positive year) (positive month)) holidays (residualDue holidays (positive year) (positive month))
+residualDueTold year month holidays = searchTold (isMonth (positive year) (positive month)) holidays (dueDay holidays (positive year) (positive month))

@@ -22,7 +22,7 @@ use Rattle.calendar.specs.DateLaws.{dayOf-dateOf, dateOf-dayOf, isDate-d
 use Rattle.calendar.specs.Steps.{entryAt}
 use Rattle.calendar.specs.HolidayLaws.{entry-is-day, entries-ascend}
 use Rattle.calendar.specs.BusinessLaws.{of-isNth, nth-found, nth-none, nth-is, nth-nothing}
-use Rattle.calendar.specs.Calendar.{isDay, isDate, isMonth, dayOf, dateGiven, weekdayOf, inPlace, isProper, isEntry, isListed, isBusinessDay, daysAfter, isNthAfter, nthAfter, statementDay, finalStatement, dueAfter, residualDue, dateAccepted, dayAccepted, dayRefused, checked, upToLastDay, searchTold, dateTold, dayTold, finalStatementTold, residualDueTold}
+use Rattle.calendar.specs.Calendar.{isDay, isDate, isMonth, dayOf, dateGiven, weekdayOf, inPlace, isProper, isEntry, isListed, isBusinessDay, daysAfter, isNthAfter, nthAfter, statementDay, finalStatement, dueAfter, dueDay, dateAccepted, dayAccepted, dayRefused, checked, upToLastDay, searchTold, dateTold, dayTold, finalStatementTold, residualDueTold}
 
 -- ---- Day to date and back
 
@@ -168,17 +168,17 @@ module _ (year month : ℤ) (holidays : List ℤ) where
 
   -- the due day that is told is the first business day after that 10th
   pub residualDue-is : (e : ℕ) → residualDueTold year month holidays ≡ dayAccepted e → (isNthAfter (isBusinessDay holidays) 1 tenthGiven e ≡ true) × (e ≤ lastDay)
-  unfolding residualDueTold residualDue
+  unfolding residualDueTold dueDay
   residualDue-is = told-is isMonthGiven holidays (isBusinessDay holidays) 1 tenthGiven
 
   pub residualDue-none : residualDueTold year month holidays ≡ dayRefused pastLastDay → (e : ℕ) → e ≤ lastDay → isNthAfter (isBusinessDay holidays) 1 tenthGiven e ≡ false
-  unfolding residualDueTold residualDue
+  unfolding residualDueTold dueDay
   residualDue-none = told-none isMonthGiven holidays (isBusinessDay holidays) 1 tenthGiven
 
   pub residualDue-of : isMonthGiven ≡ true → isProper holidays ≡ true → (e : ℕ) → isNthAfter (isBusinessDay holidays) 1 tenthGiven e ≡ true → e ≤ lastDay → residualDueTold year month holidays ≡ dayAccepted e
-  unfolding residualDueTold residualDue
+  unfolding residualDueTold dueDay
   residualDue-of = told-of isMonthGiven holidays (isBusinessDay holidays) 1 tenthGiven
 
   pub residualDue-past : isMonthGiven ≡ true → isProper holidays ≡ true → daysAfter (isBusinessDay holidays) tenthGiven lastDay < 1 → residualDueTold year month holidays ≡ dayRefused pastLastDay
-  unfolding residualDueTold residualDue
+  unfolding residualDueTold dueDay
   residualDue-past = told-past isMonthGiven holidays (isBusinessDay holidays) 1 tenthGiven

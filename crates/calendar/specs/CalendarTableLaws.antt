@@ -13,7 +13,7 @@ use Rattle.integer.specs.BelowLaws.{lt-or-le}
 use Rattle.integer.specs.declared.Found.{Found}
 use Rattle.integer.specs.declared.Found.the-variants.{At, Nothing}
 use Rattle.rulebook.specs.Units.{lastDay}
-use Rattle.calendar.specs.Calendar.{isDay, isDate, isMonth, dayOf, dateGiven, dateOf, weekdayOf, isProper, isBusinessDay, isNthAfter, nthAfter, statementDay, finalStatement, dueAfter, residualDue, DateReturned, DayReturned, WeekdayReturned, BusinessReturned, dateAccepted, dateRefused, dayAccepted, dayRefused, weekdayAccepted, weekdayRefused, businessAccepted, businessRefused, checked, upToLastDay, searchTold, dateTold, dayTold, weekdayTold, statementTold, businessTold, finalStatementTold, residualDueTold}
+use Rattle.calendar.specs.Calendar.{isDay, isDate, isMonth, dayOf, dateGiven, dateOf, weekdayOf, isProper, isBusinessDay, isNthAfter, nthAfter, statementDay, finalStatement, dueAfter, dueDay, DateReturned, DayReturned, WeekdayReturned, BusinessReturned, dateAccepted, dateRefused, dayAccepted, dayRefused, weekdayAccepted, weekdayRefused, businessAccepted, businessRefused, checked, upToLastDay, searchTold, dateTold, dayTold, weekdayTold, statementTold, businessTold, finalStatementTold, residualDueTold}
 use Rattle.calendar.specs.CalendarTable.{BusinessDay, NthBusinessDay, DateTable, DayTable, WeekdayTable, StatementTable, BusinessTable, SearchTable, FinalTable, DueTable}
 use Rattle.calendar.specs.CalendarWordLaws.{test-fails, day-says, month-says, date-says, list-says, business-says, nth-says, nth-told, nth-absent}
 
@@ -225,6 +225,6 @@ unfolding finalStatementTold finalStatement statementDay
 final-table day holidays = search-table holidays 10 (positive day + 75) (isDay day) (day-says day)
 
 pub due-table : (year month : ℤ) (holidays : List ℤ) → DueTable year month holidays
-unfolding residualDueTold residualDue
+unfolding residualDueTold dueDay
 due-table year month holidays =
     search-table holidays 1 (dayOf (dueAfter (positive year) (positive month))) (isMonth (positive year) (positive month)) (month-says year month)

@@ -50,15 +50,15 @@ module _ (o : Terms) (past : List Event) where
       (cond (residualDue o (closingDay o past))
       (orElse (lacking Ncc 0 (residualDay o (closingDay o past))) (first (o .accounts) (λ a. lacking Residual a (residualDay o (closingDay o past))))) Nothing)
 
-  abbrev pub searchTold : Found → Answer
-  searchTold (At at) = numbered datumAbsent at
-  searchTold Nothing = record { number = accepted; position = 0; day = closingDay o past; count = cond (residualDue o (closingDay o past)) (intervals * o .accounts) 0 }
+  abbrev pub searchAnswered : Found → Answer
+  searchAnswered (At at) = numbered datumAbsent at
+  searchAnswered Nothing = record { number = accepted; position = 0; day = closingDay o past; count = cond (residualDue o (closingDay o past)) (intervals * o .accounts) 0 }
 
   unfoldable pub closeTold : List ℤ → Answer
   closeTold statement =
       cond (ltb lastDay (closingDay o past)) (numbered bookFinished 0)
       (cond (ltb (length statement) (o .accounts + 1)) (numbered outputTooShort 0)
-      (searchTold firstLacking))
+      (searchAnswered firstLacking))
 
 -- ---- What each call leaves
 

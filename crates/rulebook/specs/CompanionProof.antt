@@ -31,7 +31,7 @@ use Rattle.rulebook.specs.Close.{Closing, closeRefused, closed, settled,
 use Rattle.rulebook.specs.Numbers.{accepted, notWellFormed, whyNumber, ofVerdict, ofSubmit, ofClose}
 use Rattle.rulebook.specs.History.{Event, closes, inForce, formulaBalance, closingDay, formulaAmount}
 use Rattle.rulebook.specs.Promises.{SubmitPromise, ClosePromise, Run, begun, thenSubmit, thenClose}
-use Rattle.rulebook.specs.Companion.{firstLacking, searchTold, closeTold, SubmitTells, CloseTells, EachTold, CompanionHolds}
+use Rattle.rulebook.specs.Companion.{firstLacking, searchAnswered, closeTold, SubmitTells, CloseTells, EachTold, CompanionHolds}
 use Rattle.rulebook.specs.Ledger.{State}
 use Rattle.rulebook.specs.SoundLaws.{file-sound}
 use Rattle.rulebook.specs.FormLaws.{ring-pos}
@@ -91,7 +91,7 @@ module _ (o : Terms) (t : InTerms o) (past : List Event) (w : List ℤ) (h : Sta
     statementBeyond = kept-all (o .accounts + 1) st;
   }
 
-  settled-by : (st : List ℤ) → o .accounts + 1 ≤ length st → (x : Found) → closeTold o past st ≡ searchTold o past x → Tells st (settled o w (closingDay o past) st x)
+  settled-by : (st : List ℤ) → o .accounts + 1 ≤ length st → (x : Found) → closeTold o past st ≡ searchAnswered o past x → Tells st (settled o w (closingDay o past) st x)
   unfolding settled residualCount
   settled-by st room Nothing e = record {
     answered = sym e;

@@ -15,7 +15,7 @@ use Rattle.rulebook.specs.BookData.{Entries, dataOf, entryNamed}
 use Rattle.rulebook.specs.File.{Row, Figure, BVQ, BVP, TVQ, TVP, MEP, IEQ, UEGQ, MQ, RVP1, RVP2, NccLoad, figureSection, figurePlace, numberOf}
 use Rattle.rulebook.specs.Submit.{entry}
 use Rattle.rulebook.specs.History.{RowsInForce, figureIn, countIn, dataInForce}
-use Rattle.rulebook.specs.Ledger.{entryOf, entriesIn, Kept, Ranged}
+use Rattle.rulebook.specs.Ledger.{entryOf, entriesIn, Kept, RowRanged}
 use Rattle.rulebook.specs.AmountLaws.{Agree}
 use Rattle.rulebook.specs.RowWordLaws.{Usable, figure-word, flag-inside}
 use Rattle.rulebook.specs.KeptLaws.{zero-ranged, number-ranged, entry-flag, own-figure, entry-figure}
@@ -68,14 +68,14 @@ module _ (o : Terms) (k : ℕ) (rows : RowsInForce) (balance : ℕ → ℤ) (q :
     few = λ a i ha hi. rw (count-entry a i) (few (rows Meter a d) (q .section Meter a d) (q .ranged Meter a d));
   }
     where
-      ranged : (g : Figure) (i : ℕ) → i < 48 → (x : Option Row) → ((r : Row) → x ≡ some r → r .section ≡ figureSection g) → ((r : Row) → x ≡ some r → Ranged r)
+      ranged : (g : Figure) (i : ℕ) → i < 48 → (x : Option Row) → ((r : Row) → x ≡ some r → r .section ≡ figureSection g) → ((r : Row) → x ≡ some r → RowRanged r)
           → T (valueInRange (figureSection g) (figurePlace g) (figureIn x i g))
       ranged g i hi none f h = zero-ranged (figureSection g) (figurePlace g)
       ranged g i hi (some r) f h =
           let e = f r refl in
           rw (own-figure r i g e) (subst (λ (y : Section). T (valueInRange y (figurePlace g) (numberOf r i (figurePlace g)))) e (number-ranged r (h r refl) i (figurePlace g) hi))
 
-      few : (x : Option Row) → ((r : Row) → x ≡ some r → r .section ≡ Meter) → ((r : Row) → x ≡ some r → Ranged r) → countIn x ≤ 4
+      few : (x : Option Row) → ((r : Row) → x ≡ some r → r .section ≡ Meter) → ((r : Row) → x ≡ some r → RowRanged r) → countIn x ≤ 4
       few none f g = omega arith
       few (some r) f g = subst (λ (y : Section). r .count ≤ mostCount y) (f r refl) (g r refl .most)
 

@@ -19,7 +19,7 @@ use Rattle.rulebook.specs.Layout.{width, present, Word, flag, figure, pa
 use Rattle.rulebook.specs.WellFormed.{isZero, rowFits, rowBlank, rowCounts, wordFits}
 use Rattle.rulebook.specs.File.{Row, numberOf, figureOf}
 use Rattle.rulebook.specs.Submit.{entry, wordOf}
-use Rattle.rulebook.specs.Ledger.{entryOf, Ranged}
+use Rattle.rulebook.specs.Ledger.{entryOf, RowRanged}
 use Rattle.rulebook.specs.TestLaws.{or-left, or-right, all-yes, any-yes, between-yes, cond-yes, and-both, and-right, T-path}
 use Rattle.rulebook.specs.SectionsLaws.{section-self}
 use Rattle.rulebook.specs.RowWordLaws.{Usable, figure-word, flag-named}
@@ -48,7 +48,7 @@ zero-kind Load = tt
 pub zero-ranged : (s : Section) (k : ℕ) → T (valueInRange s k (pos 0))
 zero-ranged s k = zero-kind (kindOf s k)
 
-pub number-ranged : (r : Row) → Ranged r → (i k : ℕ) → i < 48 → T (valueInRange (r .section) k (numberOf r i k))
+pub number-ranged : (r : Row) → RowRanged r → (i k : ℕ) → i < 48 → T (valueInRange (r .section) k (numberOf r i k))
 unfolding numberOf
 number-ranged r h i k hi = go (ltb k (perInterval (r .section) (r .count))) refl
   where
@@ -71,7 +71,7 @@ unfolding rowFits rowBlank
 absent-fits s f h = or-left (rowBlank s f) (any (suc (mostCount s)) (rowCounts s f)) (all-yes (width s) (λ j. isZero (f j)) (λ j hj. rw (h j hj) tt))
 
 -- a figure of a row is in range where the row has it, and zero where not
-figure-fits : (r : Row) → Ranged r → (i : ℕ) → i < 48 → (g : Figure)
+figure-fits : (r : Row) → RowRanged r → (i : ℕ) → i < 48 → (g : Figure)
     → T (cond (ltb (figurePlace g) (perInterval (r .section) (r .count))) (valueInRange (r .section) (figurePlace g) (figureOf r i g)) (isZero (figureOf r i g)))
 unfolding figureOf
 figure-fits r h i hi g = go (sameSection (r .section) (figureSection g))
@@ -86,12 +86,12 @@ figure-fits r h i hi g = go (sameSection (r .section) (figureSection g))
     go false = cond-yes (ltb (figurePlace g) (perInterval (r .section) (r .count))) (valueInRange (r .section) (figurePlace g) (pos 0)) (isZero (pos 0))
         (λ t. zero-ranged (r .section) (figurePlace g)) (λ t. tt)
 
-word-fits : (r : Row) → Ranged r → (i : ℕ) → i < 48 → (n : Word) → T (wordFits (r .section) (r .count) n (wordOf r i n))
+word-fits : (r : Row) → RowRanged r → (i : ℕ) → i < 48 → (n : Word) → T (wordFits (r .section) (r .count) n (wordOf r i n))
 word-fits r h i hi (flag s) = between-yes _ _ (present (r .section) (r .count)) (omega arith) (omega arith)
 word-fits r h i hi (figure g) = figure-fits r h i hi g
 word-fits r h i hi padding = tt
 
-pub there-fits : (r : Row) → Ranged r → (f : ℕ → ℤ) (i : ℕ) → i < 48 → ((j : ℕ) → j < width (r .section) → f j ≡ entry r i j) → T (rowFits (r .section) f)
+pub there-fits : (r : Row) → RowRanged r → (f : ℕ → ℤ) (i : ℕ) → i < 48 → ((j : ℕ) → j < width (r .section) → f j ≡ entry r i j) → T (rowFits (r .section) f)
 unfolding rowFits rowCounts entry
 there-fits r h f i hi e =
     let s : Section = r .section in
@@ -100,7 +100,7 @@ there-fits r h f i hi e =
     (and-both (leb (leastCount s) c) (all (width s) (λ j. wordFits s c (wordName s j) (f j))) (le→leb _ _ (h .least))
     (all-yes (width s) (λ j. wordFits s c (wordName s j) (f j)) (λ j hj. rw (e j hj) (word-fits r h i hi (wordName s j))))))
 
-pub row-fits : (s : Section) (x : Option Row) → ((r : Row) → x ≡ some r → (r .section ≡ s) × Ranged r) → (f : ℕ → ℤ) (i : ℕ) → i < 48
+pub row-fits : (s : Section) (x : Option Row) → ((r : Row) → x ≡ some r → (r .section ≡ s) × RowRanged r) → (f : ℕ → ℤ) (i : ℕ) → i < 48
     → ((j : ℕ) → j < width s → f j ≡ entryOf x i j) → T (rowFits s f)
 row-fits s none h f i hi e = absent-fits s f e
 row-fits s (some r) h f i hi e =
@@ -118,7 +118,7 @@ pub none-or : {A : Type 0} (x : Option A) → (x ≡ none) ⊎ ((r : A) × (x �
 none-or none = inl refl
 none-or (some r) = inr (r, refl)
 
-pub flag-more : (s : Section) (i : ℕ) (r : Row) → r .section ≡ s → Ranged r → (n : ℕ) × (entry r i (flagIndex s) ≡ pos (suc n))
+pub flag-more : (s : Section) (i : ℕ) (r : Row) → r .section ≡ s → RowRanged r → (n : ℕ) × (entry r i (flagIndex s) ≡ pos (suc n))
 flag-more s i r e h =
     let x = present-more (r .section) (r .count) (h .least) in
     (x .0, subst (λ (y : Section). entry r i (flagIndex y) ≡ pos (suc (x .0))) e (entry-flag r i ∙ ap pos (x .1)))

@@ -105,7 +105,7 @@ ledgerOf w = record { closed = nextDay w - termsOf w .first; entries = entriesOf
 -- ---- What is true after a history
 
 -- a row's count and numbers are in range
-pub record Ranged (row : Row) : Type 0 where
+pub record RowRanged (row : Row) : Type 0 where
   pub least : leastCount (row .section) ≤ row .count
   pub most : row .count ≤ mostCount (row .section)
   pub numbers : (i k : ℕ) → i < 48 → k < perInterval (row .section) (row .count)
@@ -114,7 +114,7 @@ pub record Ranged (row : Row) : Type 0 where
 -- k days are closed: each row in force is in range and of no day past the window, those of closed days are all there, and balances are bounded
 pub record Kept (o : Terms) (k : ℕ) (rows : RowsInForce) (balance : ℕ → ℤ) : Type 0 where
   pub section : (s : Section) (a d : ℕ) (r : Row) → rows s a d ≡ some r → r .section ≡ s
-  pub ranged : (s : Section) (a d : ℕ) (r : Row) → rows s a d ≡ some r → Ranged r
+  pub ranged : (s : Section) (a d : ℕ) (r : Row) → rows s a d ≡ some r → RowRanged r
   pub ahead : (s : Section) (a d : ℕ) (r : Row) → rows s a d ≡ some r → d < o .first + k + o .horizon
   pub dated : (s : Section) (a d : ℕ) (r : Row) → rows s a d ≡ some r → d ≤ lastDay
   pub vestings : (a d : ℕ) → a < o .accounts → o .first ≤ d → d < o .first + k → rows Vesting a d ≢ none

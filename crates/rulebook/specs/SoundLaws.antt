@@ -21,7 +21,7 @@ use Rattle.rulebook.specs.Units.{inRange}
 use Rattle.rulebook.specs.Sections.{accountsOf, perInterval, kindOf}
 use Rattle.rulebook.specs.File.{Row, rowAt, sectionRows, fileRows, num, valuesPos, valuesIn, countAt, accountAt, valueAt, rowPos, rowsIn, meterPos, residualPos, nccPos}
 use Rattle.rulebook.specs.Judging.{openFrom, judgedSection, judged}
-use Rattle.rulebook.specs.Ledger.{Ranged}
+use Rattle.rulebook.specs.Ledger.{RowRanged}
 use Rattle.rulebook.specs.JudgingLaws.{Fine, section-row, sections}
 
 -- what is true of a row of an accepted file
@@ -29,7 +29,7 @@ pub record Sound (l : Limits) (row : Row) : Type 0 where
   pub account : row .account < accountsOf (row .section) (l .accounts)
   pub early : openFrom l (row .section) ≤ row .day
   pub late : row .day ≤ l .last
-  pub ranged : Ranged row
+  pub ranged : RowRanged row
 
 -- a value's kind goes by its place in the interval
 even-turn : (i m k : ℕ) → (i * (2 * m) + k) % 2 ≡ k % 2

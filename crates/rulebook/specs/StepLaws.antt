@@ -23,7 +23,7 @@ use Rattle.rulebook.specs.File.{Row}
 use Rattle.rulebook.specs.Judging.{openFrom, limitsOf}
 use Rattle.rulebook.specs.Submit.{entry, entryOr}
 use Rattle.rulebook.specs.History.{latest, RowsInForce, isFor, lastFor}
-use Rattle.rulebook.specs.Ledger.{entryOf, entriesIn, ledger, replaced, overlaid, Ranged, Kept}
+use Rattle.rulebook.specs.Ledger.{entryOf, entriesIn, ledger, replaced, overlaid, RowRanged, Kept}
 use Rattle.rulebook.specs.TestLaws.{below-suc}
 use Rattle.rulebook.specs.LedgerLaws.{IsFor, is-for, Storable}
 use Rattle.rulebook.specs.SoundLaws.{Sound}
@@ -117,7 +117,7 @@ module _ (o : Terms) (k : ℕ) (rows : RowsInForce) (balance : ℕ → ℤ) (q :
   pub file-kept : Kept o k (newer rs rows) balance
   file-kept = record {
     section = by-file (λ s a d r. r .section ≡ s) (λ s a d r y z. z .section) (q .section);
-    ranged = by-file (λ s a d r. Ranged r) (λ s a d r y z. y .ranged) (q .ranged);
+    ranged = by-file (λ s a d r. RowRanged r) (λ s a d r y z. y .ranged) (q .ranged);
     ahead = by-file (λ s a d r. d < o .first + k + o .horizon) (λ s a d r y f. omega (arith, sound-day o k z r y .window, f .day)) (q .ahead);
     dated = by-file (λ s a d r. d ≤ lastDay) (λ s a d r y f. omega (arith, sound-day o k z r y .dated, f .day)) (q .dated);
     vestings = λ a d ha hd hk e. q .vestings a d ha hd hk (latest-none (lastFor rs Vesting a d) (rows Vesting a d) e .1);

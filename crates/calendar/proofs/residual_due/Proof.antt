@@ -5,7 +5,7 @@ use borrow.Author.Needs.{needs}
 use native.Mathlib.Omega.{arith}
 use borrow.Author.Tests.{not-true, not-false}
 use Rattle.integer.specs.Integer.{positive}
-use Rattle.calendar.specs.Calendar.{isMonth, isProper, isBusinessDay, nthAfter, dayOf, dueAfter, residualDue, upToLastDay, searchTold, residualDueTold}
+use Rattle.calendar.specs.Calendar.{isMonth, isProper, isBusinessDay, nthAfter, dayOf, dueAfter, dueDay, upToLastDay, searchTold, residualDueTold}
 use Rattle.calendar.specs.DateLaws.{given}
 use Rattle.calendar.proofs.residual_due.Statement.{statement}
 use Rattle.calendar.proofs.residual_due.Tie as tie
@@ -55,7 +55,7 @@ up-to-last-day-requires : tie.Need-up-to-last-day-requires
 up-to-last-day-requires c κs = search needs
 
 returns-3 : tie.Need-returns-3
-unfolding residualDueTold searchTold residualDue
+unfolding residualDueTold searchTold dueDay
 returns-3 c =
     let d = c .before .before in
     let k = d .before in
