@@ -2,8 +2,8 @@
 use mathlib.Core.Path.{_≡_, sym, ap, _∙_, subst}
 use mathlib.Core.Bool.{true}
 use mathlib.Core.List.{List, _++_}
-use Prim.Native.Nat.{ℕ, _+_, _-_, _*_, _≤_, _<_, _^_}
-use native.Mathlib.Nat.{zero-add, mul-le-mul, mul-le-mul-right}
+use Prim.Native.Nat.{ℕ, _+_, _≤_, _<_, _^_}
+use native.Mathlib.Nat.{zero-add}
 use native.Mathlib.Numerals.{add-one}
 use native.Mathlib.Omega.{arith}
 use lib.Dec.{T}
@@ -20,20 +20,20 @@ use Rattle.rulebook.specs.DayAmount.{residualDue, residualDay, postedAmount, ms
 use Rattle.rulebook.specs.Layout.{stored, size, base, intervalSize, msslWord, nextDayWord, balanceWord, slotLength}
 use Rattle.rulebook.specs.BookData.{bookData, termsOf, nextDay}
 use Rattle.rulebook.specs.WellFormed.{wellFormed, dayBound}
-use Rattle.rulebook.specs.BookSizeLaws.{close-sized}
-use Rattle.rulebook.specs.Close.{firstMissing, posted, postedToMssl, slotBlanked, dayClosed, statementWritten}
+use Rattle.rulebook.specs.BookSizeLaws.{close-amount, balance-room, mssl-room}
+use Rattle.rulebook.specs.Close.{firstMissing, posted, postedToMssl, balancesGrownBy, slotBlanked, dayClosed, statementWritten}
 use Rattle.rulebook.specs.StoreLaws.{stored-filled, stored-part}
 use Rattle.rulebook.specs.ListLaws.{tabulate-cong}
+use Rattle.rulebook.specs.CloseLaws.{grown-cong}
 use Rattle.rulebook.specs.BeyondLaws.{statement-beyond, statement-amount, statement-mssl}
 use Rattle.rulebook.specs.WordLaws.{length-stored, stored-in}
-use Rattle.rulebook.specs.FormedLaws.{balance-at, mssl-at}
 use Rattle.amounts.specs.Day.{DaysRanged, slotPosted}
 use Rattle.closing.specs.Slots.{slotStart, slotWords, thenDay, residualsDue}
 use Rattle.closing.specs.SlotsLaws.{slot-sized}
 use Rattle.closing.specs.PostedLaws.{slot-posted-same}
 use Rattle.closing.specs.SlotRangedLaws.{days-ranged}
-use Rattle.closing.specs.Written.{Small, Settling, StatementOf, BalancesRoom, grown, withMssl}
-use Rattle.closing.specs.WrittenLaws.{grown-header, grown-same}
+use Rattle.closing.specs.Written.{Small, Settling, StatementOf, BalancesRoom, withMssl}
+use Rattle.closing.specs.WrittenLaws.{grown-header}
 
 -- r's slot, lent to be cleared
 pub slot-blanked : (o : Terms) (w : List ℤ) (D : ℕ) (v : List ℤ) {a n : ℕ} → InTerms o → size o ≤ length v → residualDue o D ≡ true → a ≡ slotStart o (residualDay o D) → n ≡ slotLength (o .accounts)
@@ -70,7 +70,7 @@ module _ (w : List ℤ) (o : Terms) (D : ℕ) (s : Settling w o D) where
 
   sized : (a : ℕ) → a < o .accounts → natAbs (posted o w D a) ≤ dayBound
   unfolding posted
-  sized = at (λ (o : Terms) (D : ℕ). (a : ℕ) → a < o .accounts → natAbs (postedAmount o (bookData o w) a D) ≤ dayBound) (close-sized w formed left .posted)
+  sized = at (λ (o : Terms) (D : ℕ). (a : ℕ) → a < o .accounts → natAbs (postedAmount o (bookData o w) a D) ≤ dayBound) (close-amount w formed left)
 
   -- ---- The statement
 
@@ -114,36 +114,29 @@ module _ (w : List ℤ) (o : Terms) (D : ℕ) (s : Settling w o D) where
   -- ---- The book
 
   module _ (st : List ℤ) (h : StatementOf w o D st) where
-    abbrev D-balances : Terms → ℕ → Type 0
-    D-balances o D = (a : ℕ) → a < o .accounts → natAbs (word w (balanceWord a)) ≤ (D - o .first) * dayBound
+    abbrev Balances : Terms → ℕ → Type 0
+    Balances o D = (a : ℕ) → a < o .accounts → natAbs (word w (balanceWord a)) + natAbs (postedAmount o (bookData o w) a D) ≤ 129734400000000000
 
-    abbrev D-mssl : Terms → ℕ → Type 0
-    D-mssl o D = natAbs (word w msslWord) ≤ o .accounts * ((D - o .first) * dayBound)
-
-    abbrev D-posted : Terms → ℕ → Type 0
-    D-posted o D = natAbs (msslAmount o (bookData o w) D) ≤ 153600000000000
-
-    few : (D - o .first) * dayBound ≤ 27027 * dayBound
-    few = let d : D - o .first ≤ 27027 = omega (arith, s .left, s .book .inTerms .firstFrom) in mul-le-mul-right dayBound d
+    abbrev Mssl : Terms → ℕ → Type 0
+    Mssl o D = natAbs (word w msslWord) + natAbs (msslAmount o (bookData o w) D) ≤ 4151500800000000000
 
     balances-inside : balanceWord (o .accounts) ≤ length w
     unfolding size base
     balances-inside = omega (arith, s .book .room)
 
     pub balances-room : BalancesRoom (o .accounts) w st
+    unfolding posted
     balances-room = record {
       book = balances-inside;
       statement = omega (arith, h .room);
-      each = λ a l. rw (h .accounts a l) (omega (arith, at D-balances (balance-at w formed) a l, sized a l, few));
+      each = λ a l. rw (h .accounts a l) (omega (arith, at Balances (balance-room w formed left) a l));
     }
 
     -- the MSSL's balance, untouched so far, has room too
-    pub mssl-room : natAbs (word (grown w st (o .accounts)) msslWord) + natAbs (word st (o .accounts)) < 2 ^ 63
+    pub credit-room : natAbs (word (balancesGrownBy w (word st) (o .accounts)) msslWord) + natAbs (word st (o .accounts)) < 2 ^ 63
     unfolding postedToMssl
-    mssl-room =
-        rw (grown-header w st (o .accounts) msslWord (omega arith), h .mssl)
-        (omega (arith, at D-mssl (mssl-at w formed), at D-posted (close-sized w formed left .mssl), mul-le-mul (s .book .inTerms .accountsTo) few))
+    credit-room = rw (grown-header w (word st) (o .accounts) msslWord (omega arith), h .mssl) (omega (arith, at Mssl (mssl-room w formed left)))
 
-    pub book-same : slotBlanked o w D (set (set (grown w st (o .accounts)) msslWord (word (grown w st (o .accounts)) msslWord +ℤ word st (o .accounts))) nextDayWord (pos (D + 1))) ≡ dayClosed o w D
+    pub book-same : slotBlanked o w D (set (set (balancesGrownBy w (word st) (o .accounts)) msslWord (word (balancesGrownBy w (word st) (o .accounts)) msslWord +ℤ word st (o .accounts))) nextDayWord (pos (D + 1))) ≡ dayClosed o w D
     unfolding dayClosed
-    book-same = ap (slotBlanked o w D) (rw (grown-header w st (o .accounts) msslWord (omega arith), h .mssl, grown-same w st o D (o .accounts) (h .accounts), add-one D))
+    book-same = ap (slotBlanked o w D) (rw (grown-header w (word st) (o .accounts) msslWord (omega arith), h .mssl, grown-cong w (word st) (posted o w D) (o .accounts) (h .accounts), add-one D))

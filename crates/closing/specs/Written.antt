@@ -1,8 +1,8 @@
 -- What an accepted close writes, as the code writes it. Assumes nothing.
 use mathlib.Core.Path.{_≡_}
 use mathlib.Core.List.{List}
-use Prim.Native.Nat.{ℕ, zero, suc, _+_, _≤_, _<_, _^_}
-use lib.IntN.{ℤ, natAbs, negℤ, _+ℤ_}
+use Prim.Native.Nat.{ℕ, _+_, _≤_, _<_, _^_}
+use lib.IntN.{ℤ, natAbs, negℤ}
 use lib.ListN.{length, set}
 use Rattle.integer.specs.declared.Found.the-variants.{Nothing}
 use Rattle.integer.specs.Below.{sumℤ}
@@ -18,11 +18,6 @@ use Rattle.book.specs.JudgedLaws.{Formed}
 pub record Small (n : ℕ) (st : List ℤ) : Type 0 where
   pub room : n ≤ length st
   pub each : (a : ℕ) → a < n → natAbs (word st a) ≤ dayBound
-
--- the first n accounts' balances grown by the statement's amounts
-unfoldable pub grown : List ℤ → List ℤ → ℕ → List ℤ
-grown w st zero = w
-grown w st (suc n) = set (grown w st n) (balanceWord n) (word w (balanceWord n) +ℤ word st n)
 
 -- n balances and amounts, whose sums fit
 pub record BalancesRoom (n : ℕ) (w st : List ℤ) : Type 0 where

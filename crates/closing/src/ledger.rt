@@ -9,7 +9,8 @@ ghost use lib.IntN.{natAbs, _+ℤ_};
 ghost use lib.ListN.{length, set};
 ghost use Rattle.integer.specs.Words.{word};
 ghost use Rattle.rulebook.specs.Shares.{mostAccounts};
-ghost use Rattle.closing.specs.Written.{grown, BalancesRoom};
+ghost use Rattle.rulebook.specs.Close.{balancesGrownBy};
+ghost use Rattle.closing.specs.Written.{BalancesRoom};
 
 // The balance at an index grows by an amount.
 pub fn grow(book: &mut [i64], at: usize, amount: i64)
@@ -22,7 +23,7 @@ pub fn grow(book: &mut [i64], at: usize, amount: i64)
 // Each account's grows by its amount of the statement.
 pub fn grow_balances(book: &mut [i64], statement: &[i64], n: usize)
     requires { ⌜ BalancesRoom n (now book) (now statement) × (n ≤ mostAccounts) ⌝ }
-    ensures { λ _. ⌜ now (book .exit) ≡ grown (now (book .entry)) (now (statement .entry)) n ⌝ }
+    ensures { λ _. ⌜ now (book .exit) ≡ balancesGrownBy (now (book .entry)) (word (now (statement .entry))) n ⌝ }
 {
     for a in 0..n {
         grow(

@@ -78,9 +78,9 @@ module _ (o : Terms) where
         let credit : ℤ = word w msslWord +ℤ postedToMssl o w D in
         kept-then (size o) w (set (set grown msslWord credit) nextDayWord (pos (suc D))) _
         (record {
-          long = length-set (set grown msslWord credit) nextDayWord (pos (suc D)) ∙ length-set grown msslWord credit ∙ length-grown o w D (o .accounts);
+          long = length-set (set grown msslWord credit) nextDayWord (pos (suc D)) ∙ length-set grown msslWord credit ∙ length-grown w (posted o w D) (o .accounts);
           words = λ m h. getD-set-other (set grown msslWord credit) nextDayWord m (pos (suc D)) (pos 0) (omega arith) ∙ getD-set-other grown msslWord m credit (pos 0) (omega arith)
-              ∙ grown-out o w D (o .accounts) m (λ a x e. omega arith);
+              ∙ grown-out w (posted o w D) (o .accounts) m (λ a x e. omega arith);
         })
         (blanked-beyond w D (set (set grown msslWord credit) nextDayWord (pos (suc D))))
 

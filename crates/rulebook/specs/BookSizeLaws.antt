@@ -56,16 +56,13 @@ module _ (w : List ℤ) (t : T (wellFormed w)) where
     days-few : suc (nextDay w - termsOf w .first) ≤ 27028
     days-few = omega (arith, opened-of w t .firstFrom, next-of w t .1)
 
-    pub close-sized : CloseSized w
-    close-sized = record {
-      now = now-sized;
-      then = then-sized;
-      loads = λ x i hi. load-sized (termsOf w .accounts) (entriesOf (termsOf w) w) (residualDay (termsOf w) (nextDay w)) (book-ranged (residualDay (termsOf w) (nextDay w)) (r-inside x) r-dated) i hi;
-      posted = close-amount;
-      mssl = omega (arith, mssl-amount, mul-le-mul-right dayBound (opened-of w t .accountsTo));
-      balances = λ a la. omega (arith, abs-add (word w (balanceWord a)) (postedAmount (termsOf w) (bookData (termsOf w) w) a (nextDay w)), balance-at w t a la, close-amount a la, mul-le-mul-right dayBound days-few, suc-mul (nextDay w - termsOf w .first) dayBound);
-      msslBalance = omega (arith, abs-add (word w msslWord) (msslAmount (termsOf w) (bookData (termsOf w) w) (nextDay w)), mssl-at w t, mssl-amount, all-grown, most-grown);
-    }
+    -- a balance and what it grows by, and the MSSL's
+    pub balance-room : (a : ℕ) → a < termsOf w .accounts
+        → natAbs (word w (balanceWord a)) + natAbs (postedAmount (termsOf w) (bookData (termsOf w) w) a (nextDay w)) ≤ 129734400000000000
+    balance-room a la = omega (arith, balance-at w t a la, close-amount a la, mul-le-mul-right dayBound days-few, suc-mul (nextDay w - termsOf w .first) dayBound)
+
+    pub mssl-room : natAbs (word w msslWord) + natAbs (msslAmount (termsOf w) (bookData (termsOf w) w) (nextDay w)) ≤ 4151500800000000000
+    mssl-room = omega (arith, mssl-at w t, mssl-amount, all-grown, most-grown)
       where
         all-grown : termsOf w .accounts * ((nextDay w - termsOf w .first) * dayBound) + termsOf w .accounts * dayBound ≤ termsOf w .accounts * (suc (nextDay w - termsOf w .first) * dayBound)
         all-grown = omega (arith, mul-add (termsOf w .accounts) ((nextDay w - termsOf w .first) * dayBound) dayBound, grown-same)
@@ -75,3 +72,14 @@ module _ (w : List ℤ) (t : T (wellFormed w)) where
 
         most-grown : termsOf w .accounts * (suc (nextDay w - termsOf w .first) * dayBound) ≤ 32 * (27028 * dayBound)
         most-grown = mul-le-mul (opened-of w t .accountsTo) (mul-le-mul-right dayBound days-few)
+
+    pub close-sized : CloseSized w
+    close-sized = record {
+      now = now-sized;
+      then = then-sized;
+      loads = λ x i hi. load-sized (termsOf w .accounts) (entriesOf (termsOf w) w) (residualDay (termsOf w) (nextDay w)) (book-ranged (residualDay (termsOf w) (nextDay w)) (r-inside x) r-dated) i hi;
+      posted = close-amount;
+      mssl = omega (arith, mssl-amount, mul-le-mul-right dayBound (opened-of w t .accountsTo));
+      balances = λ a la. omega (arith, abs-add (word w (balanceWord a)) (postedAmount (termsOf w) (bookData (termsOf w) w) a (nextDay w)), balance-room a la);
+      msslBalance = omega (arith, abs-add (word w msslWord) (msslAmount (termsOf w) (bookData (termsOf w) w) (nextDay w)), mssl-room);
+    }

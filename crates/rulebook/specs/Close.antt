@@ -20,9 +20,9 @@ use Rattle.rulebook.specs.Layout.{stored, nextDayWord, msslWord, balance
 use Rattle.rulebook.specs.BookData.{bookData, termsOf, nextDay}
 use Rattle.rulebook.specs.WellFormed.{isZero, wellFormed}
 
-module _ (o : Terms) (w : List ℤ) (D : ℕ) where
-  -- ---- The search
+-- ---- The search
 
+module _ (o : Terms) (w : List ℤ) (D : ℕ) where
   -- the index of a flag that is zero
   unfoldable pub absentFlag : Section → ℕ → ℕ → ℕ → Found
   absentFlag s a d i = cond (isZero (word w (flagWord o s a d i))) (At (flagWord o s a d i)) Nothing
@@ -36,18 +36,23 @@ module _ (o : Terms) (w : List ℤ) (D : ℕ) where
   unfoldable pub firstMissing : Found
   firstMissing = first intervals missingAt
 
-  -- ---- What an accepted close writes
+-- ---- What an accepted close writes
 
+-- the first n accounts' balances grown by these amounts
+unfoldable pub balancesGrownBy : List ℤ → (ℕ → ℤ) → ℕ → List ℤ
+balancesGrownBy w amount zero = w
+balancesGrownBy w amount (suc n) = set (balancesGrownBy w amount n) (balanceWord n) (word w (balanceWord n) +ℤ amount n)
+
+module _ (o : Terms) (w : List ℤ) (D : ℕ) where
   unfoldable pub posted : ℕ → ℤ
   posted a = postedAmount o (bookData o w) a D
 
   unfoldable pub postedToMssl : ℤ
   postedToMssl = msslAmount o (bookData o w) D
 
-  -- the first n accounts' balances grown
-  unfoldable pub balancesGrown : ℕ → List ℤ
-  balancesGrown zero = w
-  balancesGrown (suc n) = set (balancesGrown n) (balanceWord n) (word w (balanceWord n) +ℤ posted n)
+  -- by what is posted
+  abbrev pub balancesGrown : ℕ → List ℤ
+  balancesGrown = balancesGrownBy w posted
 
   -- r's slot
   unfoldable pub slotBlanked : List ℤ → List ℤ

@@ -21,12 +21,43 @@ use Rattle.rulebook.specs.Sections.{accountsOf}
 use Rattle.rulebook.specs.Layout.{stored, width, place, intervalSize, ring, base, size, slot, intervalWord, rowWord, intervalWords, accountWords, markWord, accountsWord, lagWord, horizonWord, firstDayWord, nextDayWord, msslWord, balanceWord, balancePadding, headerPadding, InWindow}
 use Rattle.rulebook.specs.BookData.{Entries}
 use Rattle.rulebook.specs.WindowWalk.{windowSlot}
-use Rattle.rulebook.specs.Close.{posted, postedToMssl, balancesGrown, slotBlanked, dayClosed}
+use Rattle.rulebook.specs.Close.{posted, postedToMssl, balancesGrownBy, balancesGrown, slotBlanked, dayClosed}
 use Rattle.rulebook.specs.Ledger.{HoldsLedger, Padding}
 use Rattle.rulebook.specs.TestLaws.{below-suc}
 use Rattle.rulebook.specs.LayoutLaws.{days-apart, interval-apart, interval-inside, row-inside, slot-inside, remainder}
 use Rattle.rulebook.specs.WordLaws.{stored-in, stored-out, length-stored}
 use Rattle.rulebook.specs.LedgerLaws.{padding-fits}
+
+-- ---- Balances grown by any amounts
+
+module _ (w : List ℤ) (f : ℕ → ℤ) where
+  pub length-grown : (n : ℕ) → length (balancesGrownBy w f n) ≡ length w
+  unfolding balancesGrownBy
+  length-grown zero = refl
+  length-grown (suc n) = length-set (balancesGrownBy w f n) _ _ ∙ length-grown n
+
+  pub grown-out : (n m : ℕ) → ((a : ℕ) → a < n → m ≡ balanceWord a → ⊥) → word (balancesGrownBy w f n) m ≡ word w m
+  unfolding balancesGrownBy
+  grown-out zero m h = refl
+  grown-out (suc n) m h = getD-set-other (balancesGrownBy w f n) (balanceWord n) m _ (pos 0) (h n (omega arith)) ∙ grown-out n m (λ a x. h a (omega arith))
+
+  pub grown-in : (n a : ℕ) → a < n → balanceWord a < length w → word (balancesGrownBy w f n) (balanceWord a) ≡ word w (balanceWord a) +ℤ f a
+  unfolding balancesGrownBy
+  grown-in zero a h l = absurd (not-suc-le-zero h)
+  grown-in (suc n) a h l = go (λ x. grown-in n a x l) (below-suc h)
+    where
+      go : (a < n → word (balancesGrownBy w f n) (balanceWord a) ≡ word w (balanceWord a) +ℤ f a) → (a < n) ⊎ (a ≡ n)
+          → word (balancesGrownBy w f (suc n)) (balanceWord a) ≡ word w (balanceWord a) +ℤ f a
+      go ih (inl x) = getD-set-other (balancesGrownBy w f n) (balanceWord n) (balanceWord a) _ (pos 0) (omega arith) ∙ ih x
+      go ih (inr x) = rw x (getD-set-same (balancesGrownBy w f n) (balanceWord n) _ (pos 0) (omega (arith, length-grown n)))
+
+-- amounts that agree
+pub grown-cong : (w : List ℤ) (f g : ℕ → ℤ) (n : ℕ) → ((a : ℕ) → a < n → f a ≡ g a) → balancesGrownBy w f n ≡ balancesGrownBy w g n
+unfolding balancesGrownBy
+grown-cong w f g zero h = refl
+grown-cong w f g (suc n) h = rw (grown-cong w f g n (λ a l. h a (omega arith)), h n (omega arith))
+
+-- ---- The close
 
 module _ (o : Terms) where
   pub base-fits : base o ≤ size o
@@ -65,26 +96,6 @@ module _ (o : Terms) where
         out (j / intervalSize o) (j % intervalSize o) (q .2) (q .1) (omega (arith, q .0, slot-form t 0 0, slot-form t (j / intervalSize o) (j % intervalSize o))))
 
   module _ (w : List ℤ) (D : ℕ) where
-    pub length-grown : (n : ℕ) → length (balancesGrown o w D n) ≡ length w
-    unfolding balancesGrown
-    length-grown zero = refl
-    length-grown (suc n) = length-set (balancesGrown o w D n) _ _ ∙ length-grown n
-
-    pub grown-out : (n m : ℕ) → ((a : ℕ) → a < n → m ≡ balanceWord a → ⊥) → word (balancesGrown o w D n) m ≡ word w m
-    unfolding balancesGrown
-    grown-out zero m h = refl
-    grown-out (suc n) m h = getD-set-other (balancesGrown o w D n) (balanceWord n) m _ (pos 0) (h n (omega arith)) ∙ grown-out n m (λ a x. h a (omega arith))
-
-    pub grown-in : (n a : ℕ) → a < n → balanceWord a < length w → word (balancesGrown o w D n) (balanceWord a) ≡ word w (balanceWord a) +ℤ posted o w D a
-    unfolding balancesGrown
-    grown-in zero a h l = absurd (not-suc-le-zero h)
-    grown-in (suc n) a h l = go (λ x. grown-in n a x l) (below-suc h)
-      where
-        go : (a < n → word (balancesGrown o w D n) (balanceWord a) ≡ word w (balanceWord a) +ℤ posted o w D a) → (a < n) ⊎ (a ≡ n)
-            → word (balancesGrown o w D (suc n)) (balanceWord a) ≡ word w (balanceWord a) +ℤ posted o w D a
-        go ih (inl x) = getD-set-other (balancesGrown o w D n) (balanceWord n) (balanceWord a) _ (pos 0) (omega arith) ∙ ih x
-        go ih (inr x) = rw x (getD-set-same (balancesGrown o w D n) (balanceWord n) _ (pos 0) (omega (arith, length-grown n)))
-
     abbrev grown : List ℤ
     grown = balancesGrown o w D (o .accounts)
 
@@ -97,26 +108,26 @@ module _ (o : Terms) where
 
     length-counted : length counted ≡ length w
     unfolding counted
-    length-counted = simp length-set (length-grown (o .accounts))
+    length-counted = simp length-set (length-grown w (posted o w D) (o .accounts))
 
     pub counted-next : base o ≤ length w → word counted nextDayWord ≡ pos (suc D)
     unfolding counted base
-    counted-next l = getD-set-same (set grown msslWord credit) nextDayWord (pos (suc D)) (pos 0) (omega (arith, length-set grown msslWord credit, length-grown (o .accounts)))
+    counted-next l = getD-set-same (set grown msslWord credit) nextDayWord (pos (suc D)) (pos 0) (omega (arith, length-set grown msslWord credit, length-grown w (posted o w D) (o .accounts)))
 
     pub counted-mssl : base o ≤ length w → word counted msslWord ≡ word w msslWord +ℤ postedToMssl o w D
     unfolding counted base
     counted-mssl l = getD-set-other (set grown msslWord credit) nextDayWord msslWord (pos (suc D)) (pos 0) (omega arith)
-        ∙ getD-set-same grown msslWord credit (pos 0) (omega (arith, length-grown (o .accounts)))
+        ∙ getD-set-same grown msslWord credit (pos 0) (omega (arith, length-grown w (posted o w D) (o .accounts)))
 
     pub counted-balance : base o ≤ length w → (a : ℕ) → a < o .accounts → word counted (balanceWord a) ≡ word w (balanceWord a) +ℤ posted o w D a
     unfolding counted base
     counted-balance l a h = getD-set-other (set grown msslWord credit) nextDayWord (balanceWord a) (pos (suc D)) (pos 0) (omega arith)
-        ∙ getD-set-other grown msslWord (balanceWord a) credit (pos 0) (omega arith) ∙ grown-in (o .accounts) a h (omega arith)
+        ∙ getD-set-other grown msslWord (balanceWord a) credit (pos 0) (omega arith) ∙ grown-in w (posted o w D) (o .accounts) a h (omega arith)
 
     pub counted-out : (m : ℕ) → m ≢ nextDayWord → m ≢ msslWord → ((a : ℕ) → a < o .accounts → m ≢ balanceWord a) → word counted m ≡ word w m
     unfolding counted
     counted-out m f g h = getD-set-other (set grown msslWord credit) nextDayWord m (pos (suc D)) (pos 0) f
-        ∙ getD-set-other grown msslWord m credit (pos 0) g ∙ grown-out (o .accounts) m h
+        ∙ getD-set-other grown msslWord m credit (pos 0) g ∙ grown-out w (posted o w D) (o .accounts) m h
 
     counted-slot : (t i m : ℕ) → word counted (intervalWord o t i m) ≡ word w (intervalWord o t i m)
     unfolding intervalWord base

@@ -8,13 +8,13 @@ use mir.Val.{toZ, ofZ}
 use Rattle.integer.specs.Bits.{got}
 use Rattle.integer.specs.Words.{word}
 use Rattle.rulebook.specs.Layout.{balanceWord}
-use Rattle.closing.specs.Written.{grown}
+use Rattle.rulebook.specs.Close.{balancesGrownBy}
 use Rattle.closing.specs.WrittenLaws.{grown-none, grown-next, grown-step}
 use Rattle.closing.proofs.ledger.grow_balances.Statement.{statement}
 use Rattle.closing.proofs.ledger.grow_balances.Tie as tie
 
 abbrev Inv-loop : tie.InvT-loop
-Inv-loop book₀ statement n a₀ book a = (a ≤ n) × (length book ≡ length book₀) × (book ≡ grown book₀ statement a)
+Inv-loop book₀ statement n a₀ book a = (a ≤ n) × (length book ≡ length book₀) × (book ≡ balancesGrownBy book₀ (word statement) a)
 
 abbrev μ-loop : tie.MeasureT-loop
 μ-loop book₀ statement n a₀ book a = n - a
@@ -40,7 +40,7 @@ grow-requires c κs =
     let l = c .before .before .before .loop in
     let s = c .before .before .before .before in
     let k = c .before .before .loop-test .taken in
-    (omega (arith, s .pre .0 .book), rw (amount c, l .inv .2, grown-next (s .args .book .now) (s .args .statement .now) (l .a) (balanceWord (l .a)) (omega arith)) (s .pre .0 .each (l .a) k))
+    (omega (arith, s .pre .0 .book), rw (amount c, l .inv .2, grown-next (s .args .book .now) (word (s .args .statement .now)) (l .a) (balanceWord (l .a)) (omega arith)) (s .pre .0 .each (l .a) k))
 
 add-a : tie.Need-add-a Inv-loop μ-loop
 add-a c = omega arith
@@ -54,7 +54,7 @@ loop-again c =
     let l = b .before .before .before .loop in
     let s = b .before .before .before .before in
     let g = c .before .grow in
-    (omega arith, g .kept .0 ∙ l .inv .1, g .ensures ∙ grown-step (s .args .book .now) (s .args .statement .now) (l .a) (l .inv .2) (amount b))
+    (omega arith, g .kept .0 ∙ l .inv .1, g .ensures ∙ grown-step (s .args .book .now) (word (s .args .statement .now)) (l .a) (l .inv .2) (amount b))
 
 same-length : tie.Need-same-length Inv-loop μ-loop
 same-length c = c .before .loop .inv .1

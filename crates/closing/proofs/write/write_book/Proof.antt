@@ -12,7 +12,7 @@ use Rattle.integer.specs.Words.{word}
 use Rattle.rulebook.specs.declared.Terms.{Terms}
 use Rattle.rulebook.specs.Layout.{msslWord, nextDayWord}
 use Rattle.rulebook.specs.Close.{slotBlanked}
-use Rattle.closing.specs.SettlingLaws.{balances-room, mssl-room, book-same}
+use Rattle.closing.specs.SettlingLaws.{balances-room, credit-room, book-same}
 use borrow.Author.Needs.{needs}
 use Rattle.closing.proofs.write.write_book.Statement.{statement}
 use Rattle.closing.proofs.write.write_book.Tie as tie
@@ -32,7 +32,7 @@ grow-requires c κs =
     let g = c .before .before .before in
     let s = g .before .before in
     let b = balances-room (s .args .book .now) (s .args .terms) (s .args .day) (s .pre .0) (s .args .statement .now) (s .pre .1) in
-    (omega (arith, g .grow-balances .kept .0, b .book), rw (g .grow-balances .ensures, amount c) (mssl-room (s .args .book .now) (s .args .terms) (s .args .day) (s .pre .0) (s .args .statement .now) (s .pre .1)))
+    (omega (arith, g .grow-balances .kept .0, b .book), rw (g .grow-balances .ensures, amount c) (credit-room (s .args .book .now) (s .args .terms) (s .args .day) (s .pre .0) (s .args .statement .now) (s .pre .1)))
 
 add-signed : tie.Need-add-signed
 add-signed c = search needs
