@@ -3,19 +3,16 @@ use mathlib.Core.Path.{_≡_}
 use mathlib.Core.Bool.{true}
 use mathlib.Core.List.{List}
 use Prim.Native.Nat.{ℕ, _+_, _*_, _≤_, _<_}
-use lib.IntN.{ℤ, pos, natAbs, _+ℤ_, _-ℤ_, _*ℤ_}
+use lib.IntN.{ℤ, natAbs}
 use lib.ListN.{length}
-use Rattle.integer.specs.Below.{sumℤ}
 use Rattle.integer.specs.Words.{word}
 use Rattle.rulebook.specs.declared.Kind.the-variants.{Quantity}
 use Rattle.rulebook.specs.declared.Section.the-variants.{Meter}
 use Rattle.rulebook.specs.Units.{positive, asQuantity, inRange, mostQuantity, mostPrice}
 use Rattle.rulebook.specs.ReferencePrice.{mostFacilities}
-use Rattle.rulebook.specs.Shares.{shareOf}
-use Rattle.rulebook.specs.Tranches.{tranche1, tranche2}
 use Rattle.rulebook.specs.Sections.{BVQ, BVP, TVQ, TVP, MEP, IEQ, UEGQ, MQ, RVP1, RVP2}
 use Rattle.rulebook.specs.Layout.{accountWords, flagAt, figureAt}
-use Rattle.rulebook.specs.DayAmount.{AccountData, tenders, referencePriceOf}
+use Rattle.rulebook.specs.DayAmount.{AccountData, tenders}
 
 -- the data of a cell
 abbrev pub cellData : List ℤ → AccountData
@@ -48,19 +45,3 @@ pub record Ranged (c : List ℤ) : Type 0 where
   pub mq : inRange Quantity (word c (figureAt MQ)) ≡ true
   pub rvp1 : natAbs (word c (figureAt RVP1)) ≤ mostPrice
   pub rvp2 : natAbs (word c (figureAt RVP2)) ≤ mostPrice
-
--- ---- Amounts of a cell
-
--- Σ (TVP − V) × TVQ
-unfoldable pub tenderAmount : List ℤ → ℤ → ℤ
-tenderAmount c v = sumℤ tenders (λ t. (word c (figureAt (TVP 0) + 2 * t) -ℤ v) *ℤ pos (asQuantity (word c (figureAt (TVQ 0) + 2 * t))))
-
--- the residual amount at V = v, of R = r and S = s
-unfoldable pub residualPriced : List ℤ → ℤ → ℤ → ℕ → ℤ
-residualPriced c v r s =
-    (word c (figureAt RVP1) -ℤ v) *ℤ pos (tranche1 (shareOf r s (asQuantity (word c (figureAt UEGQ)))) (asQuantity (word c (figureAt BVQ))) (asQuantity (word c (figureAt MQ))))
-    +ℤ (word c (figureAt RVP2) -ℤ v) *ℤ pos (tranche2 (shareOf r s (asQuantity (word c (figureAt UEGQ)))) (asQuantity (word c (figureAt BVQ))) (asQuantity (word c (figureAt MQ))))
-
--- at the cell's own V
-abbrev pub cellResidual : List ℤ → ℤ → ℕ → ℤ
-cellResidual c r s = residualPriced c (referencePriceOf (cellData c)) r s

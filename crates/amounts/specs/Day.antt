@@ -7,15 +7,15 @@ use lib.IntN.{ℤ, pos, natAbs, _+ℤ_}
 use lib.ListN.{length, getD, replicate}
 use Rattle.integer.specs.Below.{sumℤ, tabulate}
 use Rattle.integer.specs.Words.{part, word}
-use Rattle.rulebook.specs.Shares.{leastResidual}
+use Rattle.rulebook.specs.Shares.{leastResidual, shareOf}
 use Rattle.rulebook.specs.Units.{intervals, nearest, thousandthsPerCent}
-use Rattle.rulebook.specs.DayAmount.{vestingAmount}
+use Rattle.rulebook.specs.DayAmount.{referencePriceOf, vestingAmount, shareAmount, residualLoad, spareGeneration}
 use Rattle.rulebook.specs.Layout.{intervalWords, accountWords, intervalLength, slotLength}
 use Rattle.amounts.specs.declared.interval.Residual.{Residual}
 use Rattle.amounts.specs.declared.day.Residuals.{Residuals}
 use Rattle.amounts.specs.declared.total.DayTotal.{DayTotal}
-use Rattle.amounts.specs.Cell.{cellData, cellResidual}
-use Rattle.amounts.specs.Interval.{IntervalRanged, residualOf, spareOf}
+use Rattle.amounts.specs.Cell.{cellData}
+use Rattle.amounts.specs.Interval.{IntervalRanged, loadIn, dataIn}
 
 -- interval i of a slot of n accounts
 abbrev pub intervalOf : ℕ → List ℤ → ℕ → List ℤ
@@ -31,7 +31,10 @@ pub record SlotRanged (n : ℕ) (x : List ℤ) : Type 0 where
 
 -- R and S of each interval
 unfoldable pub residualsOf : ℕ → List ℤ → Residuals
-residualsOf n x = record { loads = tabulate intervals (λ i. residualOf n (intervalOf n x i)); spares = tabulate intervals (λ i. spareOf n (intervalOf n x i)) }
+residualsOf n x = record {
+  loads = tabulate intervals (λ i. residualLoad (loadIn (intervalOf n x i)) n (dataIn (intervalOf n x i)));
+  spares = tabulate intervals (λ i. spareGeneration n (dataIn (intervalOf n x i)));
+}
 
 -- none, where no residual is due
 abbrev pub noResiduals : Residuals
@@ -48,9 +51,13 @@ pub record DaysRanged (n : ℕ) (today then : List ℤ) (due : Bool) (rs : Resid
   pub settled : due ≡ true → SlotRanged n then
   pub loads : (i : ℕ) → i < intervals → natAbs (word (rs .loads) i) ≤ leastResidual
 
+-- a cell's share of R and S, at its V
+abbrev pub cellResidual : List ℤ → Residual → ℤ
+cellResidual c r = shareAmount (cellData c) (referencePriceOf (cellData c)) (shareOf (r .load) (r .spare) (cellData c .uegq))
+
 -- what an account has at an interval: vesting of today's cell and, where due, the residual of then's
 abbrev pub amountAt : List ℤ → List ℤ → Bool → Residual → ℤ
-amountAt today then due r = vestingAmount (cellData today) +ℤ cond due (cellResidual then (r .load) (r .spare)) (pos 0)
+amountAt today then due r = vestingAmount (cellData today) +ℤ cond due (cellResidual then r) (pos 0)
 
 -- account a's amount at interval i of two slots
 unfoldable pub slotAmount : ℕ → List ℤ → List ℤ → Bool → Residuals → ℕ → ℕ → ℤ

@@ -1,73 +1,52 @@
--- Sizes of a cell's vesting and residual amounts, and of what an account has at an interval. Assumes nothing.
+-- Sizes of what an account has at an interval, and of the running total of two slots. Assumes nothing.
 use mathlib.Core.Path.{_≡_, refl, subst}
-use mathlib.Core.Bool.{Bool, true, false}
+use mathlib.Core.Bool.{Bool, true}
 use mathlib.Core.List.{List}
 use Prim.Native.Nat.{ℕ, _+_, _*_, _≤_, _<_}
 use native.Mathlib.Omega.{arith}
-use lib.IntN.{ℤ, pos, natAbs, _+ℤ_, _-ℤ_, _*ℤ_}
+use lib.IntN.{ℤ, pos, natAbs, _+ℤ_}
 use lib.ListN.{length}
 use mir.Syntax.{w64}
 use mir.Val.{SFits}
-use Rattle.integer.specs.IntegerLaws.{abs-add}
 use Rattle.integer.specs.Bits.{fits-add}
 use Rattle.integer.specs.Below.{fold, sumℤ}
-use Rattle.integer.specs.BelowLaws.{fold-suc, abs-sumℤ}
+use Rattle.integer.specs.BelowLaws.{fold-suc, abs-sumℤ, getD-tabulate}
 use Rattle.integer.specs.WordsLaws.{row-fits, part-part}
-use Rattle.integer.specs.Words.{word}
-use Rattle.rulebook.specs.Units.{asQuantity, intervals}
-use Rattle.rulebook.specs.UnitsLaws.{quantity-range}
+use Rattle.rulebook.specs.Units.{intervals}
 use Rattle.rulebook.specs.Shares.{shareOf}
 use Rattle.rulebook.specs.SharesLaws.{share-cap}
-use Rattle.rulebook.specs.Tranches.{tranche1, tranche2}
-use Rattle.rulebook.specs.TranchesLaws.{tranche-split}
 use Rattle.rulebook.specs.Layout.{intervalWords, accountWords, intervalLength}
-use Rattle.rulebook.specs.DayAmount.{referencePriceOf, vestingAmount}
+use Rattle.rulebook.specs.DayAmount.{referencePriceOf, vestingAmount, residualLoad, spareGeneration}
+use Rattle.rulebook.specs.TestLaws.{T-path}
+use Rattle.rulebook.specs.SizeLaws.{price-sized, vesting-size, share-amount-size, amount-size}
 use Rattle.amounts.specs.declared.interval.Residual.{Residual}
-use Rattle.amounts.specs.Cell.{cellData, Ranged, tenderAmount, residualPriced, cellResidual}
-use Rattle.amounts.specs.CellLaws.{cell-price-le, priced-le, tenders-le, vesting-split}
+use Rattle.amounts.specs.Cell.{cellData, Ranged}
+use Rattle.amounts.specs.CellLaws.{cell-sized}
 use Rattle.amounts.specs.declared.day.Residuals.{Residuals}
-use Rattle.amounts.specs.Interval.{cellOf}
+use Rattle.amounts.specs.Interval.{cellOf, loadIn, dataIn, residualAt}
 use Rattle.amounts.specs.Total.{absorbed}
-use Rattle.amounts.specs.Day.{intervalOf, cellAt, SlotRanged, DaysRanged, residualIn, amountAt, slotAmount, totalTo}
+use Rattle.amounts.specs.Day.{intervalOf, cellAt, SlotRanged, DaysRanged, residualsOf, residualIn, cellResidual, amountAt, slotAmount, totalTo}
 
-module _ (c : List ℤ) (h : Ranged c) where
-  pub vesting-le : natAbs (vestingAmount (cellData c)) ≤ 80000000000000
-  unfolding tenderAmount
-  vesting-le =
-      let v = referencePriceOf (cellData c) in
-      let p = cell-price-le c h in
-      rw (vesting-split c)
-      (omega (
-        arith,
-        abs-add ((word c 2 -ℤ v) *ℤ pos (asQuantity (word c 1))) (tenderAmount c v),
-        priced-le (word c 2) v (asQuantity (word c 1)) (h .bvp) p (quantity-range (word c 1) (h .bvq) .most),
-        tenders-le c h v p 3 (omega arith),
-      ))
+module _ (c : List ℤ) (h : Ranged c) (r : Residual) where
+  pub cell-residual-le : natAbs (cellResidual c r) ≤ 20000000000000
+  cell-residual-le =
+      let x = cell-sized c h in
+      share-amount-size (cellData c) x (referencePriceOf (cellData c)) (price-sized (cellData c) x) (shareOf (r .load) (r .spare) (cellData c .uegq))
+      (omega (arith, share-cap (r .load) (r .spare) (cellData c .uegq), x .uegq))
 
-  pub cell-residual-le : (r : ℤ) (s : ℕ) → natAbs (cellResidual c r s) ≤ 40000000000000
-  unfolding residualPriced
-  cell-residual-le r s =
-      let v = referencePriceOf (cellData c) in
-      let p = cell-price-le c h in
-      let q : ℕ = shareOf r s (asQuantity (word c 19)) in
-      let b : ℕ = asQuantity (word c 1) in
-      let m : ℕ = asQuantity (word c 20) in
-      let u = quantity-range (word c 19) (h .uegq) .most in
-      let k = share-cap r s (asQuantity (word c 19)) in
-      let t = tranche-split q b m in
-      omega (
-        arith,
-        abs-add ((word c 21 -ℤ v) *ℤ pos (tranche1 q b m)) ((word c 22 -ℤ v) *ℤ pos (tranche2 q b m)),
-        priced-le (word c 21) v (tranche1 q b m) (h .rvp1) p (omega (arith, t .share)),
-        priced-le (word c 22) v (tranche2 q b m) (h .rvp2) p (omega (arith, t .whole)),
-      )
-
-pub amount-le : (today then : List ℤ) (due : Bool) (r : Residual) → Ranged today → (due ≡ true → Ranged then) → natAbs (amountAt today then due r) ≤ 120000000000000
-amount-le today then true r h g =
-    omega (arith, abs-add (vestingAmount (cellData today)) (cellResidual then (r .load) (r .spare)), vesting-le today h, cell-residual-le then (g refl) (r .load) (r .spare))
-amount-le today then false r h g = omega (arith, abs-add (vestingAmount (cellData today)) (pos 0), vesting-le today h)
+pub amount-le : (today then : List ℤ) (due : Bool) (r : Residual) → Ranged today → (due ≡ true → Ranged then) → natAbs (amountAt today then due r) ≤ 100000000000000
+amount-le today then due r h g =
+    amount-size (vestingAmount (cellData today)) (cellResidual then r) due (vesting-size (cellData today) (cell-sized today h)) (λ t. cell-residual-le then (g (T-path due t)) r)
 
 -- ---- Two slots, interval by interval
+
+-- R and S of interval i, read back
+pub residual-in : (n : ℕ) (x : List ℤ) (i : ℕ) → i < intervals → residualIn (residualsOf n x) i ≡ residualAt n (intervalOf n x i)
+unfolding residualsOf
+residual-in n x i h = rw (
+  getD-tabulate intervals (λ i. residualLoad (loadIn (intervalOf n x i)) n (dataIn (intervalOf n x i))) i (pos 0) h,
+  getD-tabulate intervals (λ i. spareGeneration n (dataIn (intervalOf n x i))) i 0 h,
+)
 
 -- account a's cell of interval i, read off the slot
 pub cell-in-slot : (n : ℕ) (x : List ℤ) (a i : ℕ) → a < n → cellOf (intervalOf n x i) a ≡ cellAt n x a i
@@ -90,14 +69,14 @@ module _ (n : ℕ) (today then : List ℤ) (due : Bool) (rs : Residuals) (a : �
   total-suc k = rw (fold-suc _+ℤ_ (pos 0) k (slotAmount n today then due rs a))
 
   module _ (h : DaysRanged n today then due rs) (l : a < n) where
-    pub slot-amount-le : (i : ℕ) → i < intervals → natAbs (slotAmount n today then due rs a i) ≤ 120000000000000
+    pub slot-amount-le : (i : ℕ) → i < intervals → natAbs (slotAmount n today then due rs a i) ≤ 100000000000000
     unfolding slotAmount
     slot-amount-le i k =
         amount-le (cellAt n today a i) (cellAt n then a i) due (residualIn rs i) (cell-ranged n today (h .closing) a i l k) (λ e. cell-ranged n then (h .settled e) a i l k)
 
-    pub total-le : (k : ℕ) → k ≤ intervals → natAbs (totalTo n today then due rs a k .thousandths) ≤ k * 120000000000000
+    pub total-le : (k : ℕ) → k ≤ intervals → natAbs (totalTo n today then due rs a k .thousandths) ≤ k * 100000000000000
     unfolding totalTo
-    total-le k m = abs-sumℤ k 120000000000000 (slotAmount n today then due rs a) (λ i j. slot-amount-le i (omega arith))
+    total-le k m = abs-sumℤ k 100000000000000 (slotAmount n today then due rs a) (λ i j. slot-amount-le i (omega arith))
 
     -- the next interval's amount has room
     pub total-room : (k : ℕ) → k < intervals → SFits w64 (totalTo n today then due rs a k .thousandths +ℤ slotAmount n today then due rs a k)

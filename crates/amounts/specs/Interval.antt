@@ -3,15 +3,14 @@ use mathlib.Core.Path.{_≡_}
 use mathlib.Core.Bool.{true}
 use mathlib.Core.List.{List}
 use Prim.Native.Nat.{ℕ, _+_, _-_, _*_, _≤_, _<_}
-use lib.IntN.{ℤ, pos, _-ℤ_}
+use lib.IntN.{ℤ}
 use lib.ListN.{length}
-use Rattle.integer.specs.Below.{sumℕ}
 use Rattle.integer.specs.Words.{word, part}
 use Rattle.rulebook.specs.declared.Kind.the-variants.{Load}
 use Rattle.rulebook.specs.Units.{asQuantity, inRange, mostQuantity}
 use Rattle.rulebook.specs.Shares.{mostAccounts}
 use Rattle.rulebook.specs.Sections.{NccLoad}
-use Rattle.rulebook.specs.DayAmount.{tenders, vestedQuantity}
+use Rattle.rulebook.specs.DayAmount.{AccountData, tenders, vestedQuantity, hedgeTotal, spareGeneration, residualLoad}
 use Rattle.rulebook.specs.Layout.{intervalWords, accountWords, intervalLength, figureAt}
 use Rattle.amounts.specs.declared.interval.Totals.{Totals}
 use Rattle.amounts.specs.declared.interval.Residual.{Residual}
@@ -27,24 +26,20 @@ pub record IntervalRanged (n : ℕ) (x : List ℤ) : Type 0 where
   pub load : inRange Load (word x (figureAt NccLoad)) ≡ true
   pub cells : (a : ℕ) → a < n → Ranged (cellOf x a)
 
--- all accounts' BVQ and TVQ
-unfoldable pub vestedOf : ℕ → List ℤ → ℕ
-vestedOf n x = sumℕ n (λ b. vestedQuantity (cellData (cellOf x b)))
+-- its NCC load, and the accounts' data
+abbrev pub loadIn : List ℤ → ℕ
+loadIn x = asQuantity (word x (figureAt NccLoad))
 
--- S
-unfoldable pub spareOf : ℕ → List ℤ → ℕ
-spareOf n x = sumℕ n (λ b. cellData (cellOf x b) .uegq)
+abbrev pub dataIn : List ℤ → ℕ → AccountData
+dataIn x b = cellData (cellOf x b)
 
--- R
-unfoldable pub residualOf : ℕ → List ℤ → ℤ
-residualOf n x = pos (asQuantity (word x (figureAt NccLoad))) -ℤ pos (vestedOf n x)
-
--- both
+-- R and S
 abbrev pub residualAt : ℕ → List ℤ → Residual
-residualAt n x = record { load = residualOf n x; spare = spareOf n x }
+residualAt n x = record { load = residualLoad (loadIn x) n (dataIn x); spare = spareGeneration n (dataIn x) }
 
+-- what R is formed of, and S
 abbrev pub totalsOf : ℕ → List ℤ → Totals
-totalsOf n x = record { vested = vestedOf n x; spare = spareOf n x }
+totalsOf n x = record { vested = hedgeTotal n (dataIn x); spare = spareGeneration n (dataIn x) }
 
 -- with one cell more
 abbrev pub more : Totals → List ℤ → Totals

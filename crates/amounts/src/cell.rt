@@ -26,10 +26,10 @@ ghost use lib.IntN.{pos, natAbs, _-ℤ_, _*ℤ_};
 ghost use lib.ListN.{length};
 ghost use Rattle.integer.specs.Words.{word};
 ghost use Rattle.rulebook.specs.Units.{mostPrice, mostQuantity};
-ghost use Rattle.rulebook.specs.Shares.{leastResidual};
-ghost use Rattle.rulebook.specs.DayAmount.{tenders, referencePriceOf, vestedQuantity, vestingAmount};
+ghost use Rattle.rulebook.specs.Shares.{leastResidual, shareOf};
+ghost use Rattle.rulebook.specs.DayAmount.{tenders, referencePriceOf, vestedQuantity, tenderAmount, vestingAmount, shareAmount};
 ghost use Rattle.rules.specs.PriceSums.{sumsOf};
-ghost use Rattle.amounts.specs.Cell.{cellData, Ranged, tenderAmount, residualPriced};
+ghost use Rattle.amounts.specs.Cell.{cellData, Ranged};
 
 // (price - V) × quantity.
 fn priced(price: i64, v: i64, quantity: u64) -> i64
@@ -95,7 +95,7 @@ pub fn vested_quantity(c: &[i64]) -> u64
 // Σ (TVP - V) × TVQ.
 fn tender_amount(c: &[i64], v: i64) -> i64
     requires { ⌜ Ranged (now c) × (natAbs v ≤ mostPrice) ⌝ }
-    ensures { λ r. ⌜ r ≡ tenderAmount (now (c .entry)) v ⌝ }
+    ensures { λ r. ⌜ r ≡ tenderAmount (cellData (now (c .entry))) v ⌝ }
 {
     let mut total: i64 = 0;
     for t in 0..TENDERS {
@@ -127,7 +127,7 @@ pub fn spare_generation(c: &[i64]) -> u64
 // (RVP1 - V) × tranche 1 + (RVP2 - V) × tranche 2, of V = v, R = r and S = s.
 pub fn residual_amount(c: &[i64], v: i64, r: i64, s: u64) -> i64
     requires { ⌜ Ranged (now c) × (natAbs v ≤ mostPrice) × (natAbs r ≤ leastResidual) ⌝ }
-    ensures { λ z. ⌜ z ≡ residualPriced (now (c .entry)) v r s ⌝ }
+    ensures { λ z. ⌜ z ≡ shareAmount (cellData (now (c .entry))) v (shareOf r s (cellData (now (c .entry)) .uegq)) ⌝ }
 {
     let share = share_of(r, s, spare_generation(c));
     let first = first_tranche(share, quantity_at(c, BVQ), quantity_at(c, MQ));

@@ -10,7 +10,7 @@ use lib.IntN.{ℤ, pos, natAbs}
 use lib.ListN.{getD-replicate}
 use Rattle.integer.specs.declared.Found.the-variants.{At, Nothing}
 use Rattle.integer.specs.Below.{all, first, orElse}
-use Rattle.integer.specs.BelowLaws.{lt-or-le, orElse-nothing, first-nothing, getD-tabulate}
+use Rattle.integer.specs.BelowLaws.{lt-or-le, orElse-nothing, first-nothing}
 use Rattle.integer.specs.Words.{word}
 use Rattle.integer.specs.WordsLaws.{row-fits, length-part}
 use Rattle.rulebook.specs.declared.Section.the-variants.{Vesting, Meter}
@@ -35,10 +35,10 @@ use Rattle.rulebook.specs.BookSizeLaws.{book-ranged, D-inside, r-inside}
 use Rattle.rulebook.specs.AmountLaws.{SameFigures}
 use Rattle.rulebook.specs.IndexLaws.{tender-words}
 use Rattle.amounts.specs.Cell.{cellData, Ranged}
-use Rattle.amounts.specs.Interval.{residualOf}
+use Rattle.amounts.specs.declared.interval.Residual.{Residual}
 use Rattle.amounts.specs.IntervalLaws.{residual-le}
 use Rattle.amounts.specs.Day.{intervalOf, cellAt, SlotRanged, DaysRanged, residualsOf, noResiduals}
-use Rattle.amounts.specs.DayLaws.{cell-in-slot}
+use Rattle.amounts.specs.DayLaws.{cell-in-slot, residual-in}
 use Rattle.closing.specs.Slots.{slotWords, thenDay, residualsDue}
 use Rattle.closing.specs.SlotsLaws.{slot-length, load-word, vesting-word, residual-word}
 use Rattle.closing.specs.SlotDataLaws.{cell-alike, vesting-at}
@@ -135,7 +135,7 @@ module _ (w : List ℤ) (t : T (wellFormed w)) (left : nextDay w ≤ lastDay) wh
   pub days-ranged : firstMissing (termsOf w) w (nextDay w) ≡ Nothing
       → DaysRanged (termsOf w .accounts) (slotWords (termsOf w) w (nextDay w)) (slotWords (termsOf w) w (thenDay (termsOf w) (nextDay w)))
       (residualDue (termsOf w) (nextDay w)) (residualsDue (termsOf w) w (nextDay w))
-  unfolding thenDay residualsDue residualsOf
+  unfolding thenDay residualsDue
   days-ranged none = record {
     closing = slot-ranged w t (nextDay w) (D-inside w t left) left (searched-there (termsOf w) w (nextDay w) none);
     long = slot-length w t (thenDay (termsOf w) (nextDay w)) ∙ sym (slot-length w t (nextDay w));
@@ -153,5 +153,5 @@ module _ (w : List ℤ) (t : T (wellFormed w)) (left : nextDay w ≤ lastDay) wh
       loads true s i hi =
           let n = termsOf w .accounts in
           let x = slotWords (termsOf w) w (residualDay (termsOf w) (nextDay w)) in
-          rw (getD-tabulate intervals (λ i. residualOf n (intervalOf n x i)) i (pos 0) hi) (residual-le n (intervalOf n x i) (s tt .each i hi) (opened-of w t .accountsTo))
+          rw (ap (λ (r : Residual). r .load) (residual-in n x i hi)) (residual-le n (intervalOf n x i) (s tt .each i hi) (opened-of w t .accountsTo))
       loads false s i hi = rw (getD-replicate intervals i (pos 0) (pos 0) hi) (omega arith)

@@ -9,9 +9,8 @@ use Rattle.integer.specs.BelowLaws.{sumℤ-cong, sumℕ-cong}
 use Rattle.rulebook.specs.declared.Terms.{Terms}
 use Rattle.rulebook.specs.Units.{nearest}
 use Rattle.rulebook.specs.ReferencePrice.{referencePrice}
-use Rattle.rulebook.specs.DayAmount.{AccountData, SettlementData, referencePriceOf, vestedQuantity, vestingAmount, residualLoad, rvq, residualAmount, residualDue, residualDay, intervalAmount, exactAmount, postedAmount}
+use Rattle.rulebook.specs.DayAmount.{AccountData, SettlementData, referencePriceOf, vestedQuantity, tenderAmount, vestingAmount, shareAmount, hedgeTotal, spareGeneration, residualLoad, rvq, residualAmount, residualDue, residualDay, intervalAmount, exactAmount, postedAmount}
 use Rattle.rulebook.specs.ReferencePriceLaws.{price-cong}
-use Rattle.rulebook.specs.SharesLaws.{share-cong}
 
 -- ---- One interval
 
@@ -43,7 +42,7 @@ module _ (f g : AccountData) (e : SameFigures f g) where
   vested-same = rw (e .bvq, sumℕ-cong 3 (f .tvq) (g .tvq) (e .tvq))
 
   pub vesting-same : vestingAmount f ≡ vestingAmount g
-  unfolding vestingAmount
+  unfolding vestingAmount tenderAmount
   vesting-same = rw (
     price-same,
     e .bvp,
@@ -53,16 +52,20 @@ module _ (f g : AccountData) (e : SameFigures f g) where
 
 module _ (load n : ℕ) (f g : ℕ → AccountData) (e : (b : ℕ) → b < n → SameFigures (f b) (g b)) where
   residual-load-same : residualLoad load n f ≡ residualLoad load n g
-  unfolding residualLoad
+  unfolding residualLoad hedgeTotal
   residual-load-same = rw (sumℕ-cong n (λ b. vestedQuantity (f b)) (λ b. vestedQuantity (g b)) (λ b hb. vested-same (f b) (g b) (e b hb)))
+
+  spare-same : spareGeneration n f ≡ spareGeneration n g
+  unfolding spareGeneration
+  spare-same = sumℕ-cong n (λ b. f b .uegq) (λ b. g b .uegq) (λ b hb. e b hb .uegq)
 
   module _ (a : ℕ) (ha : a < n) where
     rvq-same : rvq load n f a ≡ rvq load n g a
     unfolding rvq
-    rvq-same = rw residual-load-same (share-cong (residualLoad load n g) n (λ b. f b .uegq) (λ b. g b .uegq) a ha (λ b hb. e b hb .uegq))
+    rvq-same = rw (residual-load-same, spare-same, e a ha .uegq)
 
     pub residual-same : residualAmount load n f a ≡ residualAmount load n g a
-    unfolding residualAmount
+    unfolding residualAmount shareAmount
     residual-same = rw (rvq-same, price-same (f a) (g a) (e a ha), e a ha .bvq, e a ha .mq, e a ha .rvp1, e a ha .rvp2)
 
 -- ---- The day

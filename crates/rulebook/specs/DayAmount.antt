@@ -7,7 +7,7 @@ use Rattle.integer.specs.Below.{sumℕ, sumℤ}
 use Rattle.rulebook.specs.declared.Terms.{Terms}
 use Rattle.rulebook.specs.Units.{intervals, nearest, positive, thousandthsPerCent}
 use Rattle.rulebook.specs.ReferencePrice.{referencePrice}
-use Rattle.rulebook.specs.Shares.{share}
+use Rattle.rulebook.specs.Shares.{shareOf}
 use Rattle.rulebook.specs.Tranches.{tranche1, tranche2}
 
 -- ---- Data
@@ -49,25 +49,47 @@ module _ (x : AccountData) where
   unfoldable pub vestedQuantity : ℕ
   vestedQuantity = x .bvq + sumℕ tenders (x .tvq)
 
-  -- (BVP − V) × BVQ + Σ (TVP − V) × TVQ, in thousandths of a cent
+  -- Σ (TVP − v) × TVQ; all amounts here are in thousandths of a cent
+  unfoldable pub tenderAmount : ℤ → ℤ
+  tenderAmount v = sumℤ tenders (λ t. (x .tvp t -ℤ v) *ℤ pos (x .tvq t))
+
+  -- (BVP − V) × BVQ + Σ (TVP − V) × TVQ
   unfoldable pub vestingAmount : ℤ
-  vestingAmount = (x .bvp -ℤ referencePriceOf) *ℤ pos (x .bvq) +ℤ sumℤ tenders (λ t. (x .tvp t -ℤ referencePriceOf) *ℤ pos (x .tvq t))
+  vestingAmount = (x .bvp -ℤ referencePriceOf) *ℤ pos (x .bvq) +ℤ tenderAmount referencePriceOf
+
+  -- of a share: (RVP1 − v) × tranche 1 + (RVP2 − v) × tranche 2
+  unfoldable pub shareAmount : ℤ → ℕ → ℤ
+  shareAmount v rvq =
+      (x .rvp1 -ℤ v) *ℤ pos (tranche1 rvq (x .bvq) (x .mq))
+      +ℤ (x .rvp2 -ℤ v) *ℤ pos (tranche2 rvq (x .bvq) (x .mq))
+
+-- n accounts' data
+module _ (n : ℕ) (x : ℕ → AccountData) where
+  -- all accounts' BVQ and TVQ
+  unfoldable pub hedgeTotal : ℕ
+  hedgeTotal = sumℕ n (λ b. vestedQuantity (x b))
+
+  -- S, the sum of UEGQ
+  unfoldable pub spareGeneration : ℕ
+  spareGeneration = sumℕ n (λ b. x b .uegq)
+
+-- R, of NCC load and hedge total
+abbrev pub residualOver : ℕ → ℕ → ℤ
+residualOver load hedges = pos load -ℤ pos hedges
 
 -- n accounts' data of an interval with this NCC load
 module _ (load n : ℕ) (x : ℕ → AccountData) where
   -- R = NCC load minus all accounts' BVQ and TVQ
   unfoldable pub residualLoad : ℤ
-  residualLoad = pos load -ℤ pos (sumℕ n (λ b. vestedQuantity (x b)))
+  residualLoad = residualOver load (hedgeTotal n x)
 
   -- account a's share
   unfoldable pub rvq : ℕ → ℕ
-  rvq a = share residualLoad n (λ b. x b .uegq) a
+  rvq a = shareOf residualLoad (spareGeneration n x) (x a .uegq)
 
-  -- (RVP1 − V) × tranche 1 + (RVP2 − V) × tranche 2, in thousandths of a cent
+  -- (RVP1 − V) × tranche 1 + (RVP2 − V) × tranche 2 of the share
   unfoldable pub residualAmount : ℕ → ℤ
-  residualAmount a =
-      (x a .rvp1 -ℤ referencePriceOf (x a)) *ℤ pos (tranche1 (rvq a) (x a .bvq) (x a .mq))
-      +ℤ (x a .rvp2 -ℤ referencePriceOf (x a)) *ℤ pos (tranche2 (rvq a) (x a .bvq) (x a .mq))
+  residualAmount a = shareAmount (x a) (referencePriceOf (x a)) (rvq a)
 
 -- the shares of n accounts with these data, of an interval with this NCC load: at most the spare generation and the residual load, zero if
 -- negative; short of the smaller by fewer kWh than there are accounts

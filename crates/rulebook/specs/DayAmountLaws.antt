@@ -11,11 +11,12 @@ use Rattle.integer.specs.Ring.{as-diff, diffs, ring}
 use Rattle.integer.specs.NearestLaws.{nearest-is}
 use Rattle.rulebook.specs.declared.Terms.{Terms}
 use Rattle.rulebook.specs.Units.{thousandthsPerCent}
-use Rattle.rulebook.specs.DayAmount.{AccountData, SettlementData, residualLoad, rvq, IntervalShares, exactAmount, postedAmount, msslAmount, msslExact}
+use Rattle.rulebook.specs.Shares.{share}
+use Rattle.rulebook.specs.DayAmount.{AccountData, SettlementData, spareGeneration, residualLoad, rvq, IntervalShares, exactAmount, postedAmount, msslAmount, msslExact}
 use Rattle.rulebook.specs.SharesLaws.{share-total}
 
 pub interval-shares : (load n : ℕ) (x : ℕ → AccountData) → IntervalShares load n x
-unfolding rvq
+unfolding rvq spareGeneration share
 interval-shares load n x =
     let t = share-total (residualLoad load n x) n (λ a. x a .uegq) in
     record { spare = t .spare; residual = t .residual; short = t .short }

@@ -97,14 +97,6 @@ pub share-cap : (r : ℤ) (s u : ℕ) → shareOf r s u ≤ u
 share-cap r s u =
     ⊎-elim (λ h. share-rule r s u h .fits .cap) (λ h. let e = share-none r s u (inr (omega arith)) in omega arith) (lt-or-le 0 s)
 
-pub share-le : (r : ℤ) (n : ℕ) (uegq : ℕ → ℕ) (a : ℕ) → share r n uegq a ≤ uegq a
-unfolding share
-share-le r n uegq a = share-cap r (sumℕ n uegq) (uegq a)
-
-pub share-cong : (r : ℤ) (n : ℕ) (u u′ : ℕ → ℕ) (a : ℕ) → a < n → ((b : ℕ) → b < n → u b ≡ u′ b) → share r n u a ≡ share r n u′ a
-unfolding share
-share-cong r n u u′ a ha h = rw (sumℕ-cong n u u′ h, h a ha)
-
 -- ---- An interval's total
 
 -- n quotients of r times u a by s

@@ -11,13 +11,14 @@ use Rattle.integer.specs.IntegerLaws.{int}
 use Rattle.integer.specs.Bits.{got, known}
 use Rattle.integer.specs.Words.{word}
 use Rattle.rulebook.specs.Units.{asQuantity}
-use Rattle.rulebook.specs.UnitsLaws.{quantity-range}
 use Rattle.rulebook.specs.Shares.{shareOf}
 use Rattle.rulebook.specs.SharesLaws.{share-cap}
 use Rattle.rulebook.specs.Tranches.{tranche1, tranche2}
 use Rattle.rulebook.specs.TranchesLaws.{tranche-split}
-use Rattle.amounts.specs.Cell.{residualPriced}
-use Rattle.amounts.specs.CellLaws.{priced-le, priced-cong, shareOf-cong, tranche-cong, sum-cong}
+use Rattle.rulebook.specs.DayAmount.{shareAmount}
+use Rattle.rulebook.specs.SizeLaws.{first-tranche-size, second-tranche-size}
+use Rattle.amounts.specs.Cell.{cellData}
+use Rattle.amounts.specs.CellLaws.{cell-sized, priced-cong, shareOf-cong, tranche-cong, sum-cong}
 use Rattle.amounts.proofs.cell.residual_amount.Statement.{statement}
 use Rattle.amounts.proofs.cell.residual_amount.Tie as tie
 
@@ -58,7 +59,7 @@ module _ (c : tie.After-first-tranche) where
   first-is = c .first-tranche .ensures ∙ tranche-cong share-is (c .before .before .quantity-at .ensures .0) (c .before .quantity-at2 .ensures .0)
 
   share-le : share ≤ 10000000
-  share-le = omega (arith, share-cap (start .args .r) (start .args .s) (asQuantity (word cell 19)), quantity-range (word cell 19) (start .pre .0 .uegq) .most)
+  share-le = omega (arith, share-cap (start .args .r) (start .args .s) (asQuantity (word cell 19)), cell-sized cell (start .pre .0) .uegq)
 
 -- V, read back
 price : (c : tie.After-first-tranche) → toZ w64 (ofZ w64 (start c .args .v)) ≡ start c .args .v
@@ -109,21 +110,20 @@ module _ (c : tie.After-priced-at2) where
 add-requires : tie.Need-add-requires
 add-requires c κs =
     let b = split c in
-    let w = cell b in
+    let d = cellData (cell b) in
     let v = start b .args .v in
     let h = start b .pre .1 in
-    let x = tranche-split (share b) (asQuantity (word w 1)) (asQuantity (word w 20)) in
-    let k = share-le b in
+    let x = cell-sized (cell b) (start b .pre .0) in
     omega (
       arith,
       ap natAbs (one c),
       ap natAbs (two c),
-      priced-le (word w 21) v (tranche1 (share b) (asQuantity (word w 1)) (asQuantity (word w 20))) (start b .pre .0 .rvp1) h (omega (arith, x .share)),
-      priced-le (word w 22) v (tranche2 (share b) (asQuantity (word w 1)) (asQuantity (word w 20))) (start b .pre .0 .rvp2) h (omega (arith, x .whole)),
+      first-tranche-size d x v h (share b) (share-le b),
+      second-tranche-size d x v h (share b) (share-le b),
     )
 
 returns : tie.Need-returns
-unfolding residualPriced
+unfolding shareAmount
 returns c = got (c .add .result) (c .add .ok) ∙ c .add .ensures ∙ sum-cong (one (c .before)) (two (c .before))
 
 pub residual-amount-spec : {M : Type 1} → statement M

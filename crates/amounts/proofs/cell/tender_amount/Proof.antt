@@ -13,8 +13,10 @@ use Rattle.integer.specs.Below.{fold, sumℤ}
 use Rattle.integer.specs.BelowLaws.{fold-suc}
 use Rattle.integer.specs.Words.{word}
 use Rattle.rulebook.specs.Units.{asQuantity}
-use Rattle.amounts.specs.Cell.{tenderAmount}
-use Rattle.amounts.specs.CellLaws.{priced-le, tvq-le, tenders-le}
+use Rattle.rulebook.specs.DayAmount.{tenderAmount}
+use Rattle.rulebook.specs.SizeLaws.{tender-size, tenders-size}
+use Rattle.amounts.specs.Cell.{cellData}
+use Rattle.amounts.specs.CellLaws.{cell-sized}
 use Rattle.amounts.proofs.cell.tender_amount.Statement.{statement}
 use Rattle.amounts.proofs.cell.tender_amount.Tie as tie
 
@@ -69,12 +71,9 @@ add-requires c κs =
     let small = s .pre .1 in
     let k = known (s .fits .v) in
     let h : natAbs v ≤ 1000000 = omega int in
+    let x = cell-sized w (s .pre .0) in
     rw (amount c, l .inv .1 .is)
-    (omega (
-      arith,
-      tenders-le w (s .pre .0) v h (l .t) (l .inv .0),
-      priced-le (word w (4 + 2 * l .t)) v (asQuantity (word w (3 + 2 * l .t))) (s .pre .0 .tvp (l .t) (c .before .before .loop-test .taken)) h (tvq-le w (s .pre .0) (l .t) (c .before .before .loop-test .taken)),
-    ))
+    (omega (arith, tenders-size (cellData w) x v h (l .t) (l .inv .0), tender-size (cellData w) x v h (l .t) (c .before .before .loop-test .taken)))
 
 add-t : tie.Need-add-t Inv-loop μ-loop
 add-t c = omega arith

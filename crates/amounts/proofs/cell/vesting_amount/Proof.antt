@@ -1,5 +1,5 @@
 -- `vesting_amount` meets its contract: the base contract's amount and the tenders' are within 8 × 10^13 together.
-use mathlib.Core.Path.{_≡_, sym, ap, _∙_}
+use mathlib.Core.Path.{_≡_, ap, _∙_}
 use mathlib.Core.List.{List}
 use Prim.Native.Nat.{_≤_}
 use native.Mathlib.Omega.{arith}
@@ -10,10 +10,10 @@ use mir.Val.{toZ, ofZ}
 use Rattle.integer.specs.Bits.{got}
 use Rattle.integer.specs.Words.{word}
 use Rattle.rulebook.specs.Units.{asQuantity}
-use Rattle.rulebook.specs.UnitsLaws.{quantity-range}
-use Rattle.rulebook.specs.DayAmount.{referencePriceOf}
-use Rattle.amounts.specs.Cell.{cellData, tenderAmount}
-use Rattle.amounts.specs.CellLaws.{cell-price-le, priced-le, tenders-le, vesting-split, priced-cong, sum-cong}
+use Rattle.rulebook.specs.DayAmount.{referencePriceOf, tenderAmount, vestingAmount}
+use Rattle.rulebook.specs.SizeLaws.{price-sized, base-size, tender-amount-size}
+use Rattle.amounts.specs.Cell.{cellData}
+use Rattle.amounts.specs.CellLaws.{cell-sized, priced-cong, sum-cong}
 use Rattle.amounts.proofs.cell.vesting_amount.Statement.{statement}
 use Rattle.amounts.proofs.cell.vesting_amount.Tie as tie
 
@@ -25,7 +25,7 @@ price : (c : tie.After-reference-price) → toZ w64 (ofZ w64 (c .reference-price
 price c = got (c .reference-price .result) (c .reference-price .ok) ∙ c .reference-price .ensures
 
 price-le : (c : tie.After-reference-price) → natAbs (toZ w64 (ofZ w64 (c .reference-price .result))) ≤ 1000000
-price-le c = rw (price c) (cell-price-le (c .before .args .c .now) (c .before .pre))
+price-le c = rw (price c) (price-sized (cellData (c .before .args .c .now)) (cell-sized (c .before .args .c .now) (c .before .pre)))
 
 quantity-at-requires : tie.Need-quantity-at-requires
 quantity-at-requires c κs = let e = c .before .pre .whole in (omega arith, c .before .pre .bvq)
@@ -47,21 +47,20 @@ module _ (c : tie.After-tender-amount) where
       let q = c .before .before .quantity-at .ensures .0 in
       got (r .result) (r .ok) ∙ r .ensures ∙ priced-cong (word cell 2) (price (c .before .before .before)) q
 
-  tender : toZ w64 (ofZ w64 (c .tender-amount .result)) ≡ tenderAmount cell (referencePriceOf (cellData cell))
-  tender = let r = c .tender-amount in got (r .result) (r .ok) ∙ r .ensures ∙ ap (tenderAmount cell) (price (c .before .before .before))
+  tender : toZ w64 (ofZ w64 (c .tender-amount .result)) ≡ tenderAmount (cellData cell) (referencePriceOf (cellData cell))
+  tender = let r = c .tender-amount in got (r .result) (r .ok) ∙ r .ensures ∙ ap (tenderAmount (cellData cell)) (price (c .before .before .before))
 
 add-requires : tie.Need-add-requires
-unfolding tenderAmount
 add-requires c κs =
-    let s = c .before .before .before .before in
-    let w = cell c in
-    let v = referencePriceOf (cellData w) in
-    let h = cell-price-le w (s .pre) in
-    rw (base c, tender c)
-    (omega (arith, priced-le (word w 2) v (asQuantity (word w 1)) (s .pre .bvp) h (quantity-range (word w 1) (s .pre .bvq) .most), tenders-le w (s .pre) v h 3 (omega arith)))
+    let d = cellData (cell c) in
+    let v = referencePriceOf d in
+    let x = cell-sized (cell c) (c .before .before .before .before .pre) in
+    let h = price-sized d x in
+    rw (base c, tender c) (omega (arith, base-size d x v h, tender-amount-size d x v h))
 
 returns : tie.Need-returns
-returns c = got (c .add .result) (c .add .ok) ∙ c .add .ensures ∙ sum-cong (base (c .before)) (tender (c .before)) ∙ sym (vesting-split (cell (c .before)))
+unfolding vestingAmount
+returns c = got (c .add .result) (c .add .ok) ∙ c .add .ensures ∙ sum-cong (base (c .before)) (tender (c .before))
 
 pub vesting-amount-spec : {M : Type 1} → statement M
 vesting-amount-spec = tie.close (tie.spec reference-price-requires quantity-at-requires priced-at-requires tender-amount-requires add-requires returns)

@@ -11,12 +11,14 @@ use mir.Val.{SFits, toZ, ofZ}
 use mir.Facts.{toZ-ofZ}
 use Rattle.integer.specs.IntegerLaws.{int, fits-abs}
 use Rattle.integer.specs.Bits.{got, known}
-use Rattle.rulebook.specs.DayAmount.{referencePriceOf, vestingAmount}
+use Rattle.rulebook.specs.DayAmount.{AccountData, referencePriceOf, vestingAmount, shareAmount}
+use Rattle.rulebook.specs.Shares.{shareOf}
+use Rattle.rulebook.specs.SizeLaws.{price-sized, vesting-size}
 use Rattle.amounts.specs.declared.interval.Residual.{Residual}
-use Rattle.amounts.specs.Cell.{cellData, residualPriced, cellResidual}
-use Rattle.amounts.specs.Day.{amountAt}
-use Rattle.amounts.specs.CellLaws.{cell-price-le, sum-cong}
-use Rattle.amounts.specs.DayLaws.{vesting-le, cell-residual-le}
+use Rattle.amounts.specs.Cell.{cellData}
+use Rattle.amounts.specs.Day.{cellResidual, amountAt}
+use Rattle.amounts.specs.CellLaws.{cell-sized, sum-cong}
+use Rattle.amounts.specs.DayLaws.{cell-residual-le}
 use Rattle.amounts.proofs.day.interval_amount.Statement.{statement}
 use Rattle.amounts.proofs.day.interval_amount.Tie as tie
 
@@ -39,22 +41,22 @@ residual-amount-requires c κs =
     let p = c .before in
     let s = p .before .before .before in
     let h = s .pre .1 (p .before .if1 .taken) in
-    (h, rw (price p) (cell-price-le (s .args .then .now) h), omega (int, known (load-fits s), s .pre .2))
+    (h, rw (price p) (price-sized (cellData (s .args .then .now)) (cell-sized (s .args .then .now) h)), omega (int, known (load-fits s), s .pre .2))
 
 -- vesting, read back
 vesting : (c : tie.After-vesting-amount) → toZ w64 (ofZ w64 (c .vesting-amount .result)) ≡ vestingAmount (cellData (c .before .args .today .now))
 vesting c = got (c .vesting-amount .result) (c .vesting-amount .ok) ∙ c .vesting-amount .ensures
 
-residual-cong : (c : List ℤ) {v u r q : ℤ} (s : ℕ) → v ≡ u → r ≡ q → residualPriced c v r s ≡ residualPriced c u q s
-residual-cong c s e f = cc
+residual-cong : (x : AccountData) {v u r q : ℤ} (s : ℕ) → v ≡ u → r ≡ q → shareAmount x v (shareOf r s (x .uegq)) ≡ shareAmount x u (shareOf q s (x .uegq))
+residual-cong x s e f = cc
 
 -- the residual, read back
 residual : (c : tie.After-residual-amount)
     → toZ w64 (ofZ w64 (c .residual-amount .result))
-    ≡ cellResidual (c .before .before .before .before .before .args .then .now) (c .before .before .before .before .before .args .r .load) (c .before .before .before .before .before .args .r .spare)
+    ≡ cellResidual (c .before .before .before .before .before .args .then .now) (c .before .before .before .before .before .args .r)
 residual c =
     let s = c .before .before .before .before .before in
-    got (c .residual-amount .result) (c .residual-amount .ok) ∙ c .residual-amount .ensures ∙ residual-cong (s .args .then .now) (s .args .r .spare) (price (c .before .before)) (toZ-ofZ (load-fits s))
+    got (c .residual-amount .result) (c .residual-amount .ok) ∙ c .residual-amount .ensures ∙ residual-cong (cellData (s .args .then .now)) (s .args .r .spare) (price (c .before .before)) (toZ-ofZ (load-fits s))
 
 add-requires : tie.Need-add-requires
 add-requires c κs =
@@ -63,11 +65,11 @@ add-requires c κs =
       arith,
       ap natAbs (vesting (c .before .before .before .before)),
       ap natAbs (residual c),
-      vesting-le (s .args .today .now) (s .pre .0),
-      cell-residual-le (s .args .then .now) (s .pre .1 (c .before .before .before .if1 .taken)) (s .args .r .load) (s .args .r .spare),
+      vesting-size (cellData (s .args .today .now)) (cell-sized (s .args .today .now) (s .pre .0)),
+      cell-residual-le (s .args .then .now) (s .pre .1 (c .before .before .before .if1 .taken)) (s .args .r),
     )
 
-picked : (today then : List ℤ) (due : Bool) (r : Residual) → due ≡ true → vestingAmount (cellData today) +ℤ cellResidual then (r .load) (r .spare) ≡ amountAt today then due r
+picked : (today then : List ℤ) (due : Bool) (r : Residual) → due ≡ true → vestingAmount (cellData today) +ℤ cellResidual then r ≡ amountAt today then due r
 picked today then due r e = rw e
 
 passed : (today then : List ℤ) (due : Bool) (r : Residual) → due ≡ false → vestingAmount (cellData today) ≡ amountAt today then due r

@@ -1,4 +1,4 @@
--- `posted_amount` meets its contract: the day's sum is below 6 × 10^15, so it can be rounded.
+-- `posted_amount` meets its contract: the day's sum is below 5 × 10^15, so it can be rounded.
 use mathlib.Core.Path.{ap, _∙_}
 use Prim.Native.Nat.{_≤_}
 use native.Mathlib.Omega.{arith}
@@ -19,7 +19,7 @@ use Rattle.amounts.proofs.day.posted_amount.Tie as tie
 exact-amount-requires : tie.Need-exact-amount-requires
 exact-amount-requires c κs = search needs
 
-sum-le : (c : tie.After-exact-amount) → natAbs (c .exact-amount .result .thousandths) ≤ 5760000000000000
+sum-le : (c : tie.After-exact-amount) → natAbs (c .exact-amount .result .thousandths) ≤ 4800000000000000
 sum-le c =
     let a = c .before .args in
     let e = ap (λ (t : DayTotal). natAbs (t .thousandths)) (c .exact-amount .ensures) in

@@ -17,17 +17,18 @@ use Rattle.rulebook.specs.Units.{intervals}
 use Rattle.rulebook.specs.Layout.{intervalLength}
 use Rattle.amounts.specs.declared.interval.Residual.{Residual}
 use Rattle.amounts.specs.declared.day.Residuals.{Residuals}
-use Rattle.amounts.specs.Interval.{residualOf, spareOf, residualAt}
+use Rattle.rulebook.specs.DayAmount.{residualLoad, spareGeneration}
+use Rattle.amounts.specs.Interval.{loadIn, dataIn, residualAt}
 use Rattle.amounts.specs.IntervalLaws.{residual-le}
 use Rattle.amounts.specs.Day.{intervalOf, residualsOf}
 use Rattle.amounts.proofs.day.residuals_of.Statement.{statement}
 use Rattle.amounts.proofs.day.residuals_of.Tie as tie
 
 abbrev loadAt : ℕ → List ℤ → ℕ → ℤ
-loadAt n x i = residualOf n (intervalOf n x i)
+loadAt n x i = residualLoad (loadIn (intervalOf n x i)) n (dataIn (intervalOf n x i))
 
 abbrev spareAt : ℕ → List ℤ → ℕ → ℕ
-spareAt n x i = spareOf n (intervalOf n x i)
+spareAt n x i = spareGeneration n (dataIn (intervalOf n x i))
 
 abbrev Inv-loop : tie.InvT-loop
 Inv-loop slot n size loads₀ spares₀ h₀ loads spares h =

@@ -7,12 +7,12 @@ use lib.IntN.{ℤ, pos, natAbs, _-ℤ_}
 use mir.Syntax.{w64}
 use mir.Val.{toZ, ofZ}
 use Rattle.integer.specs.Bits.{got}
-use Rattle.integer.specs.Words.{word}
-use Rattle.rulebook.specs.Units.{asQuantity}
+use Rattle.rulebook.specs.DayAmount.{residualLoad}
+use Rattle.rulebook.specs.SizeLaws.{all-vested-size}
 use Rattle.amounts.specs.declared.interval.Residual.{Residual}
 use Rattle.amounts.specs.declared.interval.Totals.{Totals}
-use Rattle.amounts.specs.Interval.{residualOf}
-use Rattle.amounts.specs.IntervalLaws.{vested-le, load-le, load-is}
+use Rattle.amounts.specs.Interval.{loadIn, dataIn}
+use Rattle.amounts.specs.IntervalLaws.{data-sized, load-le, load-is}
 use Rattle.amounts.proofs.interval.residual_of.Statement.{statement}
 use Rattle.amounts.proofs.interval.residual_of.Tie as tie
 
@@ -23,14 +23,14 @@ word-at-requires : tie.Need-word-at-requires
 word-at-requires c κs = let e = c .before .pre .0 .whole in omega arith
 
 -- the load word, read back
-load : (c : tie.After-word-at) → toZ w64 (ofZ w64 (c .word-at .result)) ≡ pos (asQuantity (word (c .before .before .args .x .now) 0))
+load : (c : tie.After-word-at) → toZ w64 (ofZ w64 (c .word-at .result)) ≡ pos (loadIn (c .before .before .args .x .now))
 load c = let s = c .before .before in got (c .word-at .result) (c .word-at .ok) ∙ c .word-at .ensures ∙ load-is (s .args .n) (s .args .x .now) (s .pre .0)
 
 less-vested-requires : tie.Need-less-vested-requires
 less-vested-requires c κs =
     let s = c .before .before in
     let k = s .pre .1 in
-    (omega (arith, ap natAbs (load c), load-le (s .args .n) (s .args .x .now) (s .pre .0)), omega (arith, ap (λ (t : Totals). t .vested) (c .before .totals-of .ensures), vested-le (s .args .n) (s .args .x .now) (s .pre .0) (s .args .n) (omega arith)))
+    (omega (arith, ap natAbs (load c), load-le (s .args .n) (s .args .x .now) (s .pre .0)), omega (arith, ap (λ (t : Totals). t .vested) (c .before .totals-of .ensures), all-vested-size (s .args .n) (dataIn (s .args .x .now)) (data-sized (s .args .n) (s .args .x .now) (s .pre .0)) (s .args .n) (omega arith)))
 
 less-cong : {a b : ℤ} {v w : ℕ} → a ≡ b → v ≡ w → a -ℤ pos v ≡ b -ℤ pos w
 less-cong e f = cc
@@ -39,7 +39,7 @@ made : {a b : ℤ} {v w : ℕ} → a ≡ b → v ≡ w → _≡_ {A = Residual} 
 made e f = rw (e, f)
 
 returns : tie.Need-returns
-unfolding residualOf
+unfolding residualLoad
 returns c =
     let r = c .less-vested in
     let t = c .before .before .totals-of .ensures in
