@@ -1,4 +1,5 @@
 pub mod BookLimits
+pub mod Positions
 pub mod Fields
 pub mod Values
 pub mod Marks

@@ -36,20 +36,20 @@ module _ (l : Limits) (sec : Section) (s : List ℕ) (at : ℕ) {h : Heading} (e
   heading-account = rw eh (field-judged (accountBytes sec) s at 0 (l .accounts - 1) OutOfRange)
 
   -- the day stands past the account where that is whole
-  pub heading-day : {n low : ℕ} → n ≡ accountBytes sec → low ≡ openFrom l sec → fieldIn (accountBytes sec) 0 (l .accounts - 1) OutOfRange s at ≡ Accepted
-      → fieldOutcome (h .day) (at + n) low (l .last) DayNotOpen
+  pub heading-day : {p low : ℕ} → p ≡ dayPos sec at → low ≡ openFrom l sec → fieldIn (accountBytes sec) 0 (l .accounts - 1) OutOfRange s at ≡ Accepted
+      → fieldOutcome (h .day) p low (l .last) DayNotOpen
       ≡ outcome (fieldIn 2 (openFrom l sec) (l .last) DayNotOpen s (dayPos sec at)) (dayAt sec s at)
-  heading-day en el e =
-      rw (en, el, eh, field-whole (accountBytes sec) s at (field-says _ _ _ _ _ _ e .whole))
+  heading-day ep el e =
+      rw (ep, el, eh, field-whole (accountBytes sec) s at (field-says _ _ _ _ _ _ e .whole))
       (field-judged 2 s (dayPos sec at) (openFrom l sec) (l .last) DayNotOpen)
 
 module _ (sec : Section) (s : List ℕ) (at : ℕ) {h : Heading} (eh : h ≡ headingAt (accountBytes sec) (countBytes sec) s at) (whole : countPos sec at ≤ length s) where
   -- the count stands past the day where account and day are whole
-  pub heading-count : {n : ℕ} → n ≡ accountBytes sec
-      → fieldOutcome (h .count) (at + n + 2) (leastCount sec) (mostCount sec) OutOfRange
+  pub heading-count : {p : ℕ} → p ≡ countPos sec at
+      → fieldOutcome (h .count) p (leastCount sec) (mostCount sec) OutOfRange
       ≡ outcome (fieldIn (countBytes sec) (leastCount sec) (mostCount sec) OutOfRange s (countPos sec at)) (countAt sec s at)
-  heading-count en =
-      rw (en, eh, field-whole (accountBytes sec) s at (omega arith), field-whole 2 s (dayPos sec at) whole)
+  heading-count ep =
+      rw (ep, eh, field-whole (accountBytes sec) s at (omega arith), field-whole 2 s (dayPos sec at) whole)
       (field-judged (countBytes sec) s (countPos sec at) (leastCount sec) (mostCount sec) OutOfRange)
 
   -- and the values past the count where that is whole
@@ -66,14 +66,14 @@ count-le Residual = omega arith
 count-le Ncc = omega arith
 
 -- the values, judged in the part of the file from a to e that they stand in
-pub rest-values : (sec : Section) (s : List ℕ) (at : ℕ) {a e n : ℕ}
+pub rest-values : (sec : Section) (s : List ℕ) (at : ℕ) {a e n end : ℕ}
     → fieldIn (countBytes sec) (leastCount sec) (mostCount sec) OutOfRange s (countPos sec at) ≡ Accepted
-    → a ≡ valuesPos sec at → n ≡ valuesIn sec s at → e ≡ min (a + 4 * n) (length s)
-    → outcome (upTo n (valueIn sec (take (e - a) (drop a s)) a)) (a + 4 * n) ≡ outcome (rest sec s at) (rowEnd sec s at)
+    → a ≡ valuesPos sec at → n ≡ valuesIn sec s at → end ≡ rowEnd sec s at → e ≡ min end (length s)
+    → outcome (upTo n (valueIn sec (take (e - a) (drop a s)) a)) end ≡ outcome (rest sec s at) (rowEnd sec s at)
 unfolding rest rowEnd
-rest-values sec s at {a} {e} {n} f ea en ee =
+rest-values sec s at {a} {e} {n} f ea en ep ee =
     let w = field-says _ _ _ _ _ _ f .whole in
-    rw (f, values-part sec s a e n (omega arith) ee, ea, en)
+    rw (f, values-part sec s a e n (omega arith) (omega arith), ea, en, ep)
 
 -- ---- A row
 

@@ -3,6 +3,11 @@ use crate::fields::Field;
 use crate::fields::Outcome;
 use crate::fields::judge_field;
 use crate::fields::value_at;
+use crate::positions::VALUE_BYTES;
+use crate::positions::count_pos;
+use crate::positions::day_pos;
+use crate::positions::row_end;
+use crate::positions::values_of;
 use crate::reader::Heading;
 use crate::reader::read_heading;
 use crate::sections::account_bytes;
@@ -11,13 +16,11 @@ use crate::sections::kind_of;
 use crate::sections::least_count;
 use crate::sections::most_count;
 use crate::sections::open_from;
-use crate::sections::per_interval;
 use integer::least;
 use rulebook::Limits;
 use rulebook::Section;
 use rulebook::Verdict;
 use rulebook::Why;
-use rulebook::units::INTERVALS;
 use rulebook::units::MOST_ACCOUNTS;
 use rules::ranges::in_range;
 ghost use mathlib.Core.Path.{_≡_};
@@ -45,7 +48,6 @@ fn judge_key(limits: Limits, sec: Section, file: &[u8], heading: Heading, at: us
     requires { ⌜ (BookLimits limits) × (at ≤ length (now file)) × (heading ≡ headingAt (accountBytes sec) (countBytes sec) (now file) at) ⌝ }
     ensures { λ r. ⌜ r ≡ outcome (key limits sec (now (file .entry)) at) (markOf limits sec (now (file .entry)) at) ⌝ }
 {
-    let n = account_bytes(sec);
     let account_field = heading.account;
     let day_field = heading.day;
     let account = match judge_field(account_field, at, 0, limits.accounts - 1, Why::OutOfRange) {
@@ -53,11 +55,18 @@ fn judge_key(limits: Limits, sec: Section, file: &[u8], heading: Heading, at: us
         Outcome::Stopped(w, p) => return Outcome::Stopped(w, p),
     };
     let low = open_from(limits, sec);
-    let day = match judge_field(day_field, at + n, low, limits.last, Why::DayNotOpen) {
+    let day = match judge_field(
+        day_field,
+        day_pos(sec, at),
+        low,
+        limits.last,
+        Why::DayNotOpen,
+    ) {
         Outcome::Passed(v) => v,
         Outcome::Stopped(w, p) => return Outcome::Stopped(w, p),
     };
-    Outcome::Passed(MOST_ACCOUNTS * (day - low) + account)
+    let mark = MOST_ACCOUNTS * (day - low) + account;
+    Outcome::Passed(mark)
 }
 
 // Marks an account and day as given; whether they were given before.
@@ -76,8 +85,8 @@ fn judge_values(part: &[u8], from: usize, sec: Section, n: usize) -> Verdict
     ensures { λ r. ⌜ r ≡ upTo n (valueIn sec (now (part .entry)) from) ⌝ }
 {
     for k in 0..n {
-        let p = 4 * k;
-        if part.len() < p + 4 {
+        let p = VALUE_BYTES * k;
+        if part.len() < p + VALUE_BYTES {
             return Verdict::Refused(Why::NotWhole, from + p);
         }
         if !in_range(kind_of(sec, k), value_at(part, p)) {
@@ -110,13 +119,13 @@ fn judge_rest(sec: Section, file: &[u8], heading: Heading, at: usize) -> Outcome
     ensures { λ r. ⌜ r ≡ outcome (rest sec (now (file .entry)) at) (rowEnd sec (now (file .entry)) at) ⌝ }
 {
     let count_field = heading.count;
-    let count = match judge_count(sec, count_field, at + account_bytes(sec) + 2) {
+    let count = match judge_count(sec, count_field, count_pos(sec, at)) {
         Outcome::Passed(v) => v,
         Outcome::Stopped(w, p) => return Outcome::Stopped(w, p),
     };
     let from = heading.next;
-    let n = INTERVALS * per_interval(sec, count);
-    let end = from + 4 * n;
+    let n = values_of(sec, count);
+    let end = row_end(sec, at, count);
     let cut = least(end, file.len());
     outcome_of(judge_values(&file[from..cut], from, sec, n), end)
 }
@@ -132,7 +141,7 @@ pub fn judge_row(limits: Limits, sec: Section, file: &[u8], at: usize, marks: &m
         Outcome::Stopped(w, p) => return Outcome::Stopped(w, p),
     };
     if mark_given(marks, k) {
-        return Outcome::Stopped(Why::Repeated, at + account_bytes(sec));
+        return Outcome::Stopped(Why::Repeated, day_pos(sec, at));
     }
     judge_rest(sec, file, heading, at)
 }

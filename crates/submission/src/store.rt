@@ -2,10 +2,15 @@
 use crate::places::place_of;
 use book::places::interval_size;
 use book::places::slot_start;
-use files::fields::number;
 use files::fields::value_at;
-use files::sections::account_bytes;
-use files::sections::count_bytes;
+use files::positions::VALUE_BYTES;
+use files::positions::account_at;
+use files::positions::count_at;
+use files::positions::day_at;
+use files::positions::first_row;
+use files::positions::row_end;
+use files::positions::rows_in;
+use files::positions::values_pos;
 use files::sections::per_interval;
 use integer::put_word;
 use rulebook::Section;
@@ -82,7 +87,7 @@ fn value_or_zero(n: usize, file: &[u8], from: usize, k: usize) -> i64
     ensures { λ r. ⌜ r ≡ numberFrom n (now (file .entry)) from k ⌝ }
 {
     if k < n {
-        value_at(file, from + 4 * k)
+        value_at(file, from + VALUE_BYTES * k)
     } else {
         0
     }
@@ -143,7 +148,12 @@ fn put_row(book: &mut [i64], start: usize, stride: usize, form: Form, file: &[u8
     for i in 0..INTERVALS {
         let a = start + i * stride;
         let e = a + form.words;
-        put_entry(&mut book[a..e], form, file, from + 4 * (i * form.values));
+        put_entry(
+            &mut book[a..e],
+            form,
+            file,
+            from + VALUE_BYTES * (i * form.values),
+        );
     }
 }
 
@@ -152,15 +162,18 @@ fn store_row(book: &mut [i64], terms: Terms, sec: Section, file: &[u8], at: usiz
     requires { ⌜ InTerms terms × RowFits terms sec (now file) at × (size terms ≤ length (now book)) ⌝ }
     ensures { λ r. ⌜ (r ≡ rowEnd sec (now (file .entry)) at) × (now (book .exit) ≡ rowStored terms (rowAt sec (now (file .entry)) at) intervals (now (book .entry))) ⌝ }
 {
-    let n = account_bytes(sec);
-    let day_at = at + n;
-    let count_at = day_at + 2;
-    let m = count_bytes(sec);
-    let from = count_at + m;
-    let form = form_of(sec, number(file, count_at, m));
-    let start = slot_start(terms, number(file, day_at, 2)) + place_of(sec, number(file, at, n));
-    put_row(book, start, interval_size(terms), form, file, from);
-    from + 4 * (INTERVALS * form.values)
+    let count = count_at(sec, file, at);
+    let form = form_of(sec, count);
+    let start = slot_start(terms, day_at(sec, file, at)) + place_of(sec, account_at(sec, file, at));
+    put_row(
+        book,
+        start,
+        interval_size(terms),
+        form,
+        file,
+        values_pos(sec, at),
+    );
+    row_end(sec, at, count)
 }
 
 // Stores the rows of the section at a position, in file order; the position past it.
@@ -168,8 +181,8 @@ fn store_section(book: &mut [i64], terms: Terms, sec: Section, file: &[u8], at: 
     requires { ⌜ InTerms terms × SectionFits terms sec (now file) at × (size terms ≤ length (now book)) ⌝ }
     ensures { λ r. ⌜ (r ≡ sectionEnd sec (now (file .entry)) at) × (now (book .exit) ≡ rowsStored terms (sectionRows sec (now (file .entry)) at) (now (book .entry))) ⌝ }
 {
-    let count = number(file, at, 2);
-    let mut next = at + 2;
+    let count = rows_in(file, at);
+    let mut next = first_row(at);
     for i in 0..count {
         next = store_row(book, terms, sec, file, next);
     }

@@ -17,9 +17,6 @@ use Rattle.files.specs.RowsLaws.{heading-account, heading-day}
 use Rattle.files.proofs.rows.judge_key.Statement.{statement}
 use Rattle.files.proofs.rows.judge_key.Tie as tie
 
-account-bytes-requires : tie.Need-account-bytes-requires
-account-bytes-requires c κs = search needs
-
 sub-judge-field : tie.Need-sub-judge-field
 sub-judge-field c = search needs
 
@@ -49,7 +46,7 @@ module _ (s : tie.Start) where
 -- what the first call says
 module _ (c : tie.After-judge-field) where
   abbrev start : tie.Start
-  start = c .before .before .before .before
+  start = c .before .before .before
 
   account : outcome (accountJudged start) (accountNumber start) ≡ c .judge-field .result
   account =
@@ -66,14 +63,14 @@ module _ (c : tie.After-known-told) where
 -- what the second says
 module _ (c : tie.After-judge-field2) where
   abbrev first : tie.After-judge-field
-  first = c .before .before .before .before .before
+  first = c .before .before .before .before .before .before
 
   day : outcome (dayJudged (start first)) (dayNumber (start first)) ≡ c .judge-field2 .result
   day =
       let g = start first .args in
       sym (c .judge-field2 .ensures
       ∙ heading-day (g .limits) (g .sec) (g .file .now) (g .at) (start first .pre .2)
-      (first .before .before .account-bytes .ensures .0) (c .before .open-from .ensures) (account-on (c .before .before) .0))
+      (c .before .day-pos .ensures .0) (c .before .before .open-from .ensures) (account-on (c .before .before .before) .0))
 
 module _ (c : tie.After-known-told3) where
   abbrev second : tie.After-judge-field2
@@ -85,15 +82,15 @@ module _ (c : tie.After-known-told3) where
   day-on : (dayJudged start-key ≡ Accepted) × (dayNumber start-key ≡ c .before .v2 .given .0 .0)
   day-on = outcome-passed _ _ _ (day second ∙ c .before .v2 .given .1)
 
-  abbrev was : (accountJudged start-key ≡ Accepted) × (accountNumber start-key ≡ second .before .before .before .v .given .0 .0)
-  was = account-on (second .before .before)
+  abbrev was : (accountJudged start-key ≡ Accepted) × (accountNumber start-key ≡ second .before .before .before .before .v .given .0 .0)
+  was = account-on (second .before .before .before)
 
   key-on : key (start-key .args .limits) (start-key .args .sec) (start-key .args .file .now) (start-key .args .at) ≡ Accepted
   unfolding key
   key-on = rw (was .0, day-on .0)
 
-  low : second .before .open-from .result ≡ openFrom (start-key .args .limits) (start-key .args .sec)
-  low = second .before .open-from .ensures
+  low : second .before .before .open-from .result ≡ openFrom (start-key .args .limits) (start-key .args .sec)
+  low = second .before .before .open-from .ensures
 
   known : Keyed (start-key .args .limits) (start-key .args .sec) (start-key .args .file .now) (start-key .args .at)
   known = keyed (start-key .args .limits) (start-key .args .sec) (start-key .args .file .now) (start-key .args .at) key-on
@@ -110,8 +107,8 @@ returns c =
 open-from-requires : tie.Need-open-from-requires
 open-from-requires c κs = search needs
 
-add-judge-field : tie.Need-add-judge-field
-add-judge-field c = search needs
+day-pos-requires : tie.Need-day-pos-requires
+day-pos-requires c κs = search needs
 
 judge-field-requires-2 : tie.Need-judge-field-requires-2
 judge-field-requires-2 c κs = search needs
@@ -127,16 +124,16 @@ unfolding key
 returns-2 c =
     let b = c .before .before .before in
     let x : dayJudged (start (first b)) ≡ Refused _ _ = outcome-stopped _ _ _ _ (day b ∙ c .before .w2 .given .1) in
-    rw (account-on (b .before .before) .0, x)
+    rw (account-on (b .before .before .before) .0, x)
 
-sub-t19 : tie.Need-sub-t19
-sub-t19 c = let k = known c in let d = day-on c .1 in let o = low c in omega arith
+sub-mark : tie.Need-sub-mark
+sub-mark c = let k = known c in let d = day-on c .1 in let o = low c in omega arith
 
-mul-t24 : tie.Need-mul-t24
-mul-t24 c = let k = small c in let d = day-on c .1 in let o = low c in omega arith
+mul-mark : tie.Need-mul-mark
+mul-mark c = let k = small c in let d = day-on c .1 in let o = low c in omega arith
 
-add-t25 : tie.Need-add-t25
-add-t25 c = let k = small c in let a = was c .1 in let d = day-on c .1 in let o = low c in omega arith
+add-mark : tie.Need-add-mark
+add-mark c = let k = small c in let a = was c .1 in let d = day-on c .1 in let o = low c in omega arith
 
 returns-3 : tie.Need-returns-3
 returns-3 c = let a = was c .1 in let d = day-on c .1 in let o = low c in rw (key-on c) (cc)
@@ -145,19 +142,18 @@ pub judge-key-spec : {M : Type 1} → statement M
 judge-key-spec =
     tie.close
     (tie.spec
-    account-bytes-requires
     sub-judge-field
     judge-field-requires
     enum-known-v
     enum-known-w
     returns
     open-from-requires
-    add-judge-field
+    day-pos-requires
     judge-field-requires-2
     enum-known-v-2
     enum-known-w-2
     returns-2
-    sub-t19
-    mul-t24
-    add-t25
+    sub-mark
+    mul-mark
+    add-mark
     returns-3)

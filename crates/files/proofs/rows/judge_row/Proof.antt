@@ -50,11 +50,8 @@ returns c =
 mark-given-requires : tie.Need-mark-given-requires
 mark-given-requires c κs = let k = key-on (c .before) .1 in let s = small (c .before) in omega arith
 
-account-bytes-requires : tie.Need-account-bytes-requires
-account-bytes-requires c κs = search needs
-
-add-t18 : tie.Need-add-t18
-add-t18 c = search needs
+day-pos-requires : tie.Need-day-pos-requires
+day-pos-requires c κs = search needs
 
 same-length : tie.Need-same-length
 same-length c = search needs
@@ -66,7 +63,7 @@ returns-2 c =
     let k = key-on h in
     let g = start h .args in
     let m : marked (g .marks .now) (markOf (g .limits) (g .sec) (g .file .now) (g .at)) ≡ true = rw (k .1) (sym (b .mark-given .ensures .0) ∙ c .before .if1 .taken) in
-    (rw (row-again (g .limits) (g .sec) (g .file .now) (g .at) _ (k .0) m, c .account-bytes .ensures .0), rw (k .0, k .1) (b .mark-given .ensures .1))
+    (rw (row-again (g .limits) (g .sec) (g .file .now) (g .at) _ (k .0) m, c .day-pos .ensures .0), rw (k .0, k .1) (b .mark-given .ensures .1))
 
 judge-rest-requires : tie.Need-judge-rest-requires
 judge-rest-requires c κs = let b = c .before .before .before .before .before in let k = known b in (omega arith, b .before .before .before .before .row-heading .ensures)
@@ -93,8 +90,7 @@ judge-row-spec =
     enum-known-w
     returns
     mark-given-requires
-    account-bytes-requires
-    add-t18
+    day-pos-requires
     same-length
     returns-2
     judge-rest-requires

@@ -1,59 +1,50 @@
 -- `store_row` meets its contract: the fields say the row, and the grid of its form is the row stored.
 use mathlib.Core.Path.{_≡_, ap, _∙_}
-use Prim.Native.Nat.{ℕ, _+_, _-_, _*_, _≤_, _<_, _^_}
+use Prim.Native.Nat.{ℕ, _+_, _-_, _*_, _≤_}
 use native.Mathlib.Omega.{arith}
 use borrow.Author.Needs.{needs}
 use Rattle.rulebook.specs.Units.{intervals}
-use Rattle.rulebook.specs.File.{accountAt, dayAt, countAt, valuesPos, valuesIn, rowEnd}
+use Rattle.rulebook.specs.File.{accountAt, dayAt, countAt, rowEnd}
+use Rattle.rulebook.specs.ReferencePrice.{mostFacilities}
 use Rattle.rulebook.specs.Layout.{present, width, intervalSize, rowWord, size}
 use Rattle.rulebook.specs.Sections.{perInterval}
 use Rattle.submission.specs.declared.store.Form.{Form}
+use Rattle.files.specs.Positions.{row-end-of}
 use Rattle.files.specs.RowsLaws.{count-le}
 use Rattle.submission.specs.Stored.{formOf}
 use Rattle.submission.specs.StoredLaws.{flag-small, accounts-few, row-start, row-room, row-stored}
 use Rattle.submission.proofs.store.store_row.Statement.{statement}
 use Rattle.submission.proofs.store.store_row.Tie as tie
 
-module _ (c : tie.After-number) where
+module _ (c : tie.After-count-at) where
   abbrev start : tie.Start
-  start = c .before .before .before .before
+  start = c .before .before
 
-  counted : c .number .result ≡ countAt (start .args .sec) (start .args .file .now) (start .args .at)
-  counted = rw (c .before .before .account-bytes .ensures .0, c .before .count-bytes .ensures .0) at (c .number .ensures .0)
+  abbrev rowCount : ℕ
+  rowCount = countAt (start .args .sec) (start .args .file .now) (start .args .at)
 
-  -- the row's end fits, as the file's length does
-  short : valuesPos (start .args .sec) (start .args .at) + 4 * valuesIn (start .args .sec) (start .args .file .now) (start .args .at) < 2 ^ 64
-  short = omega (arith, start .pre .1 .whole)
+  few : c .count-at .result ≤ mostFacilities
+  few = omega (arith, c .count-at .ensures, start .pre .1 .count, count-le (start .args .sec))
 
-module _ (c : tie.After-number2) where
-  formed : c .before .form-of .result ≡ formOf (start (c .before .before) .args .sec) (countAt (start (c .before .before) .args .sec) (start (c .before .before) .args .file .now) (start (c .before .before) .args .at))
-  formed = c .before .form-of .ensures ∙ ap (formOf (start (c .before .before) .args .sec)) (counted (c .before .before))
+module _ (c : tie.After-form-of) where
+  formed : c .form-of .result ≡ formOf (start (c .before) .args .sec) (rowCount (c .before))
+  formed = c .form-of .ensures ∙ ap (formOf (start (c .before) .args .sec)) (c .before .count-at .ensures)
 
-  flagged : c .before .form-of .result .flag ≡ present (start (c .before .before) .args .sec) (countAt (start (c .before .before) .args .sec) (start (c .before .before) .args .file .now) (start (c .before .before) .args .at))
+  flagged : c .form-of .result .flag ≡ present (start (c .before) .args .sec) (rowCount (c .before))
   flagged = ap (λ (x : Form). x .flag) formed
 
-  wide : c .before .form-of .result .words ≡ width (start (c .before .before) .args .sec)
+  wide : c .form-of .result .words ≡ width (start (c .before) .args .sec)
   wide = ap (λ (x : Form). x .words) formed
 
-  valued : c .before .form-of .result .values ≡ perInterval (start (c .before .before) .args .sec) (countAt (start (c .before .before) .args .sec) (start (c .before .before) .args .file .now) (start (c .before .before) .args .at))
+  valued : c .form-of .result .values ≡ perInterval (start (c .before) .args .sec) (rowCount (c .before))
   valued = ap (λ (x : Form). x .values) formed
 
-  dated : c .number2 .result ≡ dayAt (start (c .before .before) .args .sec) (start (c .before .before) .args .file .now) (start (c .before .before) .args .at)
-  dated = rw (c .before .before .before .before .account-bytes .ensures .0) at (c .number2 .ensures .0)
-
-module _ (c : tie.After-number3) where
-  abbrev numbered : tie.After-number
-  numbered = c .before .before .before .before
-
-  named : c .number3 .result ≡ accountAt (start numbered .args .sec) (start numbered .args .file .now) (start numbered .args .at)
-  named = rw (numbered .before .before .account-bytes .ensures .0) at (c .number3 .ensures .0)
-
 module _ (c : tie.After-place-of) where
-  abbrev counting : tie.After-number
-  counting = numbered (c .before)
+  abbrev forming : tie.After-form-of
+  forming = c .before .before .before .before
 
   abbrev s : tie.Start
-  s = start counting
+  s = start (forming .before)
 
   abbrev firstWord : ℕ
   firstWord = rowWord (s .args .terms) (s .args .sec) (accountAt (s .args .sec) (s .args .file .now) (s .args .at)) (dayAt (s .args .sec) (s .args .file .now) (s .args .at)) 0 0
@@ -61,43 +52,30 @@ module _ (c : tie.After-place-of) where
   placed : c .before .before .slot-start .result + c .place-of .result ≡ firstWord
   placed =
       row-start (s .args .terms) (s .args .sec) (accountAt (s .args .sec) (s .args .file .now) (s .args .at)) (dayAt (s .args .sec) (s .args .file .now) (s .args .at))
-      (c .before .before .slot-start .ensures) (c .place-of .ensures .0) (named (c .before)) (dated (c .before .before .before))
+      (c .before .before .slot-start .ensures) (c .place-of .ensures .0) (c .before .account-at .ensures) (c .before .before .before .day-at .ensures)
 
   room : firstWord + (intervals - 1) * intervalSize (s .args .terms) + width (s .args .sec) ≤ size (s .args .terms)
   room = row-room (s .args .terms) (s .args .sec) (accountAt (s .args .sec) (s .args .file .now) (s .args .at)) (dayAt (s .args .sec) (s .args .file .now) (s .args .at)) (s .pre .0) (s .pre .1 .account)
 
-account-bytes-requires : tie.Need-account-bytes-requires
-account-bytes-requires c κs = search needs
-
-add-day-at : tie.Need-add-day-at
-add-day-at c = search needs
-
-add-count-at : tie.Need-add-count-at
-add-count-at c = search needs
-
-count-bytes-requires : tie.Need-count-bytes-requires
-count-bytes-requires c κs = search needs
-
-add-from : tie.Need-add-from
-add-from c = search needs
-
-number-requires : tie.Need-number-requires
-number-requires c κs = search needs
+count-at-requires : tie.Need-count-at-requires
+count-at-requires c κs = omega (arith, c .before .pre .1 .whole)
 
 form-of-requires : tie.Need-form-of-requires
-form-of-requires c κs = omega (arith, counted c, start c .pre .1 .count, count-le (start c .args .sec))
+form-of-requires c κs = few c
 
-number-requires-2 : tie.Need-number-requires-2
-number-requires-2 c κs = search needs
+day-at-requires : tie.Need-day-at-requires
+day-at-requires c κs = omega (arith, start (c .before) .pre .1 .whole)
 
 slot-start-requires : tie.Need-slot-start-requires
-slot-start-requires c κs = (start (c .before .before) .pre .0, omega (arith, dated c, start (c .before .before) .pre .1 .day))
+slot-start-requires c κs = let g = start (c .before .before) in (g .pre .0, omega (arith, c .day-at .ensures, g .pre .1 .day))
 
-number-requires-3 : tie.Need-number-requires-3
-number-requires-3 c κs = search needs
+account-at-requires : tie.Need-account-at-requires
+account-at-requires c κs = omega (arith, start (c .before .before .before) .pre .1 .whole)
 
 place-of-requires : tie.Need-place-of-requires
-place-of-requires c κs = let s = start (numbered c) in omega (arith, named c, s .pre .1 .account, accounts-few (s .args .sec) (s .args .terms .accounts) (s .pre .0 .accountsTo))
+place-of-requires c κs =
+    let g = start (c .before .before .before .before) in
+    omega (arith, c .account-at .ensures, g .pre .1 .account, accounts-few (g .args .sec) (g .args .terms .accounts) (g .pre .0 .accountsTo))
 
 add-start : tie.Need-add-start
 add-start c = omega (arith, placed c, room c)
@@ -105,69 +83,51 @@ add-start c = omega (arith, placed c, room c)
 interval-size-requires : tie.Need-interval-size-requires
 interval-size-requires c κs = search needs
 
+values-pos-requires : tie.Need-values-pos-requires
+values-pos-requires c κs = omega (arith, s (c .before .before) .pre .1 .whole)
+
 put-row-requires : tie.Need-put-row-requires
 put-row-requires c κs =
-    let p = c .before .before in
-    let k = counting p in
-    let g = s p in
-    let q = p .before .before .before in
-    let n = k .before .before .account-bytes .ensures .0 in
-    let m = k .before .count-bytes .ensures .0 in (
-      omega (arith, flagged q, flag-small (g .args .sec) (countAt (g .args .sec) (g .args .file .now) (g .args .at)) (g .pre .1 .count)),
-      omega (arith, wide q, placed p, room p, c .interval-size .ensures .0),
-      omega (arith, valued q, n, m, g .pre .1 .whole),
+    let p = c .before .before .before in
+    let q = forming p in
+    let g = s p in (
+      omega (arith, flagged q, flag-small (g .args .sec) (rowCount (q .before)) (g .pre .1 .count)),
+      omega (arith, wide q, placed p, room p, c .before .interval-size .ensures .0),
+      omega (arith, valued q, c .values-pos .ensures .0, g .pre .1 .whole),
     )
 
-mul-result : tie.Need-mul-result
-mul-result c = let p = c .before .before .before .before .before in omega (arith, valued (p .before .before .before), short (counting p))
-
-mul-result-2 : tie.Need-mul-result-2
-mul-result-2 c = let p = c .before .before .before .before .before in omega (arith, valued (p .before .before .before), short (counting p))
-
-add-result : tie.Need-add-result
-add-result c =
-    let p = c .before .before .before .before .before in
-    let k = counting p in
-    omega (arith, valued (p .before .before .before), k .before .before .account-bytes .ensures .0, k .before .count-bytes .ensures .0, short k)
+row-end-requires : tie.Need-row-end-requires
+row-end-requires c κs = let q = forming (c .before .before .before .before .before) in (omega (arith, start (q .before) .pre .1 .whole), few (q .before))
 
 same-length : tie.Need-same-length
 same-length c = search needs
 
 returns : tie.Need-returns
-unfolding rowEnd
 returns c =
-    let p = c .before .before .before .before .before in
-    let k = counting p in
-    let g = s p in
-    let q = p .before .before .before in
-    let n = k .before .before .account-bytes .ensures .0 in
-    let m = k .before .count-bytes .ensures .0 in (
-      omega (arith, valued q, n, m),
+    let v = c .before .before .before in
+    let p = v .before .before .before in
+    let q = forming p in
+    let g = s p in (
+      c .row-end .ensures ∙ row-end-of (g .args .sec) (g .args .file .now) (g .args .at) (q .before .count-at .ensures),
       c .before .before .put-row .ensures
           ∙ row-stored (g .args .terms) (g .args .sec) (g .args .file .now) (g .args .at) (g .args .book .now)
-          (placed p) (c .before .before .before .interval-size .ensures .0) (formed q) (omega (arith, n, m)) (g .pre .0) (g .pre .1) (g .pre .2),
+          (placed p) (v .before .interval-size .ensures .0) (formed q) (v .values-pos .ensures .0) (g .pre .0) (g .pre .1) (g .pre .2),
     )
 
 pub store-row-spec : {M : Type 1} → statement M
 store-row-spec =
     tie.close
     (tie.spec
-    account-bytes-requires
-    add-day-at
-    add-count-at
-    count-bytes-requires
-    add-from
-    number-requires
+    count-at-requires
     form-of-requires
-    number-requires-2
+    day-at-requires
     slot-start-requires
-    number-requires-3
+    account-at-requires
     place-of-requires
     add-start
     interval-size-requires
+    values-pos-requires
     put-row-requires
-    mul-result
-    mul-result-2
-    add-result
+    row-end-requires
     same-length
     returns)

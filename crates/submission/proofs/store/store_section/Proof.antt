@@ -18,20 +18,20 @@ Inv-loop book₀ terms sec file at count next₀ i₀ book next i = (i ≤ count
 abbrev μ-loop : tie.MeasureT-loop
 μ-loop book₀ terms sec file at count next₀ i₀ book next i = count - i
 
-number-requires : tie.Need-number-requires Inv-loop μ-loop
-number-requires c κs = (omega arith, c .before .pre .1 .start)
+rows-in-requires : tie.Need-rows-in-requires Inv-loop μ-loop
+rows-in-requires c κs = c .before .pre .1 .start
 
-add-next : tie.Need-add-next Inv-loop μ-loop
-add-next c = omega (arith, c .before .before .pre .1 .start)
+first-row-requires : tie.Need-first-row-requires Inv-loop μ-loop
+first-row-requires c κs = omega (arith, c .before .before .pre .1 .start)
 
 loop-holds : tie.Need-loop-holds Inv-loop μ-loop
-loop-holds c = (omega arith, sym (pos-none _ _ _), refl, first-none _ _ _ _ _)
+loop-holds c = (omega arith, c .first-row .ensures ∙ sym (pos-none _ _ _), refl, first-none _ _ _ _ _)
 
 store-row-requires : tie.Need-store-row-requires Inv-loop μ-loop
 store-row-requires c κs =
     let l = c .before .before .loop in
-    let s = c .before .before .before .before .before in
-    (s .pre .0, rw (l .inv .1) (s .pre .1 .rows (l .i) (omega (arith, c .before .before .before .number .ensures .0))), omega arith)
+    let s = c .before .before .before .before .before .before in
+    (s .pre .0, rw (l .inv .1) (s .pre .1 .rows (l .i) (omega (arith, c .before .before .before .before .rows-in .ensures))), omega arith)
 
 add-i : tie.Need-add-i Inv-loop μ-loop
 add-i c = omega arith
@@ -42,7 +42,7 @@ loop-less c = omega arith
 loop-again : tie.Need-loop-again Inv-loop μ-loop
 loop-again c =
     let l = c .before .before .before .before .loop in
-    let s = c .before .before .before .before .before .before .before in
+    let s = c .before .before .before .before .before .before .before .before in
     let r = c .before .store-row in
     (omega arith, r .ensures .0 ∙ rw (l .inv .1, pos-more), r .kept .0 ∙ l .inv .2, r .ensures .1 ∙ rw (l .inv .1, first-more) (ap (rowStored (s .args .terms) (rowAt (s .args .sec) (s .args .file .now) (rowPos (s .args .sec) (s .args .file .now) (s .args .at + 2) (l .i))) intervals) (l .inv .3)))
 
@@ -53,8 +53,8 @@ returns : tie.Need-returns Inv-loop μ-loop
 unfolding sectionEnd
 returns c =
     let l = c .before .loop in
-    let s = c .before .before .before .before in
-    let e : l .i ≡ rowsIn (s .args .file .now) (s .args .at) = omega (arith, c .before .before .number .ensures .0) in
+    let s = c .before .before .before .before .before in
+    let e : l .i ≡ rowsIn (s .args .file .now) (s .args .at) = omega (arith, c .before .before .before .rows-in .ensures) in
     (rw e at (l .inv .1), (rw e at (l .inv .3)) ∙ first-all (s .args .terms) (s .args .sec) (s .args .file .now) (s .args .at) (s .args .book .now))
 
 pub store-section-spec : {M : Type 1} → statement M
@@ -63,8 +63,8 @@ store-section-spec =
     (tie.spec
     Inv-loop
     μ-loop
-    number-requires
-    add-next
+    rows-in-requires
+    first-row-requires
     loop-holds
     store-row-requires
     add-i
