@@ -1,9 +1,8 @@
-pub mod BookLimits
+pub mod Judgeable
 pub mod Positions
 pub mod Fields
 pub mod Values
 pub mod Marks
-pub mod BookLimitsLaws
 pub mod FieldsLaws
 pub mod ValuesLaws
 pub mod MarksLaws

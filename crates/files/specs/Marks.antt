@@ -4,19 +4,16 @@ use mathlib.Core.Bool.{Bool}
 use mathlib.Core.List.{List}
 use Prim.Native.Nat.{ℕ, _+_, _*_, _-_, _≤_, _<_}
 use lib.Dec.{eqb}
-use lib.ListN.{length, getD, set, replicate}
+use lib.ListN.{length, getD, set}
+use Rattle.integer.specs.Below.{tabulate}
 use Rattle.rulebook.specs.declared.Section.{Section}
 use Rattle.rulebook.specs.declared.Limits.{Limits}
 use Rattle.rulebook.specs.declared.Verdict.{Verdict}
 use Rattle.rulebook.specs.declared.Verdict.the-variants.{Accepted, Refused}
 use Rattle.rulebook.specs.Shares.{mostAccounts}
-use Rattle.rulebook.specs.Terms.{mostLag, mostHorizon}
 use Rattle.rulebook.specs.File.{accountAt, dayAt, rowPos}
 use Rattle.rulebook.specs.Judging.{openFrom, upTo, given, judgedRow}
-
--- 32 accounts, and from L days back to H days ahead
-abbrev pub mostMarks : ℕ
-mostMarks = mostAccounts * (mostLag + mostHorizon)
+use Rattle.files.specs.Judgeable.{Judgeable}
 
 -- the place of the mark of account a and day d, where the open days begin at `low`
 abbrev pub mark : ℕ → ℕ → ℕ → ℕ
@@ -29,8 +26,9 @@ markOf l sec s at = mark (openFrom l sec) (accountAt sec s at) (dayAt sec s at)
 abbrev pub marked : List ℕ → ℕ → Bool
 marked marks k = eqb (getD marks k 0) 1
 
-unfoldable pub unmarked : List ℕ
-unmarked = replicate mostMarks 0
+-- n marks, none of them set
+unfoldable pub unmarked : ℕ → List ℕ
+unmarked n = tabulate n (λ _. 0)
 
 -- the marks after a row: its own is set where its account and day were accepted
 abbrev pub marksAfter : Verdict → ℕ → List ℕ → List ℕ
@@ -46,6 +44,6 @@ Marked l sec s first i marks =
 pub record Before (l : Limits) (sec : Section) (s : List ℕ) (first i at : ℕ) (marks : List ℕ) : Type 0 where
   pub place : at ≡ rowPos sec s first i
   pub inside : at ≤ length s
-  pub room : length marks ≡ mostMarks
+  pub room : Judgeable l (length marks)
   pub accepted : upTo i (judgedRow l sec s first) ≡ Accepted
   pub noted : Marked l sec s first i marks

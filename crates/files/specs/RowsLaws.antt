@@ -22,7 +22,8 @@ use Rattle.rulebook.specs.JudgingLaws.{then-both, checked, field-says, keyed}
 use Rattle.files.specs.declared.reader.Heading.{Heading}
 use Rattle.files.specs.Fields.{outcome, headingAt, fieldOutcome}
 use Rattle.files.specs.FieldsLaws.{up-none, up-more, field-whole, field-judged}
-use Rattle.files.specs.BookLimits.{BookLimits}
+use Rattle.files.specs.Judgeable.{Judgeable}
+use Rattle.files.specs.Positions.{valuesOf, rowEndOf}
 use Rattle.files.specs.Values.{valueIn}
 use Rattle.files.specs.Marks.{markOf, marked, unmarked, marksAfter, Marked, Before}
 use Rattle.files.specs.MarksLaws.{length-unmarked, marked-none, marked-more}
@@ -64,6 +65,15 @@ count-le Vesting = omega arith
 count-le Meter = omega arith
 count-le Residual = omega arith
 count-le Ncc = omega arith
+
+-- by the row's own count, its values and its end are the rule book's
+module _ (sec : Section) (s : List ℕ) (at : ℕ) {count : ℕ} (e : count ≡ countAt sec s at) where
+  pub values-of : valuesOf sec count ≡ valuesIn sec s at
+  values-of = rw e
+
+  pub row-end-of : rowEndOf sec at count ≡ rowEnd sec s at
+  unfolding rowEnd
+  row-end-of = rw e
 
 -- the values, judged in the part of the file from a to e that they stand in
 pub rest-values : (sec : Section) (s : List ℕ) (at : ℕ) {a e n end : ℕ}
@@ -131,17 +141,23 @@ module _ (l : Limits) (sec : Section) (s : List ℕ) (first : ℕ) where
   unfolding judgedRow
   judged-parts i = row-parts l sec s (rowPos sec s first i) _
 
-  pub before-none : first ≤ length s → Before l sec s first 0 first unmarked
-  before-none h = record { place = sym (pos-none sec s first); inside = h; room = length-unmarked; accepted = up-none _; noted = marked-none l sec s first }
+  pub before-none : (n : ℕ) → Judgeable l n → first ≤ length s → Before l sec s first 0 first (unmarked n)
+  before-none n b h = record {
+    place = sym (pos-none sec s first);
+    inside = h;
+    room = rw (length-unmarked n) b;
+    accepted = up-none _;
+    noted = marked-none l sec s first n;
+  }
 
-  module _ (b : BookLimits l) {i at : ℕ} {marks : List ℕ} (h : Before l sec s first i at marks) where
+  module _ {i at : ℕ} {marks : List ℕ} (h : Before l sec s first i at marks) where
     -- row i is judged by the marks
     pub before-row : rowAfter l sec s at (marked marks (markOf l sec s at)) ≡ judgedRow l sec s first i
     unfolding Marked judgedRow
     before-row =
         rw (h .place)
         (row-same l sec s (rowPos sec s first i) _ _
-        (λ e. let k = keyed l sec s (rowPos sec s first i) e in h .noted _ _ (omega arith) (k .day .from) (k .day .to)))
+        (λ e. let k = keyed l sec s (rowPos sec s first i) e in h .noted _ _ (omega (arith, h .room .some, h .room .few, k .account .to)) (k .day .from) (k .day .to)))
 
     -- and accepted
     pub before-more : {next : ℕ} {after : List ℕ} → judgedRow l sec s first i ≡ Accepted → rowEnd sec s at ≡ next → after ≡ marksAfter (key l sec s at) (markOf l sec s at) marks
@@ -152,9 +168,9 @@ module _ (l : Limits) (sec : Section) (s : List ℕ) (first : ℕ) where
         (record {
           place = sym (pos-more sec s first i);
           inside = row-end sec s (rowPos sec s first i) (p .1);
-          room = simp length-set (h .room);
+          room = rw length-set (h .room);
           accepted = up-more i _ (h .accepted) e;
-          noted = marked-more l sec s first i marks b (h .room) (p .0) (h .noted);
+          noted = marked-more l sec s first i marks (h .room) (p .0) (h .noted);
         })
 
 -- ---- A section

@@ -1,26 +1,21 @@
 // Document 01, "A submission file": the rows of a section, the four sections, and the end of the file.
 use crate::fields::Field;
 use crate::fields::Outcome;
+use crate::marks::clear_marks;
 use crate::reader::read_count;
 use crate::rows::judge_row;
 use rulebook::Limits;
 use rulebook::Section;
 use rulebook::Verdict;
 use rulebook::Why;
-use rulebook::units::MOST_ACCOUNTS;
-use rulebook::units::MOST_HORIZON;
-use rulebook::units::MOST_LAG;
 ghost use mathlib.Core.Path.{_≡_};
 ghost use Prim.Native.Nat.{_≤_, _<_};
 ghost use lib.ListN.{length};
 ghost use Rattle.rulebook.specs.File.{rowPos, sectionEnd};
 ghost use Rattle.rulebook.specs.Judging.{upTo, judgedRow, judgedSection, judged};
 ghost use Rattle.files.specs.Fields.{outcome};
-ghost use Rattle.files.specs.BookLimits.{BookLimits};
+ghost use Rattle.files.specs.Judgeable.{Judgeable};
 ghost use Rattle.files.specs.Marks.{unmarked};
-
-// A mark for each account and open day, from L days back to H days ahead.
-const MARKS: usize = MOST_ACCOUNTS * (MOST_LAG + MOST_HORIZON);
 
 // The rows of a section, the first at a position; the position past the last. No account and day is marked at first.
 fn judge_rows(
@@ -31,7 +26,7 @@ fn judge_rows(
     count: usize,
     marks: &mut [u8],
 ) -> Outcome
-    requires { ⌜ (BookLimits limits) × (first ≤ length (now file)) × (now marks ≡ unmarked) ⌝ }
+    requires { ⌜ (Judgeable limits (length (now marks))) × (first ≤ length (now file)) × (now marks ≡ unmarked (length (now marks))) ⌝ }
     ensures { λ r. ⌜ r ≡ outcome (upTo count (judgedRow limits sec (now (file .entry)) first)) (rowPos sec (now (file .entry)) first count) ⌝ }
 {
     let mut at = first;
@@ -48,38 +43,38 @@ fn judge_rows(
     Outcome::Passed(at)
 }
 
-// The section at a position: its count of rows, then the rows; the position past it.
-fn judge_section(limits: Limits, sec: Section, file: &[u8], at: usize) -> Outcome
-    requires { ⌜ (BookLimits limits) × (at ≤ length (now file)) ⌝ }
+// The section at a position: its count of rows, then the rows; the position past it. The marks are its own.
+fn judge_section(limits: Limits, sec: Section, file: &[u8], at: usize, marks: &mut [u8]) -> Outcome
+    requires { ⌜ (Judgeable limits (length (now marks))) × (at ≤ length (now file)) ⌝ }
     ensures { λ r. ⌜ r ≡ outcome (judgedSection limits sec (now (file .entry)) at) (sectionEnd sec (now (file .entry)) at) ⌝ }
 {
     match read_count(file, at) {
         Field::Cut => Outcome::Stopped(Why::NotWhole, at),
         Field::Whole(count, first) => {
-            let mut marks = [0u8; MARKS];
-            judge_rows(limits, sec, file, first, count, &mut marks)
+            clear_marks(marks);
+            judge_rows(limits, sec, file, first, count, marks)
         }
     }
 }
 
-// The file: its four sections, and no byte after them.
-pub fn judge_file(limits: Limits, file: &[u8]) -> Verdict
-    requires { ⌜ BookLimits limits ⌝ }
+// The file: its four sections, and no byte after them. The caller lends a table of marks, whatever it holds, with room for the open days.
+pub fn judge_file(limits: Limits, file: &[u8], marks: &mut [u8]) -> Verdict
+    requires { ⌜ Judgeable limits (length (now marks)) ⌝ }
     ensures { λ r. ⌜ r ≡ judged limits (now (file .entry)) ⌝ }
 {
-    let meter = match judge_section(limits, Section::Vesting, file, 0) {
+    let meter = match judge_section(limits, Section::Vesting, file, 0, marks) {
         Outcome::Passed(next) => next,
         Outcome::Stopped(w, p) => return Verdict::Refused(w, p),
     };
-    let residual = match judge_section(limits, Section::Meter, file, meter) {
+    let residual = match judge_section(limits, Section::Meter, file, meter, marks) {
         Outcome::Passed(next) => next,
         Outcome::Stopped(w, p) => return Verdict::Refused(w, p),
     };
-    let ncc = match judge_section(limits, Section::Residual, file, residual) {
+    let ncc = match judge_section(limits, Section::Residual, file, residual, marks) {
         Outcome::Passed(next) => next,
         Outcome::Stopped(w, p) => return Verdict::Refused(w, p),
     };
-    let end = match judge_section(limits, Section::Ncc, file, ncc) {
+    let end = match judge_section(limits, Section::Ncc, file, ncc, marks) {
         Outcome::Passed(next) => next,
         Outcome::Stopped(w, p) => return Verdict::Refused(w, p),
     };

@@ -3,6 +3,7 @@ use crate::fields::Field;
 use crate::fields::Outcome;
 use crate::fields::judge_field;
 use crate::fields::value_at;
+use crate::marks::mark_given;
 use crate::positions::VALUE_BYTES;
 use crate::positions::count_pos;
 use crate::positions::day_pos;
@@ -25,7 +26,7 @@ use rulebook::units::MOST_ACCOUNTS;
 use rules::ranges::in_range;
 ghost use mathlib.Core.Path.{_≡_};
 ghost use Prim.Native.Nat.{_+_, _*_, _≤_, _<_, _^_};
-ghost use lib.ListN.{length, set};
+ghost use lib.ListN.{length};
 ghost use Rattle.rulebook.specs.declared.Why.the-variants.{OutOfRange};
 ghost use Rattle.rulebook.specs.Units.{intervals};
 ghost use Rattle.rulebook.specs.Sections.{leastCount, mostCount};
@@ -33,8 +34,8 @@ ghost use Rattle.rulebook.specs.File.{accountBytes, countBytes, rowEnd};
 ghost use Rattle.rulebook.specs.Judging.{upTo, key, rest, rowAfter};
 ghost use Rattle.files.specs.Fields.{outcome, headingAt, fieldOutcome};
 ghost use Rattle.files.specs.Values.{valueIn};
-ghost use Rattle.files.specs.BookLimits.{BookLimits};
-ghost use Rattle.files.specs.Marks.{markOf, marked, marksAfter, mostMarks};
+ghost use Rattle.files.specs.Judgeable.{Judgeable};
+ghost use Rattle.files.specs.Marks.{markOf, marked, marksAfter};
 
 // The heading of the row at a position.
 fn row_heading(sec: Section, file: &[u8], at: usize) -> Heading
@@ -45,7 +46,7 @@ fn row_heading(sec: Section, file: &[u8], at: usize) -> Heading
 
 // The account and the day of the row at a position, whose heading was read: the place of their mark.
 fn judge_key(limits: Limits, sec: Section, file: &[u8], heading: Heading, at: usize) -> Outcome
-    requires { ⌜ (BookLimits limits) × (at ≤ length (now file)) × (heading ≡ headingAt (accountBytes sec) (countBytes sec) (now file) at) ⌝ }
+    requires { ⌜ (Judgeable limits (2 ^ 63)) × (at ≤ length (now file)) × (heading ≡ headingAt (accountBytes sec) (countBytes sec) (now file) at) ⌝ }
     ensures { λ r. ⌜ r ≡ outcome (key limits sec (now (file .entry)) at) (markOf limits sec (now (file .entry)) at) ⌝ }
 {
     let account_field = heading.account;
@@ -67,16 +68,6 @@ fn judge_key(limits: Limits, sec: Section, file: &[u8], heading: Heading, at: us
     };
     let mark = MOST_ACCOUNTS * (day - low) + account;
     Outcome::Passed(mark)
-}
-
-// Marks an account and day as given; whether they were given before.
-fn mark_given(marks: &mut [u8], k: usize) -> bool
-    requires { ⌜ k < length (now marks) ⌝ }
-    ensures { λ r. ⌜ (r ≡ marked (now (marks .entry)) k) × (now (marks .exit) ≡ set (now (marks .entry)) k 1) ⌝ }
-{
-    let again = marks[k] == 1;
-    marks[k] = 1;
-    again
 }
 
 // A row's n values, which stand in `part`: the file's stretch from `from` on, cut where the file ends.
@@ -132,7 +123,7 @@ fn judge_rest(sec: Section, file: &[u8], heading: Heading, at: usize) -> Outcome
 
 // The row at a position, after the rows whose accounts and days are marked; the position past it.
 pub fn judge_row(limits: Limits, sec: Section, file: &[u8], at: usize, marks: &mut [u8]) -> Outcome
-    requires { ⌜ (BookLimits limits) × (at ≤ length (now file)) × (length (now marks) ≡ mostMarks) ⌝ }
+    requires { ⌜ (Judgeable limits (length (now marks))) × (at ≤ length (now file)) ⌝ }
     ensures { λ r. ⌜ (r ≡ outcome (rowAfter limits sec (now (file .entry)) at (marked (now (marks .entry)) (markOf limits sec (now (file .entry)) at))) (rowEnd sec (now (file .entry)) at)) × (now (marks .exit) ≡ marksAfter (key limits sec (now (file .entry)) at) (markOf limits sec (now (file .entry)) at) (now (marks .entry))) ⌝ }
 {
     let heading = row_heading(sec, file, at);

@@ -1,4 +1,4 @@
--- An accepted file's rows may be stored, and what is answered and left then is the promise. Assumes nothing.
+-- The table that is lent to the judge serves, an accepted file's rows may be stored, and what is answered and left then is the promise. Assumes nothing.
 use mathlib.Core.Path.{_≡_, refl, sym, ap, _∙_}
 use mathlib.Core.Bool.{false}
 use mathlib.Core.List.{List}
@@ -13,6 +13,7 @@ use Rattle.rulebook.specs.declared.Terms.{Terms}
 use Rattle.rulebook.specs.declared.Why.{Why}
 use Rattle.rulebook.specs.declared.Verdict.the-variants.{Accepted, Refused}
 use Rattle.rulebook.specs.declared.SubmitAnswer.the-variants.{Taken, IllFormed, FileRefused}
+use Rattle.rulebook.specs.Terms.{InTerms}
 use Rattle.rulebook.specs.Sections.{accountsOf}
 use Rattle.rulebook.specs.BookData.{termsOf, nextDay}
 use Rattle.rulebook.specs.WellFormed.{wellFormed}
@@ -21,8 +22,22 @@ use Rattle.rulebook.specs.Judging.{openFrom, limitsOf, judgedSection, judged}
 use Rattle.rulebook.specs.JudgingLaws.{Fine, section-start, section-row, sections}
 use Rattle.rulebook.specs.Submit.{rowsStored, submitted}
 use Rattle.rulebook.specs.Promises.{SubmitPromise}
+use Rattle.files.specs.Judgeable.{RoomForDays, Judgeable}
 use Rattle.book.specs.JudgedLaws.{Formed}
+use Rattle.submission.specs.Marks.{mostMarks}
 use Rattle.submission.specs.Stored.{RowFits, SectionFits, FileFits}
+
+-- ---- The judge's table
+
+-- the longest window has a mark for each account and open day, whatever the next day to close
+pub marks-enough : (o : Terms) (C : ℕ) → InTerms o → Judgeable (limitsOf o C) mostMarks
+marks-enough o C h = record { some = h .accountsFrom; few = h .accountsTo; room = days }
+  where
+    days : (sec : Section) → RoomForDays (limitsOf o C) mostMarks sec
+    days Vesting = omega (arith, h .lagFrom, h .horizonTo)
+    days Meter = omega (arith, h .lagFrom, h .horizonTo)
+    days Residual = omega (arith, h .lagTo, h .horizonFrom, h .horizonTo)
+    days Ncc = omega (arith, h .lagTo, h .horizonFrom, h .horizonTo)
 
 -- ---- An accepted file
 

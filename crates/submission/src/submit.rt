@@ -10,6 +10,9 @@ use rulebook::SubmitAnswer;
 use rulebook::Terms;
 use rulebook::Verdict;
 use rulebook::units::LAST_DAY;
+use rulebook::units::MOST_ACCOUNTS;
+use rulebook::units::MOST_HORIZON;
+use rulebook::units::MOST_LAG;
 ghost use mathlib.Core.Path.{_≡_};
 ghost use Prim.Native.Nat.{suc, _≤_};
 ghost use Rattle.rulebook.specs.Units.{lastDay};
@@ -18,6 +21,9 @@ ghost use Rattle.rulebook.specs.Judging.{limitsOf};
 ghost use Rattle.rulebook.specs.Promises.{SubmitPromise};
 ghost use Rattle.book.specs.declared.judge.Judged.the-variants.{WellFormed};
 ghost use Rattle.book.specs.Judged.{judgedBook};
+
+// The judge's table: a mark for each account and open day of any book, from L days back to H days ahead.
+const MARKS: usize = MOST_ACCOUNTS * (MOST_LAG + MOST_HORIZON);
 
 // What files are judged by, where `next` is the next day to close: days from max(F, C − L) to min(C + H − 1, 36,524).
 fn limits_of(terms: Terms, next: usize) -> Limits
@@ -40,7 +46,8 @@ fn take_file(book: &mut [i64], terms: Terms, next: usize, file: &[u8]) -> Submit
     ensures { λ answer. ⌜ SubmitPromise (now (book .entry)) (now (file .entry)) answer (now (book .exit)) ⌝ }
 {
     let limits = limits_of(terms, next);
-    match judge_file(limits, file) {
+    let mut marks = [0u8; MARKS];
+    match judge_file(limits, file, &mut marks) {
         Verdict::Accepted => {
             store_file(book, terms, file);
             SubmitAnswer::Taken

@@ -1,6 +1,6 @@
 -- `judge_key` meets its contract: account and day are judged one after the other, the day where the account is accepted.
 use mathlib.Core.Path.{_≡_, sym, _∙_}
-use Prim.Native.Nat.{ℕ, _-_, _<_}
+use Prim.Native.Nat.{ℕ, _-_, _<_, _^_}
 use native.Mathlib.Omega.{arith}
 use borrow.Author.Needs.{needs}
 use Rattle.rulebook.specs.declared.Verdict.{Verdict}
@@ -10,7 +10,7 @@ use Rattle.rulebook.specs.File.{accountBytes, dayPos, accountAt, dayAt}
 use Rattle.rulebook.specs.Judging.{openFrom, fieldIn, key}
 use Rattle.rulebook.specs.JudgingLaws.{Keyed, keyed}
 use Rattle.files.specs.Fields.{outcome}
-use Rattle.files.specs.Marks.{mostMarks, markOf}
+use Rattle.files.specs.Marks.{markOf}
 use Rattle.files.specs.FieldsLaws.{outcome-passed, outcome-stopped}
 use Rattle.files.specs.MarksLaws.{row-mark-fits}
 use Rattle.files.specs.RowsLaws.{heading-account, heading-day}
@@ -95,8 +95,8 @@ module _ (c : tie.After-known-told3) where
   known : Keyed (start-key .args .limits) (start-key .args .sec) (start-key .args .file .now) (start-key .args .at)
   known = keyed (start-key .args .limits) (start-key .args .sec) (start-key .args .file .now) (start-key .args .at) key-on
 
-  small : markOf (start-key .args .limits) (start-key .args .sec) (start-key .args .file .now) (start-key .args .at) < mostMarks
-  small = row-mark-fits (start-key .args .limits) (start-key .args .sec) (start-key .args .file .now) (start-key .args .at) (start-key .pre .0) key-on
+  small : markOf (start-key .args .limits) (start-key .args .sec) (start-key .args .file .now) (start-key .args .at) < 2 ^ 63
+  small = row-mark-fits (start-key .args .limits) (start-key .args .sec) (start-key .args .file .now) (start-key .args .at) (2 ^ 63) (start-key .pre .0) key-on
 
 returns : tie.Need-returns
 unfolding key

@@ -13,9 +13,8 @@ use Rattle.rulebook.specs.File.{countBytes, countPos, valuesPos, countAt}
 use Rattle.rulebook.specs.Judging.{fieldIn, rest}
 use Rattle.rulebook.specs.JudgingLaws.{Field, field-says}
 use Rattle.files.specs.Fields.{outcome}
-use Rattle.files.specs.Positions.{values-of, row-end-of}
 use Rattle.files.specs.FieldsLaws.{outcome-passed, outcome-stopped}
-use Rattle.files.specs.RowsLaws.{heading-count, heading-next, count-le, rest-values}
+use Rattle.files.specs.RowsLaws.{heading-count, heading-next, count-le, values-of, row-end-of, rest-values}
 use Rattle.files.proofs.rows.judge_rest.Statement.{statement}
 use Rattle.files.proofs.rows.judge_rest.Tie as tie
 

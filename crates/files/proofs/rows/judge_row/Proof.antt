@@ -4,12 +4,13 @@ use mathlib.Core.Bool.{true, false}
 use Prim.Native.Nat.{_<_}
 use native.Mathlib.Omega.{arith}
 use borrow.Author.Needs.{needs}
+use lib.ListN.{length}
 use Rattle.rulebook.specs.declared.Verdict.the-variants.{Accepted, Refused}
 use Rattle.rulebook.specs.Judging.{key}
 use Rattle.rulebook.specs.JudgingLaws.{Keyed, keyed}
-use Rattle.files.specs.Marks.{mostMarks, markOf, marked}
+use Rattle.files.specs.Marks.{markOf, marked}
 use Rattle.files.specs.FieldsLaws.{outcome-passed, outcome-stopped}
-use Rattle.files.specs.MarksLaws.{row-mark-fits}
+use Rattle.files.specs.MarksLaws.{judgeable-more, row-mark-fits}
 use Rattle.files.specs.RowsLaws.{row-refused, row-again, row-rest}
 use Rattle.files.proofs.rows.judge_row.Statement.{statement}
 use Rattle.files.proofs.rows.judge_row.Tie as tie
@@ -18,7 +19,9 @@ row-heading-requires : tie.Need-row-heading-requires
 row-heading-requires c κs = search needs
 
 judge-key-requires : tie.Need-judge-key-requires
-judge-key-requires c κs = search needs
+judge-key-requires c κs =
+    let s = c .before .before .before in
+    (judgeable-more (omega arith) (s .pre .0), s .pre .1, c .row-heading .ensures)
 
 enum-known-v : tie.Need-enum-known-v
 enum-known-v c = search needs
@@ -38,8 +41,8 @@ module _ (c : tie.After-known-told) where
   known : Keyed (start .args .limits) (start .args .sec) (start .args .file .now) (start .args .at)
   known = keyed (start .args .limits) (start .args .sec) (start .args .file .now) (start .args .at) (key-on .0)
 
-  small : markOf (start .args .limits) (start .args .sec) (start .args .file .now) (start .args .at) < mostMarks
-  small = row-mark-fits (start .args .limits) (start .args .sec) (start .args .file .now) (start .args .at) (start .pre .0) (key-on .0)
+  small : markOf (start .args .limits) (start .args .sec) (start .args .file .now) (start .args .at) < length (start .args .marks .now)
+  small = row-mark-fits (start .args .limits) (start .args .sec) (start .args .file .now) (start .args .at) (length (start .args .marks .now)) (start .pre .0) (key-on .0)
 
 returns : tie.Need-returns
 returns c =

@@ -9,8 +9,7 @@ use Rattle.rulebook.specs.ReferencePrice.{mostFacilities}
 use Rattle.rulebook.specs.Layout.{present, width, intervalSize, rowWord, size}
 use Rattle.rulebook.specs.Sections.{perInterval}
 use Rattle.submission.specs.declared.store.Form.{Form}
-use Rattle.files.specs.Positions.{row-end-of}
-use Rattle.files.specs.RowsLaws.{count-le}
+use Rattle.files.specs.RowsLaws.{count-le, row-end-of}
 use Rattle.submission.specs.Stored.{formOf}
 use Rattle.submission.specs.StoredLaws.{flag-small, accounts-few, row-start, row-room, row-stored}
 use Rattle.submission.proofs.store.store_row.Statement.{statement}
