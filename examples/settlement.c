@@ -101,7 +101,7 @@ static void print_missing(const int64_t *book, uint64_t position)
     print_date(what, flag == ROBIJAN_ACCOUNT_RESIDUAL_FLAG ? settled : next);
 }
 
-static void print_close(const char *what, robijan_close_answer answer, const int64_t *book, const int64_t *statement)
+static void print_close(const char *what, robijan_answer answer, const int64_t *book, const int64_t *statement)
 {
     if (answer.number != ROBIJAN_ACCEPTED) {
         printf("close refused: number %" PRIu64 ", position %" PRIu64 "\n", answer.number, answer.position);
@@ -145,17 +145,19 @@ int main(int count, char **arguments)
 {
     const char *path = count > 1 ? arguments[1] : "settlement.book";
 
+    robijan_terms terms = {.accounts = ACCOUNTS, .lag = LAG, .horizon = HORIZON, .first = robijan_day(2026, 1, 1).day};
+
     /* The words are ours: the library says how many a book takes. */
-    robijan_size_answer size = robijan_book_size(ACCOUNTS, LAG, HORIZON);
+    robijan_size_answer size = robijan_book_size(terms);
     int64_t *book = malloc(size.words * sizeof *book), *copy = malloc(size.words * sizeof *copy);
     int64_t statement[ACCOUNTS + 1] = {0};
     if (size.number != ROBIJAN_ACCEPTED || book == NULL || copy == NULL)
         return 1;
     printf("book of %" PRIu64 " words\n", size.words);
 
-    uint32_t first = (uint32_t)robijan_day(2026, 1, 1).day;
-    if (robijan_open(book, size.words, ACCOUNTS, LAG, HORIZON, first).number != ROBIJAN_ACCEPTED)
+    if (robijan_open(book, size.words, terms).number != ROBIJAN_ACCEPTED)
         return 1;
+    uint32_t first = (uint32_t)terms.first;
     keep(path, book, size.words);
     print_date("opened, first day", first);
     print_date("residual data of January are due", robijan_residual_due(2026, 1, no_holidays, 0).day);
@@ -166,7 +168,7 @@ int main(int count, char **arguments)
         write_contracts(day);
         if (robijan_submit(book, size.words, file, length).number != ROBIJAN_ACCEPTED)
             return 1;
-        robijan_close_answer answer = robijan_close(book, size.words, statement, ACCOUNTS + 1);
+        robijan_answer answer = robijan_close(book, size.words, statement, ACCOUNTS + 1);
         if (answer.number == ROBIJAN_ACCEPTED)
             keep(path, book, size.words);
         if (day == first || answer.number != ROBIJAN_ACCEPTED)
@@ -191,7 +193,7 @@ int main(int count, char **arguments)
     print_close("would close", robijan_close(copy, size.words, statement, ACCOUNTS + 1), copy, statement);
     print_balances(book);
 
-    robijan_close_answer answer = robijan_close(book, size.words, statement, ACCOUNTS + 1);
+    robijan_answer answer = robijan_close(book, size.words, statement, ACCOUNTS + 1);
     if (answer.number == ROBIJAN_ACCEPTED)
         keep(path, book, size.words);
     print_close("closed", answer, book, statement);

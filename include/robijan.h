@@ -71,8 +71,7 @@ enum {
     ROBIJAN_PAST_LAST_DAY = 14       /* the day asked for is past 31 December 2099 */
 };
 
-typedef struct { uint64_t number, position; } robijan_answer;
-typedef struct { uint64_t number, position, day, count; } robijan_close_answer;
+typedef struct { uint64_t number, position, day, count; } robijan_answer; /* open, submit, close; day and count 0 but for a close */
 typedef struct { uint64_t number, words; } robijan_size_answer;
 typedef struct { uint64_t number; int64_t price; } robijan_price_answer;
 typedef struct { uint64_t number; int64_t first, second; } robijan_tranche_answer;
@@ -81,14 +80,16 @@ typedef struct { uint64_t number, day; } robijan_day_answer;
 typedef struct { uint64_t number, weekday; } robijan_weekday_answer;
 typedef struct { uint64_t number, business; } robijan_business_answer;
 
-/* ---- The book
- *
- * accounts  1 to 32, numbered from 0
- * lag       1 to 75: after how many days the uncovered load of a day is settled (the market rule says 75)
- * horizon   1 to 92: how many days, from the next one to close, rows may be given for
- * first     9,497 to 36,524: the first day to close
- *
- * A book takes 64 + 8 * accounts + 48 * (lag + horizon) * (4 + 24 * accounts) words: 5,072 for 2 accounts, lag 1 and horizon 1, and
+/* ---- The book */
+
+typedef struct {
+    uint64_t accounts; /* 1 to 32, numbered from 0 */
+    uint64_t lag;      /* 1 to 75: after how many days the uncovered load of a day is settled (the market rule says 75) */
+    uint64_t horizon;  /* 1 to 92: how many days, from the next one to close, rows may be given for */
+    uint64_t first;    /* 9,497 to 36,524: the first day to close */
+} robijan_terms;
+
+/* A book takes 64 + 8 * accounts + 48 * (lag + horizon) * (4 + 24 * accounts) words: 5,072 for 2 accounts, lag 1 and horizon 1, and
  * 6,188,672 (49.5 MB) for the largest. More words may be lent; those beyond are neither read nor written. All words may be read at any time;
  * they are the library's to write. A book that another hand has changed is refused only where its form shows it: ranges, zeros, rows of
  * closed days, bounds of balances. A price or a balance changed within its range is not noticed.
@@ -121,11 +122,11 @@ enum {
 #define ROBIJAN_WORD_FIRST_INTERVAL(accounts) (64 + 8 * (accounts))
 #define ROBIJAN_INTERVAL_WORDS(accounts) (4 + 24 * (accounts))
 
-/* How many words a book takes. Refused: 1. */
-robijan_size_answer robijan_book_size(size_t accounts, size_t lag, size_t horizon);
+/* How many words a book of these terms takes. All of them are judged, as by an opening; the first day has no part in the size. Refused: 1. */
+robijan_size_answer robijan_book_size(robijan_terms terms);
 
 /* Opens a book: writes every word of its size, whatever they held. Refused: 1, 2. */
-robijan_answer robijan_open(int64_t *book, size_t book_words, size_t accounts, size_t lag, size_t horizon, size_t first);
+robijan_answer robijan_open(int64_t *book, size_t book_words, robijan_terms terms);
 
 /* Takes a whole submission file, or refuses it and stores nothing of it. Refused: 3, then 4 to 8 at the first faulty field, in file order.
  *
@@ -148,7 +149,7 @@ robijan_answer robijan_submit(int64_t *book, size_t book_words, const uint8_t *f
  * account's residual row of the day `lag` days earlier. Accepted, it writes accounts + 1 amounts to the statement, the MSSL's last (words
  * beyond are kept), and adds them to the balances; `day` is the day closed, `count` how many residuals (account and interval) were settled.
  * Refused: 3, 9, 10, 11. */
-robijan_close_answer robijan_close(int64_t *book, size_t book_words, int64_t *statement, size_t statement_words);
+robijan_answer robijan_close(int64_t *book, size_t book_words, int64_t *statement, size_t statement_words);
 
 /* 0 for a well-formed book, as every accepted call leaves it; else 3. The other calls ask this themselves. */
 uint64_t robijan_judge(const int64_t *book, size_t book_words);

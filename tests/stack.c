@@ -84,8 +84,9 @@ static const int64_t list[ACCOUNTS] = {1, 2, 3, 4};
 static int64_t output[ACCOUNTS];
 
 static void nothing(void) { number = ROBIJAN_ACCEPTED; }
-static void size(void) { number = robijan_book_size(32, 75, 92).number; }
-static void open_book(void) { number = robijan_open(book, sizeof book / 8, ACCOUNTS, 1, 1, FIRST).number; }
+static const robijan_terms terms = {.accounts = ACCOUNTS, .lag = 1, .horizon = 1, .first = FIRST};
+static void size(void) { number = robijan_book_size(terms).number; }
+static void open_book(void) { number = robijan_open(book, sizeof book / 8, terms).number; }
 static void submit(void) { number = robijan_submit(book, sizeof book / 8, file, length).number; }
 static void close_day(void) { number = robijan_close(book, sizeof book / 8, statement, ACCOUNTS + 1).number; }
 static void judge(void) { number = robijan_judge(book, sizeof book / 8); }

@@ -1,5 +1,6 @@
 //! Books of the longest lag and horizon, and large files for them.
 
+use crate::robijan;
 use reference::book::{open, size};
 use reference::generate::Rng;
 
@@ -29,7 +30,17 @@ impl Terms {
         size(n, l, h).unwrap() as usize
     }
 
-    /// Opens a book in these words.
+    /// With the first day, as Robijan takes them.
+    pub fn opening(self) -> robijan::Terms {
+        robijan::Terms {
+            accounts: self.accounts,
+            lag: self.lag,
+            horizon: self.horizon,
+            first: FIRST_DAY as usize,
+        }
+    }
+
+    /// Opens a book in these words, by the second implementation.
     pub fn open(self, book: &mut [i64]) {
         let [n, l, h] = [self.accounts, self.lag, self.horizon].map(|term| term as u64);
         assert_eq!(open(book, n, l, h, FIRST_DAY).number, 0);

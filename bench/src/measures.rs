@@ -102,8 +102,7 @@ pub fn opening(name: &str, terms: Terms) -> Measured {
             &mut || {
                 let book = &mut lent.borrow_mut()[..];
                 timed(|| {
-                    let first = large::FIRST_DAY as usize;
-                    let told = robijan::open(black_box(book), accounts, lag, horizon, first);
+                    let told = robijan::open(black_box(book), terms.opening());
                     assert_eq!(told.number, 0);
                 })
             },

@@ -115,25 +115,15 @@ impl Year {
     }
 }
 
+fn figures(told: robijan::Answer) -> [u64; 4] {
+    [told.number, told.position, told.day, told.count]
+}
+
 fn main() -> ExitCode {
     let ours = run(&Calls {
-        open: |book, terms| {
-            let Terms {
-                accounts,
-                lag,
-                horizon,
-            } = terms;
-            let told = robijan::open(book, accounts, lag, horizon, FIRST_DAY as usize);
-            [told.number, told.position, 0, 0]
-        },
-        submit: |book, file| {
-            let told = robijan::submit(book, file);
-            [told.number, told.position, 0, 0]
-        },
-        close: |book, statement| {
-            let told = robijan::close(book, statement);
-            [told.number, told.position, told.day, told.count]
-        },
+        open: |book, terms| figures(robijan::open(book, terms.opening())),
+        submit: |book, file| figures(robijan::submit(book, file)),
+        close: |book, statement| figures(robijan::close(book, statement)),
     });
     ours.print("Robijan");
     let theirs = run(&Calls {

@@ -88,11 +88,9 @@ fn prepare(
     let told = robijan::submit(ours, &file);
     let answer = submit(theirs, &file);
     let header = ours[..6].to_vec();
-    super::same(
-        (told.number, told.position),
-        (answer.number.into(), answer.position as u64),
-        || format!("submission before a close, book {header:?}"),
-    )?;
+    super::same(told, super::without_day(answer), || {
+        format!("submission before a close, book {header:?}")
+    })?;
     history.submitted(&file, answer.number);
     Ok(kind)
 }

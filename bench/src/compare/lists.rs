@@ -1,8 +1,8 @@
 //! Lists of calls, each on the book as the last call left it: openings, submissions, revisions and closes, accepted and refused.
 
 use super::tally::Tally;
-use super::{both_close, same, same_words};
-use crate::robijan;
+use super::{both_close, same, same_words, without_day};
+use crate::robijan::{self, Terms};
 use reference::book::{open, size};
 use reference::generate::lists::{list, list_on, long_list, Call, List};
 use reference::generate::Rng;
@@ -79,14 +79,15 @@ pub fn run(
     let mut theirs = ours.clone();
     let of_list = |call: &str| format!("list {number}, {:?}, {call}", list.opening);
 
-    let [n, l, h, f] = [accounts, lag, horizon, first_day].map(|term| term as usize);
-    let told = robijan::open(&mut ours, n, l, h, f);
+    let terms = Terms {
+        accounts: accounts as usize,
+        lag: lag as usize,
+        horizon: horizon as usize,
+        first: first_day as usize,
+    };
+    let told = robijan::open(&mut ours, terms);
     let answer = open(&mut theirs, accounts, lag, horizon, first_day);
-    same(
-        (told.number, told.position),
-        (answer.number.into(), answer.position as u64),
-        || of_list("open"),
-    )?;
+    same(told, without_day(answer), || of_list("open"))?;
     same_words(&ours, &theirs, || of_list("open"))?;
     tally.add("open", told.number, told.position);
     *made += 1;
@@ -97,11 +98,7 @@ pub fn run(
                 let told = robijan::submit(&mut ours, file);
                 let answer = submit(&mut theirs, file);
                 let described = || of_list(&format!("call {at}, submit of {} bytes", file.len()));
-                same(
-                    (told.number, told.position),
-                    (answer.number.into(), answer.position as u64),
-                    described,
-                )?;
+                same(told, without_day(answer), described)?;
                 same_words(&ours, &theirs, described)?;
                 tally.add("submit", told.number, told.position);
             }

@@ -10,9 +10,10 @@ pub mod rules;
 pub mod submitting;
 pub mod tally;
 
-use crate::robijan::{self, Closed};
+use crate::robijan::{self, Answer};
 use reference::close::close as reference_close;
 use reference::generate::Rng;
+use reference::numbers;
 use tally::Tally;
 
 /// Runs so many cases of one call; on a difference, the case in words.
@@ -36,11 +37,11 @@ fn both_close(
     theirs: &mut [i64],
     statement: &[i64],
     case: impl Fn() -> String,
-) -> Result<Closed, String> {
+) -> Result<Answer, String> {
     let (mut told_words, mut words) = (statement.to_vec(), statement.to_vec());
     let told = robijan::close(ours, &mut told_words);
     let answer = reference_close(theirs, &mut words);
-    let expected = Closed {
+    let expected = Answer {
         number: answer.number.into(),
         position: answer.position as u64,
         day: answer.day as u64,
@@ -50,6 +51,16 @@ fn both_close(
     same_words(&told_words, &words, || format!("{}, statement", case()))?;
     same_words(ours, theirs, case)?;
     Ok(told)
+}
+
+/// What an opening or a submission answers: no day and no count.
+fn without_day(answer: numbers::Answer) -> Answer {
+    Answer {
+        number: answer.number.into(),
+        position: answer.position as u64,
+        day: 0,
+        count: 0,
+    }
 }
 
 /// The answers, and the words after, of both implementations.

@@ -2,7 +2,7 @@
 
 use super::books::{small_book, Change};
 use super::tally::Tally;
-use super::{same, same_words};
+use super::{same, same_words, without_day};
 use crate::robijan;
 use reference::generate::files::{damaged, Draft, STYLES};
 use reference::generate::Rng;
@@ -36,11 +36,7 @@ pub fn submit(rng: &mut Rng, cases: usize, tally: &mut Tally) -> Result<(), Stri
         };
         let told = robijan::submit(&mut book, &file);
         let answer = reference_submit(&mut theirs, &file);
-        same(
-            (told.number, told.position),
-            (answer.number.into(), answer.position as u64),
-            described,
-        )?;
+        same(told, without_day(answer), described)?;
         same_words(&book, &theirs, described)?;
         tally.add(kind, told.number, told.position);
         if let (Some(change), Some(kept)) = (change, kept) {

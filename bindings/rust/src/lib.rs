@@ -11,10 +11,11 @@
 //! A book of one account whose first day is 1 January 2026, closed with a lag of one day:
 //!
 //! ```
-//! use robijan::{book_words, close, day, numbers, open, submit};
+//! use robijan::{book_words, close, day, numbers, open, submit, Terms};
 //!
-//! let mut book = vec![0; book_words(1, 1, 1)?];
-//! open(&mut book, 1, 1, 1, day(2026, 1, 1)? as usize)?;
+//! let terms = Terms { accounts: 1, lag: 1, horizon: 1, first: day(2026, 1, 1)? as usize };
+//! let mut book = vec![0; book_words(terms)?];
+//! open(&mut book, terms)?;
 //!
 //! // Eight zero bytes are a file without rows.
 //! submit(&mut book, &[0; 8])?;
@@ -30,6 +31,7 @@
 pub mod numbers;
 pub mod raw;
 
+pub use raw::Terms;
 use std::fmt;
 
 /// Why a call was refused: a number of [`numbers`], and the position of what is refused, 0 unless the number names one.
@@ -83,46 +85,48 @@ pub struct Date {
     pub day: u64,
 }
 
-/// How many words a book takes, of 1 to 32 accounts, a lag of 1 to 75 days and a horizon of 1 to 92.
+/// How many words a book of these terms takes; terms that [`open`] refuses are refused here too.
 ///
 /// ```
-/// assert_eq!(robijan::book_words(2, 1, 1), Ok(5_072));
-/// assert_eq!(robijan::book_words(0, 1, 1).unwrap_err().number, robijan::numbers::OUTSIDE_RANGE);
+/// use robijan::Terms;
+///
+/// let terms = Terms { accounts: 2, lag: 1, horizon: 1, first: 9_497 };
+/// assert_eq!(robijan::book_words(terms), Ok(5_072));
+/// let refusal = robijan::book_words(Terms { accounts: 0, ..terms }).unwrap_err();
+/// assert_eq!(refusal.number, robijan::numbers::OUTSIDE_RANGE);
 /// ```
-pub fn book_words(accounts: usize, lag: usize, horizon: usize) -> Result<usize, Refusal> {
-    let answer = raw::book_size(accounts, lag, horizon);
+pub fn book_words(terms: Terms) -> Result<usize, Refusal> {
+    let answer = raw::book_size(terms);
     told(answer.number, 0, answer.words as usize)
 }
 
-/// Opens a book in the words lent, whatever they held; words beyond its size are kept. The first day to close is 9,497 (1 January 2026) to
-/// 36,524.
+/// Opens a book in the words lent, whatever they held; words beyond its size are kept.
 ///
 /// ```
+/// use robijan::Terms;
+///
+/// let terms = Terms { accounts: 2, lag: 1, horizon: 1, first: 9_497 };
 /// let mut words = vec![-1; 5_073];
-/// robijan::open(&mut words, 2, 1, 1, 9_497)?;
+/// robijan::open(&mut words, terms)?;
 /// assert_eq!(words[..6], [395, 2, 1, 1, 9_497, 9_497]);
 /// assert_eq!(words[5_072], -1);
 ///
-/// let refusal = robijan::open(&mut words[..5_071], 2, 1, 1, 9_497).unwrap_err();
+/// let refusal = robijan::open(&mut words[..5_071], terms).unwrap_err();
 /// assert_eq!(refusal.number, robijan::numbers::WORDS_TOO_FEW);
 /// # Ok::<(), robijan::Refusal>(())
 /// ```
-pub fn open(
-    book: &mut [i64],
-    accounts: usize,
-    lag: usize,
-    horizon: usize,
-    first: usize,
-) -> Result<(), Refusal> {
-    let answer = raw::open(book, accounts, lag, horizon, first);
+pub fn open(book: &mut [i64], terms: Terms) -> Result<(), Refusal> {
+    let answer = raw::open(book, terms);
     told(answer.number, answer.position, ())
 }
 
 /// Takes a whole submission file, or refuses it at its first faulty field and stores nothing.
 ///
 /// ```
+/// use robijan::Terms;
+///
 /// let mut book = vec![0; 5_072];
-/// robijan::open(&mut book, 2, 1, 1, 9_497)?;
+/// robijan::open(&mut book, Terms { accounts: 2, lag: 1, horizon: 1, first: 9_497 })?;
 /// robijan::submit(&mut book, &[0; 8])?;
 ///
 /// // One vesting row, of account 2, which the book does not have.
@@ -138,8 +142,10 @@ pub fn submit(book: &mut [i64], file: &[u8]) -> Result<(), Refusal> {
 /// Closes the next day: writes an amount for each account to the statement, in cents, then the MSSL's, and adds them to the balances.
 ///
 /// ```
+/// use robijan::Terms;
+///
 /// let mut book = vec![0; 5_072];
-/// robijan::open(&mut book, 2, 1, 1, 9_497)?;
+/// robijan::open(&mut book, Terms { accounts: 2, lag: 1, horizon: 1, first: 9_497 })?;
 /// let refusal = robijan::close(&mut book, &mut [0; 3]).unwrap_err();
 /// assert_eq!(refusal.to_string(), "11: datum absent, at word 84");
 /// let refusal = robijan::close(&mut book, &mut [0; 2]).unwrap_err();
@@ -158,9 +164,11 @@ pub fn close(book: &mut [i64], statement: &mut [i64]) -> Result<Closed, Refusal>
 /// Are these words a well-formed book, as every accepted call leaves one? The other calls ask this themselves.
 ///
 /// ```
+/// use robijan::Terms;
+///
 /// let mut book = vec![0; 5_072];
 /// assert_eq!(robijan::judge(&book).unwrap_err().number, robijan::numbers::NOT_WELL_FORMED);
-/// robijan::open(&mut book, 2, 1, 1, 9_497)?;
+/// robijan::open(&mut book, Terms { accounts: 2, lag: 1, horizon: 1, first: 9_497 })?;
 /// robijan::judge(&book)?;
 /// # Ok::<(), robijan::Refusal>(())
 /// ```
@@ -171,8 +179,10 @@ pub fn judge(book: &[i64]) -> Result<(), Refusal> {
 /// The next day that an opened book will close; 36,525 when all are closed.
 ///
 /// ```
+/// use robijan::Terms;
+///
 /// let mut book = vec![0; 5_072];
-/// robijan::open(&mut book, 2, 1, 1, 9_497)?;
+/// robijan::open(&mut book, Terms { accounts: 2, lag: 1, horizon: 1, first: 9_497 })?;
 /// assert_eq!(robijan::next_day(&book), Some(9_497));
 /// # Ok::<(), robijan::Refusal>(())
 /// ```
@@ -183,8 +193,10 @@ pub fn next_day(book: &[i64]) -> Option<i64> {
 /// The MSSL's balance in an opened book, in cents.
 ///
 /// ```
+/// use robijan::Terms;
+///
 /// let mut book = vec![0; 5_072];
-/// robijan::open(&mut book, 2, 1, 1, 9_497)?;
+/// robijan::open(&mut book, Terms { accounts: 2, lag: 1, horizon: 1, first: 9_497 })?;
 /// assert_eq!(robijan::mssl_balance(&book), Some(0));
 /// # Ok::<(), robijan::Refusal>(())
 /// ```
@@ -195,8 +207,10 @@ pub fn mssl_balance(book: &[i64]) -> Option<i64> {
 /// An account's balance in an opened book, in cents; `None` for an account that the book does not have.
 ///
 /// ```
+/// use robijan::Terms;
+///
 /// let mut book = vec![0; 5_072];
-/// robijan::open(&mut book, 2, 1, 1, 9_497)?;
+/// robijan::open(&mut book, Terms { accounts: 2, lag: 1, horizon: 1, first: 9_497 })?;
 /// assert_eq!(robijan::balance(&book, 1), Some(0));
 /// assert_eq!(robijan::balance(&book, 2), None);
 /// # Ok::<(), robijan::Refusal>(())
@@ -244,10 +258,10 @@ impl Missing {
 /// What a close lacks that was refused with [`numbers::DATUM_ABSENT`] at this position of the book; `None` for a position of no flag.
 ///
 /// ```
-/// use robijan::Missing;
+/// use robijan::{Missing, Terms};
 ///
 /// let mut book = vec![0; 5_072];
-/// robijan::open(&mut book, 2, 1, 1, 9_497)?;
+/// robijan::open(&mut book, Terms { accounts: 2, lag: 1, horizon: 1, first: 9_497 })?;
 /// let refusal = robijan::close(&mut book, &mut [0; 3]).unwrap_err();
 /// let missing = robijan::missing(&book, refusal.position);
 /// assert_eq!(missing, Some(Missing::Vesting { account: 0, day: 9_497 }));

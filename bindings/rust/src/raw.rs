@@ -2,16 +2,24 @@
 //! a pointer and a length. `include/robijan.h` says what each answers. Nothing checks these declarations against the library but the
 //! comparison with the second implementation (`bench/compare`), which goes through them.
 
+/// An opening's terms.
+#[repr(C)]
+#[derive(Clone, Copy, Debug, PartialEq, Eq)]
+pub struct Terms {
+    /// 1 to 32, numbered from 0.
+    pub accounts: usize,
+    /// 1 to 75: after how many days the uncovered load of a day is settled (the market rule says 75).
+    pub lag: usize,
+    /// 1 to 92: how many days, from the next one to close, rows may be given for.
+    pub horizon: usize,
+    /// 9,497 (1 January 2026) to 36,524: the first day to close.
+    pub first: usize,
+}
+
+/// Of open, submit and close; day and count are a close's.
 #[repr(C)]
 #[derive(Clone, Copy, Debug, PartialEq, Eq)]
 pub struct Answer {
-    pub number: u64,
-    pub position: u64,
-}
-
-#[repr(C)]
-#[derive(Clone, Copy, Debug, PartialEq, Eq)]
-pub struct Closed {
     pub number: u64,
     pub position: u64,
     pub day: u64,
@@ -71,17 +79,10 @@ pub struct Business {
 }
 
 mod library {
-    use super::{Answer, BookSize, Business, Closed, Date, Day, ReferencePrice, Tranches, Weekday};
+    use super::{Answer, BookSize, Business, Date, Day, ReferencePrice, Terms, Tranches, Weekday};
 
     extern "C" {
-        pub fn robijan_open(
-            book: *mut i64,
-            book_words: usize,
-            accounts: usize,
-            lag: usize,
-            horizon: usize,
-            first: usize,
-        ) -> Answer;
+        pub fn robijan_open(book: *mut i64, book_words: usize, terms: Terms) -> Answer;
         pub fn robijan_submit(
             book: *mut i64,
             book_words: usize,
@@ -93,9 +94,9 @@ mod library {
             book_words: usize,
             statement: *mut i64,
             statement_words: usize,
-        ) -> Closed;
+        ) -> Answer;
         pub fn robijan_judge(book: *const i64, book_words: usize) -> u64;
-        pub fn robijan_book_size(accounts: usize, lag: usize, horizon: usize) -> BookSize;
+        pub fn robijan_book_size(terms: Terms) -> BookSize;
         pub fn robijan_price(
             mep: *const i64,
             meps: usize,
@@ -125,15 +126,15 @@ mod library {
     }
 }
 
-pub fn open(book: &mut [i64], accounts: usize, lag: usize, horizon: usize, first: usize) -> Answer {
-    unsafe { library::robijan_open(book.as_mut_ptr(), book.len(), accounts, lag, horizon, first) }
+pub fn open(book: &mut [i64], terms: Terms) -> Answer {
+    unsafe { library::robijan_open(book.as_mut_ptr(), book.len(), terms) }
 }
 
 pub fn submit(book: &mut [i64], file: &[u8]) -> Answer {
     unsafe { library::robijan_submit(book.as_mut_ptr(), book.len(), file.as_ptr(), file.len()) }
 }
 
-pub fn close(book: &mut [i64], statement: &mut [i64]) -> Closed {
+pub fn close(book: &mut [i64], statement: &mut [i64]) -> Answer {
     unsafe {
         library::robijan_close(
             book.as_mut_ptr(),
@@ -148,8 +149,8 @@ pub fn judge(book: &[i64]) -> u64 {
     unsafe { library::robijan_judge(book.as_ptr(), book.len()) }
 }
 
-pub fn book_size(accounts: usize, lag: usize, horizon: usize) -> BookSize {
-    unsafe { library::robijan_book_size(accounts, lag, horizon) }
+pub fn book_size(terms: Terms) -> BookSize {
+    unsafe { library::robijan_book_size(terms) }
 }
 
 pub fn price(mep: &[i64], ieq: &[i64]) -> ReferencePrice {

@@ -1,11 +1,12 @@
-// Document 01, "Numbers returned": the table, and the figures of each answer.
+// Document 01, "Numbers returned": the table, and what each answer returns.
+use rulebook::Answer;
 use rulebook::CloseAnswer;
 use rulebook::OpenAnswer;
 use rulebook::ShareAnswer;
 use rulebook::SubmitAnswer;
 use rulebook::Why;
 ghost use mathlib.Core.Path.{_≡_};
-ghost use Rattle.rulebook.specs.Numbers.{whyNumber, ofOpen, ofSubmit, ofClose, shareNumber};
+ghost use Rattle.rulebook.specs.Numbers.{whyNumber, numbered as Numbers·numbered, ofOpen, ofSubmit, ofClose, shareNumber};
 
 pub const ACCEPTED: u64 = 0;
 
@@ -37,17 +38,29 @@ pub const BAD_HOLIDAYS: u64 = 13;
 
 pub const PAST_LAST_DAY: u64 = 14;
 
-pub fn open_number(answer: OpenAnswer) -> u64
-    ensures { λ r. ⌜ r ≡ ofOpen answer .number ⌝ }
+// Every other figure is 0.
+fn numbered(number: u64, position: usize) -> Answer
+    ensures { λ r. ⌜ r ≡ Numbers·numbered number position ⌝ }
 {
-    match answer {
-        OpenAnswer::Opened => ACCEPTED,
-        OpenAnswer::BadTerms => OUTSIDE_RANGE,
-        OpenAnswer::TooShort => WORDS_TOO_FEW,
+    Answer {
+        number: number,
+        position: position as u64,
+        day: 0,
+        count: 0,
     }
 }
 
-pub fn why_number(why: Why) -> u64
+pub fn of_open(answer: OpenAnswer) -> Answer
+    ensures { λ r. ⌜ r ≡ ofOpen answer ⌝ }
+{
+    match answer {
+        OpenAnswer::Opened => numbered(ACCEPTED, 0),
+        OpenAnswer::BadTerms => numbered(OUTSIDE_RANGE, 0),
+        OpenAnswer::TooShort => numbered(WORDS_TOO_FEW, 0),
+    }
+}
+
+fn why_number(why: Why) -> u64
     ensures { λ r. ⌜ r ≡ whyNumber why ⌝ }
 {
     match why {
@@ -59,71 +72,30 @@ pub fn why_number(why: Why) -> u64
     }
 }
 
-pub fn submit_number(answer: SubmitAnswer) -> u64
-    ensures { λ r. ⌜ r ≡ ofSubmit answer .number ⌝ }
+pub fn of_submit(answer: SubmitAnswer) -> Answer
+    ensures { λ r. ⌜ r ≡ ofSubmit answer ⌝ }
 {
     match answer {
-        SubmitAnswer::Taken => ACCEPTED,
-        SubmitAnswer::IllFormed => NOT_WELL_FORMED,
-        SubmitAnswer::FileRefused(why, _) => why_number(why),
+        SubmitAnswer::Taken => numbered(ACCEPTED, 0),
+        SubmitAnswer::IllFormed => numbered(NOT_WELL_FORMED, 0),
+        SubmitAnswer::FileRefused(why, at) => numbered(why_number(why), at),
     }
 }
 
-pub fn submit_position(answer: SubmitAnswer) -> usize
-    ensures { λ r. ⌜ r ≡ ofSubmit answer .position ⌝ }
+pub fn of_close(answer: CloseAnswer) -> Answer
+    ensures { λ r. ⌜ r ≡ ofClose answer ⌝ }
 {
     match answer {
-        SubmitAnswer::Taken => 0,
-        SubmitAnswer::IllFormed => 0,
-        SubmitAnswer::FileRefused(_, at) => at,
-    }
-}
-
-pub fn close_number(answer: CloseAnswer) -> u64
-    ensures { λ r. ⌜ r ≡ ofClose answer .number ⌝ }
-{
-    match answer {
-        CloseAnswer::Closed(_, _) => ACCEPTED,
-        CloseAnswer::BookIllFormed => NOT_WELL_FORMED,
-        CloseAnswer::Finished => BOOK_FINISHED,
-        CloseAnswer::NoRoom => OUTPUT_TOO_SHORT,
-        CloseAnswer::DatumMissing(_) => DATUM_ABSENT,
-    }
-}
-
-pub fn close_position(answer: CloseAnswer) -> usize
-    ensures { λ r. ⌜ r ≡ ofClose answer .position ⌝ }
-{
-    match answer {
-        CloseAnswer::Closed(_, _) => 0,
-        CloseAnswer::BookIllFormed => 0,
-        CloseAnswer::Finished => 0,
-        CloseAnswer::NoRoom => 0,
-        CloseAnswer::DatumMissing(at) => at,
-    }
-}
-
-pub fn close_day(answer: CloseAnswer) -> usize
-    ensures { λ r. ⌜ r ≡ ofClose answer .day ⌝ }
-{
-    match answer {
-        CloseAnswer::Closed(day, _) => day,
-        CloseAnswer::BookIllFormed => 0,
-        CloseAnswer::Finished => 0,
-        CloseAnswer::NoRoom => 0,
-        CloseAnswer::DatumMissing(_) => 0,
-    }
-}
-
-pub fn close_count(answer: CloseAnswer) -> usize
-    ensures { λ r. ⌜ r ≡ ofClose answer .count ⌝ }
-{
-    match answer {
-        CloseAnswer::Closed(_, count) => count,
-        CloseAnswer::BookIllFormed => 0,
-        CloseAnswer::Finished => 0,
-        CloseAnswer::NoRoom => 0,
-        CloseAnswer::DatumMissing(_) => 0,
+        CloseAnswer::Closed(figures) => Answer {
+            number: ACCEPTED,
+            position: 0,
+            day: figures.day as u64,
+            count: figures.count as u64,
+        },
+        CloseAnswer::BookIllFormed => numbered(NOT_WELL_FORMED, 0),
+        CloseAnswer::Finished => numbered(BOOK_FINISHED, 0),
+        CloseAnswer::NoRoom => numbered(OUTPUT_TOO_SHORT, 0),
+        CloseAnswer::DatumMissing(at) => numbered(DATUM_ABSENT, at),
     }
 }
 

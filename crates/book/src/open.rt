@@ -63,21 +63,9 @@ fn put_new_book(book: &mut [i64], terms: Terms)
 
 // The opening call, "The book" and "Numbers returned": 1 for terms outside their ranges, then 2 for too few words, and the book is as it was;
 // else every word of the size is written, and no word beyond.
-pub fn open_book(
-    book: &mut [i64],
-    accounts: usize,
-    lag: usize,
-    horizon: usize,
-    first: usize,
-) -> OpenAnswer
-    ensures { λ answer. ⌜ OpenPromise (record { accounts = accounts; lag = lag; horizon = horizon; first = first }) (now (book .entry)) answer (now (book .exit)) ⌝ }
+pub fn open_book(book: &mut [i64], terms: Terms) -> OpenAnswer
+    ensures { λ answer. ⌜ OpenPromise terms (now (book .entry)) answer (now (book .exit)) ⌝ }
 {
-    let terms = Terms {
-        accounts: accounts,
-        lag: lag,
-        horizon: horizon,
-        first: first,
-    };
     if !terms_fit(terms) {
         return OpenAnswer::BadTerms;
     }

@@ -13,7 +13,7 @@ use Rattle.rulebook.specs.declared.CloseAnswer.the-variants.{Closed, BookIllFor
 use Rattle.rulebook.specs.Units.{lastDay}
 use Rattle.rulebook.specs.BookData.{nextDay}
 use Rattle.rulebook.specs.WellFormed.{wellFormed}
-use Rattle.rulebook.specs.Close.{Closing, closeRefused, firstMissing, residualCount, dayClosed, statementWritten, settled, closed}
+use Rattle.rulebook.specs.Close.{Closing, closeRefused, firstMissing, closeFigures, dayClosed, statementWritten, settled, closed}
 use Rattle.rulebook.specs.Numbers.{ofClose}
 use Rattle.rulebook.specs.Promises.{ClosePromise}
 use Rattle.book.specs.JudgedLaws.{Formed}
@@ -54,6 +54,6 @@ module _ (w st : List ℤ) where
         unfolding settled
         missing n e = kept (closing-is ∙ rw (le-ltb lastDay D left, le-ltb (length st) (o .accounts + 1) room, e))
 
-        pub accepted : firstMissing o w D ≡ Nothing → ClosePromise w st (Closed D (residualCount o w D)) (dayClosed o w D) (statementWritten o w D st)
+        pub accepted : firstMissing o w D ≡ Nothing → ClosePromise w st (Closed (closeFigures o w D)) (dayClosed o w D) (statementWritten o w D st)
         unfolding settled
         accepted e = kept (closing-is ∙ rw (le-ltb lastDay D left, le-ltb (length st) (o .accounts + 1) room, e))

@@ -9,6 +9,7 @@ use book::judge::judge;
 use book::places::slot_start;
 use integer::Found;
 use rulebook::CloseAnswer;
+use rulebook::CloseFigures;
 use rulebook::Terms;
 use rulebook::units;
 ghost use mathlib.Core.Path.{_≡_};
@@ -63,7 +64,10 @@ fn settle(book: &mut [i64], statement: &mut [i64], terms: Terms, day: usize) -> 
 {
     write_statement(statement, book, terms, day);
     write_book(book, statement, terms, day);
-    CloseAnswer::Closed(day, residual_count(terms, day))
+    CloseAnswer::Closed(CloseFigures {
+        day: day,
+        count: residual_count(terms, day),
+    })
 }
 
 // The close of a well-formed book: numbers 9, 10 and 11 in this order.

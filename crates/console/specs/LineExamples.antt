@@ -39,10 +39,10 @@ pub record LinesTold : Type 0 where
   pub missing : closeLine (ofClose (DatumMissing 76)) [] ≡ close′ (49 ∷ 49 ∷ 32 ∷ 55 ∷ 54 ∷ 10 ∷ [])
   pub finished : closeLine (ofClose Finished) (pos 5 ∷ []) ≡ close′ (57 ∷ 32 ∷ 48 ∷ 10 ∷ [])
   -- `close 0 9498 48 -2000 2000`: 0, day, count, amounts
-  pub closed : closeLine (ofClose (Closed 9498 48)) (negsuc 1999 ∷ pos 2000 ∷ [])
+  pub closed : closeLine (ofClose (Closed (record { day = 9498; count = 48 }))) (negsuc 1999 ∷ pos 2000 ∷ [])
       ≡ close′ (48 ∷ 32 ∷ 57 ∷ 52 ∷ 57 ∷ 56 ∷ 32 ∷ 52 ∷ 56 ∷ 32 ∷ 45 ∷ 50 ∷ 48 ∷ 48 ∷ 48 ∷ 32 ∷ 50 ∷ 48 ∷ 48 ∷ 48 ∷ 10 ∷ [])
   -- `close 0 9497 0 0 -7 7`: two accounts, and the MSSL
-  pub closedFirst : closeLine (ofClose (Closed 9497 0)) (pos 0 ∷ minus 7 ∷ pos 7 ∷ [])
+  pub closedFirst : closeLine (ofClose (Closed (record { day = 9497; count = 0 }))) (pos 0 ∷ minus 7 ∷ pos 7 ∷ [])
       ≡ close′ (48 ∷ 32 ∷ 57 ∷ 52 ∷ 57 ∷ 55 ∷ 32 ∷ 48 ∷ 32 ∷ 48 ∷ 32 ∷ 45 ∷ 55 ∷ 32 ∷ 55 ∷ 10 ∷ [])
   -- `bad 5`, `bad 16389`
   pub bad : badLine 5 ≡ bad′ (53 ∷ 10 ∷ [])

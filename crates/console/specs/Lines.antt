@@ -4,7 +4,8 @@ use mathlib.Core.List.{List, [], _∷_, _++_, map}
 use Prim.Native.Nat.{ℕ}
 use lib.Dec.{eqb}
 use lib.IntN.{ℤ}
-use Rattle.rulebook.specs.Numbers.{Answer, accepted}
+use Rattle.rulebook.specs.declared.Answer.{Answer}
+use Rattle.rulebook.specs.Numbers.{accepted}
 use Rattle.console.specs.Decimal.{decimal, signedDecimal}
 
 abbrev pub space : ℕ

@@ -7,9 +7,6 @@ use lib.IntN.{ℤ, pos}
 use lib.ListN.{length, take}
 use lib.Seq.{take-suc}
 use Rattle.integer.specs.Words.{word}
-use Rattle.rulebook.specs.declared.OpenAnswer.{OpenAnswer}
-use Rattle.rulebook.specs.declared.OpenAnswer.the-variants.{Opened, BadTerms, TooShort}
-use Rattle.rulebook.specs.Numbers.{ofOpen}
 use Rattle.console.specs.Lines.{space, lineFeed, spaced, lineOf}
 
 -- ---- Parts
@@ -51,10 +48,3 @@ line-two w a b = rw (spaced-more a (b ∷ []), spaced-more b [], spaced-none)
 pub line-more : (w a b c : List ℕ) (ps : List (List ℕ)) → lineOf w (a ∷ b ∷ c ∷ ps) ≡ w ++ ((space ∷ a) ++ ((space ∷ b) ++ ((space ∷ c) ++ (spaced ps ++ (lineFeed ∷ [])))))
 unfolding lineOf
 line-more w a b c ps = rw (spaced-more a (b ∷ c ∷ ps), spaced-more b (c ∷ ps), spaced-more c ps)
-
--- ---- An opening's position
-
-pub open-position : (answer : OpenAnswer) → ofOpen answer .position ≡ 0
-open-position Opened = refl
-open-position BadTerms = refl
-open-position TooShort = refl

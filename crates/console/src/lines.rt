@@ -2,17 +2,22 @@
 use crate::decimal::put_byte;
 use crate::decimal::put_decimal;
 use crate::decimal::put_signed;
+use answers::ACCEPTED;
+use answers::of_close;
+use answers::of_open;
+use answers::of_submit;
 use integer::word_at;
+use rulebook::Answer;
 use rulebook::CloseAnswer;
 use rulebook::OpenAnswer;
 use rulebook::SubmitAnswer;
 ghost use mathlib.Core.Path.{_≡_};
-ghost use mathlib.Core.List.{[], _∷_, map};
+ghost use mathlib.Core.List.{_∷_, map};
 ghost use Prim.Native.Nat.{_+_, _*_, _≤_};
 ghost use lib.ListN.{length};
 ghost use Rattle.rulebook.specs.Numbers.{ofOpen, ofSubmit, ofClose};
 ghost use Rattle.console.specs.Decimal.{decimal, signedDecimal};
-ghost use Rattle.console.specs.Lines.{space, spaced, lineOf, openLine, submitLine, closedLine, closeLine, badLine};
+ghost use Rattle.console.specs.Lines.{space, spaced, answerLine, openLine, submitLine, closedLine, closeLine, badLine};
 ghost use Rattle.console.specs.Written.{Put};
 
 // Bytes enough for every line.
@@ -61,26 +66,26 @@ fn put_amounts(line: &mut [u8], at: usize, amounts: &[i64]) -> usize
     next
 }
 
-// A word, a number and a position.
-fn answer_line(line: &mut [u8], word: &[u8], number: u64, position: u64) -> usize
+// A word, number and position.
+fn answer_line(line: &mut [u8], word: &[u8], answer: Answer) -> usize
     requires { ⌜ length (now word) + 43 ≤ length (now line) ⌝ }
-    ensures { λ end. ⌜ Put (now (line .entry)) 0 (lineOf (now (word .entry)) (decimal number ∷ decimal position ∷ [])) (now (line .exit)) end ⌝ }
+    ensures { λ end. ⌜ Put (now (line .entry)) 0 (answerLine (now (word .entry)) answer) (now (line .exit)) end ⌝ }
 {
     let a = put_text(line, 0, word);
-    let b = put_part(line, a, number);
-    let c = put_part(line, b, position);
+    let b = put_part(line, a, answer.number);
+    let c = put_part(line, b, answer.position);
     put_byte(line, c, b'\n')
 }
 
 // `close 0`, day, count and the amounts.
-fn closed_line(line: &mut [u8], day: usize, count: usize, amounts: &[i64]) -> usize
+fn closed_line(line: &mut [u8], day: u64, count: u64, amounts: &[i64]) -> usize
     requires { ⌜ 69 + 21 * length (now amounts) ≤ length (now line) ⌝ }
     ensures { λ end. ⌜ Put (now (line .entry)) 0 (closedLine day count (now (amounts .entry))) (now (line .exit)) end ⌝ }
 {
     let a = put_text(line, 0, b"close");
-    let b = put_part(line, a, answers::ACCEPTED);
-    let c = put_part(line, b, day as u64);
-    let d = put_part(line, c, count as u64);
+    let b = put_part(line, a, ACCEPTED);
+    let c = put_part(line, b, day);
+    let d = put_part(line, c, count);
     let e = put_amounts(line, d, amounts);
     put_byte(line, e, b'\n')
 }
@@ -90,7 +95,7 @@ pub fn open_line(line: &mut [u8], answer: OpenAnswer) -> usize
     requires { ⌜ 64 ≤ length (now line) ⌝ }
     ensures { λ end. ⌜ Put (now (line .entry)) 0 (openLine (ofOpen answer)) (now (line .exit)) end ⌝ }
 {
-    answer_line(line, b"open", answers::open_number(answer), 0)
+    answer_line(line, b"open", of_open(answer))
 }
 
 // `submit`, number and position.
@@ -98,8 +103,7 @@ pub fn submit_line(line: &mut [u8], answer: SubmitAnswer) -> usize
     requires { ⌜ 64 ≤ length (now line) ⌝ }
     ensures { λ end. ⌜ Put (now (line .entry)) 0 (submitLine (ofSubmit answer)) (now (line .exit)) end ⌝ }
 {
-    let position = answers::submit_position(answer) as u64;
-    answer_line(line, b"submit", answers::submit_number(answer), position)
+    answer_line(line, b"submit", of_submit(answer))
 }
 
 // `close`, number and position; where it was accepted, 0, day, count and the amounts.
@@ -107,14 +111,11 @@ pub fn close_line(line: &mut [u8], answer: CloseAnswer, amounts: &[i64]) -> usiz
     requires { ⌜ 69 + 21 * length (now amounts) ≤ length (now line) ⌝ }
     ensures { λ end. ⌜ Put (now (line .entry)) 0 (closeLine (ofClose answer) (now (amounts .entry))) (now (line .exit)) end ⌝ }
 {
-    let number = answers::close_number(answer);
-    if number == answers::ACCEPTED {
-        let day = answers::close_day(answer);
-        let count = answers::close_count(answer);
-        return closed_line(line, day, count, amounts);
+    let returned = of_close(answer);
+    if returned.number == ACCEPTED {
+        return closed_line(line, returned.day, returned.count, amounts);
     }
-    let position = answers::close_position(answer) as u64;
-    answer_line(line, b"close", number, position)
+    answer_line(line, b"close", returned)
 }
 
 // `bad` and the first position of an item.

@@ -21,7 +21,8 @@ use Rattle.rulebook.specs.Judging.{upTo, fieldIn, value, key, given, rest, rowA
 use Rattle.rulebook.specs.Opening.{newBook, opened}
 use Rattle.rulebook.specs.Submit.{submitted}
 use Rattle.rulebook.specs.Close.{closed}
-use Rattle.rulebook.specs.Numbers.{Answer, numbered}
+use Rattle.rulebook.specs.declared.Answer.{Answer}
+use Rattle.rulebook.specs.Numbers.{numbered}
 use Rattle.rulebook.specs.History.{Event, submit, closes, latest, lastFor, acceptedRows, inForce, formulaAmount}
 use Rattle.rulebook.specs.Companion.{submitTold, firstLacking, closeTold}
 use Rattle.rulebook.specs.Examples.{one, two, in-one, in-two, zeros}

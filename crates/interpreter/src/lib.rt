@@ -1,6 +1,6 @@
 // Document 01, "Program `settle`": what it does with its input, item by item. Each call puts the line to print at the start of lent bytes.
 use answers::ACCEPTED;
-use answers::open_number;
+use answers::of_open;
 use book::open::open_book;
 use closing::close::close;
 use console::input::Item;
@@ -51,9 +51,9 @@ pub fn begin(book: &mut [i64], s: &[u8], line: &mut [u8]) -> Turn
         };
     }
     let terms = opening_terms(s);
-    let answer = open_book(book, terms.accounts, terms.lag, terms.horizon, terms.first);
+    let answer = open_book(book, terms);
     let end = open_line(line, answer);
-    if open_number(answer) == ACCEPTED {
+    if of_open(answer).number == ACCEPTED {
         return Turn {
             end: end,
             accounts: terms.accounts,

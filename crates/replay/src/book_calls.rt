@@ -5,6 +5,7 @@ use integer::put_word;
 use robijan::book_calls::robijan_close;
 use robijan::book_calls::robijan_open;
 use robijan::book_calls::robijan_submit;
+use rulebook::Terms;
 ghost use mathlib.Core.Path.{_≡_};
 ghost use lib.ListN.{set};
 ghost use Rattle.rulebook.specs.Submit.{submitted};
@@ -37,11 +38,13 @@ pub fn poke(book: &mut [i64])
 fn open_lent(lent: &mut [i64])
     ensures { λ _. ⌜ Opens (now (lent .entry)) (now (lent .exit)) ⌝ }
 {
-    let accounts = input::long();
-    let lag = input::long();
-    let horizon = input::long();
-    let first = input::long();
-    let answer = robijan_open(lent, accounts, lag, horizon, first);
+    let terms = Terms {
+        accounts: input::long(),
+        lag: input::long(),
+        horizon: input::long(),
+        first: input::long(),
+    };
+    let answer = robijan_open(lent, terms);
     output::name(b"open");
     output::figure(answer.number);
     output::figure(answer.position);

@@ -1,2 +1,1 @@
 pub mod Returned
-pub mod ReturnedLaws

@@ -4,7 +4,7 @@ use mathlib.Core.List.{List}
 use Prim.Native.Nat.{ℕ}
 use lib.IntN.{ℤ}
 use Rattle.rulebook.specs.declared.Terms.{Terms}
-use Rattle.rulebook.specs.Terms.{earliestFirstDay, termsFit}
+use Rattle.rulebook.specs.Terms.{termsFit}
 use Rattle.rulebook.specs.Layout.{size}
 use Rattle.rulebook.specs.WellFormed.{wellFormed}
 use Rattle.rulebook.specs.Numbers.{accepted, outsideRange, notWellFormed}
@@ -24,11 +24,6 @@ pub record SizeReturned : Type 0 where
   pub number : ℕ
   pub words : ℕ
 
--- N, L, H and the earliest first day; any first day gives the same size
-abbrev pub earliest : ℕ → ℕ → ℕ → Terms
-earliest n l h = record { accounts = n; lag = l; horizon = h; first = earliestFirstDay }
-
-unfoldable pub sizeReturned : ℕ → ℕ → ℕ → SizeReturned
-sizeReturned n l h =
-    cond (termsFit (earliest n l h)) (record { number = accepted; words = size (earliest n l h) })
-    (record { number = outsideRange; words = 0 })
+-- terms outside their ranges are refused, as by an opening
+unfoldable pub sizeReturned : Terms → SizeReturned
+sizeReturned o = cond (termsFit o) (record { number = accepted; words = size o }) (record { number = outsideRange; words = 0 })

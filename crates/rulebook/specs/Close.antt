@@ -12,6 +12,7 @@ use Rattle.integer.specs.Words.{word}
 use Rattle.rulebook.specs.declared.Section.{Section}
 use Rattle.rulebook.specs.declared.Section.the-variants.{Vesting, Meter, Residual, Ncc}
 use Rattle.rulebook.specs.declared.Terms.{Terms}
+use Rattle.rulebook.specs.declared.CloseFigures.{CloseFigures}
 use Rattle.rulebook.specs.declared.CloseAnswer.{CloseAnswer}
 use Rattle.rulebook.specs.declared.CloseAnswer.the-variants.{Closed, BookIllFormed, Finished, NoRoom, DatumMissing}
 use Rattle.rulebook.specs.Units.{lastDay, intervals}
@@ -68,6 +69,10 @@ module _ (o : Terms) (w : List ℤ) (D : ℕ) where
   unfoldable pub residualCount : ℕ
   residualCount = cond (residualDue o D) (intervals * o .accounts) 0
 
+  -- what an accepted close answers
+  abbrev pub closeFigures : CloseFigures
+  closeFigures = record { day = D; count = residualCount }
+
 -- what a close answers, and the words of book and statement that it leaves
 pub record Closing : Type 0 where
   pub answer : CloseAnswer
@@ -80,7 +85,7 @@ closeRefused w st answer = record { answer = answer; words = w; statement = st }
 -- by what the search found
 unfoldable pub settled : Terms → List ℤ → ℕ → List ℤ → Found → Closing
 settled o w D st (At n) = closeRefused w st (DatumMissing n)
-settled o w D st Nothing = record { answer = Closed D (residualCount o w D); words = dayClosed o w D; statement = statementWritten o w D st }
+settled o w D st Nothing = record { answer = Closed (closeFigures o w D); words = dayClosed o w D; statement = statementWritten o w D st }
 
 unfoldable pub closed : List ℤ → List ℤ → Closing
 closed w st =

@@ -29,7 +29,7 @@ use Rattle.rulebook.specs.WellFormed.{wellFormed}
 use Rattle.rulebook.specs.File.{Row, fileRows, figureOf}
 use Rattle.rulebook.specs.Judging.{limitsOf, judged}
 use Rattle.rulebook.specs.Submit.{wordOf, entry, rowStored, rowsStored, taken, submitted}
-use Rattle.rulebook.specs.Close.{Closing, closed, settled, closeRefused, firstMissing, posted, postedToMssl, dayClosed, statementWritten, residualCount}
+use Rattle.rulebook.specs.Close.{Closing, closed, settled, closeRefused, firstMissing, posted, postedToMssl, dayClosed, statementWritten, residualCount, closeFigures}
 use Rattle.rulebook.specs.Numbers.{accepted, ofSubmit, ofClose}
 use Rattle.rulebook.specs.NamedRows.{NamedRow, named, namedRows}
 use Rattle.rulebook.specs.Proper.{sameKey, Once}
@@ -93,7 +93,7 @@ module _ (w st : List ℤ) (t : T (wellFormed w)) (room : termsOf w .accounts + 
   unfolding base
   front n h = closed-front o w D n h
 
-  close-leaves : CloseLeaves o D w st (ofClose (Closed D (residualCount o w D))) (dayClosed o w D) (statementWritten o w D st)
+  close-leaves : CloseLeaves o D w st (ofClose (Closed (closeFigures o w D))) (dayClosed o w D) (statementWritten o w D st)
   unfolding posted postedToMssl msslAmount residualCount residualDue intervalWord base intervalSize slot ring
   close-leaves = record {
     number = refl;

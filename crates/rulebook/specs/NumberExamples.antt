@@ -28,7 +28,7 @@ pub record Returned : Type 0 where
   pub finished : ofClose Finished ≡ numbered 9 0
   pub noRoom : ofClose NoRoom ≡ numbered 10 0
   pub missing : (at : ℕ) → ofClose (DatumMissing at) ≡ numbered 11 at
-  pub closed : (d c : ℕ) → ofClose (Closed d c) ≡ record { number = 0; position = 0; day = d; count = c }
+  pub closed : (d c : ℕ) → ofClose (Closed (record { day = d; count = c })) ≡ record { number = 0; position = 0; day = d; count = c }
 
 pub returned : Returned
 returned = record {

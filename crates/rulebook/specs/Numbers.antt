@@ -12,6 +12,7 @@ use Rattle.rulebook.specs.declared.SubmitAnswer.{SubmitAnswer}
 use Rattle.rulebook.specs.declared.SubmitAnswer.the-variants.{Taken, IllFormed, FileRefused}
 use Rattle.rulebook.specs.declared.CloseAnswer.{CloseAnswer}
 use Rattle.rulebook.specs.declared.CloseAnswer.the-variants.{Closed, BookIllFormed, Finished, NoRoom, DatumMissing}
+pub use Rattle.rulebook.specs.declared.Answer.{Answer}
 use Rattle.rulebook.specs.declared.PriceAnswer.{PriceAnswer}
 use Rattle.rulebook.specs.declared.PriceAnswer.the-variants.{Priced, PriceRefused}
 use Rattle.rulebook.specs.declared.ShareAnswer.{ShareAnswer}
@@ -80,12 +81,6 @@ pastLastDay = 14
 
 -- ---- Open, submit, close: number, position of a refusal, an accepted close's day and residual count
 
-pub record Answer : Type 0 where
-  pub number : ℕ
-  pub position : ℕ
-  pub day : ℕ
-  pub count : ℕ
-
 -- every other figure is 0
 abbrev pub numbered : ℕ → ℕ → Answer
 numbered n p = record { number = n; position = p; day = 0; count = 0 }
@@ -113,7 +108,7 @@ ofSubmit IllFormed = numbered notWellFormed 0
 ofSubmit (FileRefused why at) = ofVerdict (Refused why at)
 
 abbrev pub ofClose : CloseAnswer → Answer
-ofClose (Closed day count) = record { number = accepted; position = 0; day = day; count = count }
+ofClose (Closed c) = record { number = accepted; position = 0; day = c .day; count = c .count }
 ofClose BookIllFormed = numbered notWellFormed 0
 ofClose Finished = numbered bookFinished 0
 ofClose NoRoom = numbered outputTooShort 0

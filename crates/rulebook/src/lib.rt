@@ -11,7 +11,8 @@ pub enum Kind {
     Price,
 }
 
-// An opening's arguments: N accounts, lag L, horizon H, first day F.
+// An opening's arguments: N accounts, lag L, horizon H, first day F. Programs in other languages pass it, hence C's layout.
+#[repr(C)]
 pub struct Terms {
     pub accounts: usize,
     pub lag: usize,
@@ -64,13 +65,29 @@ pub enum SubmitAnswer {
     FileRefused(Why, usize),
 }
 
-// A close's day and residual count, or why it is refused; a missing datum with its flag's index.
+// The figures of an accepted close: its day and residual count.
+pub struct CloseFigures {
+    pub day: usize,
+    pub count: usize,
+}
+
+// A close's figures, or why it is refused; a missing datum with its flag's index.
 pub enum CloseAnswer {
-    Closed(usize, usize),
+    Closed(CloseFigures),
     BookIllFormed,
     Finished,
     NoRoom,
     DatumMissing(usize),
+}
+
+// What open, submit and close return: number, position of a refusal, an accepted close's day and residual count; every other figure is 0.
+// Programs in other languages get it, hence C's layout.
+#[repr(C)]
+pub struct Answer {
+    pub number: u64,
+    pub position: u64,
+    pub day: u64,
+    pub count: u64,
 }
 
 // What the reference price call answers: V, or a list's length or a value outside its range.

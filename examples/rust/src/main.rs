@@ -4,7 +4,7 @@
 
 use robijan::{
     balance, book_words, close, date, day, final_statement, missing, mssl_balance, numbers, open,
-    residual_due, submit, Closed, Refusal,
+    residual_due, submit, Closed, Refusal, Terms,
 };
 use std::error::Error;
 use std::io::Write;
@@ -148,13 +148,20 @@ fn keep(path: &Path, book: &[i64]) -> std::io::Result<()> {
 fn main() -> Result<(), Box<dyn Error>> {
     let path = PathBuf::from(env::args().nth(1).unwrap_or("settlement.book".to_string()));
 
+    let first = day(2026, 1, 1)?;
+    let terms = Terms {
+        accounts: ACCOUNTS,
+        lag: LAG as usize,
+        horizon: HORIZON,
+        first: first as usize,
+    };
+
     // The words are ours: the library says how many a book takes.
-    let mut book = vec![0; book_words(ACCOUNTS, LAG as usize, HORIZON)?];
+    let mut book = vec![0; book_words(terms)?];
     let mut statement = [0; ACCOUNTS + 1];
     println!("book of {} words", book.len());
 
-    let first = day(2026, 1, 1)?;
-    open(&mut book, ACCOUNTS, LAG as usize, HORIZON, first as usize)?;
+    open(&mut book, terms)?;
     keep(&path, &book)?;
     print_date("opened, first day", first)?;
     let due = residual_due(2026, 1, &[])?;

@@ -1,5 +1,6 @@
 -- `answer_line` meets its contract: the word, two parts and the line feed, one after another.
 use borrow.Author.Needs.{needs}
+use Rattle.console.specs.Lines.{answerLine}
 use Rattle.console.specs.LinesLaws.{line-two}
 use Rattle.console.specs.WrittenLaws.{put-then}
 use Rattle.console.proofs.lines.answer_line.Statement.{statement}
@@ -21,6 +22,7 @@ same-length : tie.Need-same-length
 same-length c = search needs
 
 returns : tie.Need-returns
+unfolding answerLine
 returns c =
     let p = c .before .before in
     let b = p .before .before .before .before in

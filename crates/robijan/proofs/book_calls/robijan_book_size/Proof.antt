@@ -1,4 +1,4 @@
--- `robijan_book_size` meets its contract: terms are judged as an opening judges them, and the size is that of any first day.
+-- `robijan_book_size` meets its contract: terms are judged as an opening judges them.
 use mathlib.Core.Path.{sym, _∙_}
 use mathlib.Core.List.{[]}
 use borrow.Author.Needs.{needs}

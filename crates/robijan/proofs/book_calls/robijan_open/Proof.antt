@@ -1,4 +1,4 @@
--- `robijan_open` meets its contract: the promise of `open_book`, by number and position.
+-- `robijan_open` meets its contract: the promise of `open_book`, by its figures.
 use mathlib.Core.Path.{_∙_}
 use borrow.Author.Needs.{needs}
 use Rattle.robijan.proofs.book_calls.robijan_open.Statement.{statement}

@@ -1,4 +1,4 @@
--- `robijan_submit` meets its contract: the promise of `submit`, by number and position.
+-- `robijan_submit` meets its contract: the promise of `submit`, by its figures.
 use mathlib.Core.Path.{_∙_}
 use borrow.Author.Needs.{needs}
 use Rattle.robijan.proofs.book_calls.robijan_submit.Statement.{statement}
