@@ -23,9 +23,15 @@ enum { SIZE = 5072, FIRST = 9497 };
 
 static int64_t book[SIZE], statement[3], output[3];
 
-static robijan_answer opened(size_t words, size_t accounts, size_t first)
+/* Lag and horizon 1. */
+static robijan_terms terms(uint64_t accounts, uint64_t first)
 {
-    return robijan_open(book, words, accounts, 1, 1, first);
+    return (robijan_terms){.accounts = accounts, .lag = 1, .horizon = 1, .first = first};
+}
+
+static robijan_answer opened(size_t words, uint64_t accounts, uint64_t first)
+{
+    return robijan_open(book, words, terms(accounts, first));
 }
 
 static robijan_answer taken(const char *bytes, size_t length)
@@ -88,9 +94,9 @@ static void a_closed_book(void)
     memcpy(at, "\1\0\0\xAC\x8E\1", 6), at += 6; /* one meter row */
     for (int i = 0; i < 48; i++, at += 8)
         memcpy(at, "\x10\x27\0\0\3\0\0\0", 8); /* MEP 10,000, IEQ 3 */
-    NUMBER(ROBIJAN_ACCEPTED, robijan_open(book, SIZE, 1, 1, 1, 36524).number);
+    NUMBER(ROBIJAN_ACCEPTED, opened(SIZE, 1, 36524).number);
     NUMBER(ROBIJAN_ACCEPTED, robijan_submit(book, SIZE, file, sizeof file).number);
-    robijan_close_answer closed = robijan_close(book, SIZE, statement, 2);
+    robijan_answer closed = robijan_close(book, SIZE, statement, 2);
     NUMBER(ROBIJAN_ACCEPTED, closed.number);
     same("position of a close", 0, (int64_t)closed.position);
     same("day closed", 36524, (int64_t)closed.day);
@@ -103,9 +109,11 @@ static void a_closed_book(void)
     same("accounts", 1, book[ROBIJAN_WORD_ACCOUNTS]);
     NUMBER(ROBIJAN_BOOK_FINISHED, robijan_close(book, SIZE, statement, 2).number);
     NUMBER(9, ROBIJAN_BOOK_FINISHED);
-    same("size's number and words", 5072, (int64_t)robijan_book_size(2, 1, 1).words);
-    same("lag and horizon by place", ROBIJAN_ACCEPTED, (int64_t)robijan_book_size(1, 1, 92).number);
-    same("lag of 92", ROBIJAN_OUTSIDE_RANGE, (int64_t)robijan_book_size(1, 92, 1).number);
+    same("size", 5072, (int64_t)robijan_book_size(terms(2, FIRST)).words);
+    robijan_terms longest = {.accounts = 1, .lag = 75, .horizon = 92, .first = FIRST};
+    NUMBER(ROBIJAN_ACCEPTED, robijan_book_size(longest).number);
+    longest.lag = 92;
+    NUMBER(ROBIJAN_OUTSIDE_RANGE, robijan_book_size(longest).number);
 }
 
 static void rules(void)

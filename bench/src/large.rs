@@ -1,7 +1,7 @@
 //! Books of the longest lag and horizon, and large files for them.
 
 use crate::robijan;
-use reference::book::{open, size};
+use reference::book::{open, size, Opening};
 use reference::generate::Rng;
 
 pub const FIRST_DAY: u64 = 9_497;
@@ -26,8 +26,19 @@ impl Terms {
     }
 
     pub fn words(self) -> usize {
-        let [n, l, h] = [self.accounts, self.lag, self.horizon].map(|term| term as u64);
-        size(n, l, h).unwrap() as usize
+        size(self.reference()).unwrap() as usize
+    }
+
+    /// With the first day, as the second implementation takes them.
+    pub fn reference(self) -> Opening {
+        let [accounts, lag, horizon] =
+            [self.accounts, self.lag, self.horizon].map(|term| term as u64);
+        Opening {
+            accounts,
+            lag,
+            horizon,
+            first_day: FIRST_DAY,
+        }
     }
 
     /// With the first day, as Robijan takes them.
@@ -42,8 +53,7 @@ impl Terms {
 
     /// Opens a book in these words, by the second implementation.
     pub fn open(self, book: &mut [i64]) {
-        let [n, l, h] = [self.accounts, self.lag, self.horizon].map(|term| term as u64);
-        assert_eq!(open(book, n, l, h, FIRST_DAY).number, 0);
+        assert_eq!(open(book, self.reference()).number, 0);
     }
 }
 

@@ -90,12 +90,6 @@ pub fn opening(name: &str, terms: Terms) -> Measured {
     let words = terms.words();
     let (lent, copy) = (RefCell::new(vec![7; words]), RefCell::new(vec![7; words]));
     let from = vec![5; words];
-    let Terms {
-        accounts,
-        lag,
-        horizon,
-    } = terms;
-    let [n, l, h] = [accounts, lag, horizon].map(|term| term as u64);
     let times = interleaved(
         rounds(words),
         &mut [
@@ -109,7 +103,7 @@ pub fn opening(name: &str, terms: Terms) -> Measured {
             &mut || {
                 let book = &mut lent.borrow_mut()[..];
                 timed(|| {
-                    let answer = open(black_box(book), n, l, h, large::FIRST_DAY);
+                    let answer = open(black_box(book), terms.reference());
                     assert_eq!(answer.number, 0);
                 })
             },

@@ -2,6 +2,7 @@
 
 use crate::numbers::{ACCEPTED, BAD_HOLIDAYS, NO_SUCH_DATE, PAST_LAST_DAY};
 use crate::units::{DAY, LAST_DAY};
+use crate::variant::{Context, Variant};
 use std::ops::RangeInclusive;
 
 const YEARS: RangeInclusive<i64> = 2000..=2099;
@@ -70,6 +71,11 @@ pub fn day_to_date(day: i64) -> DateAnswer {
 }
 
 pub fn date_to_day(year: i64, month: i64, day: i64) -> DayAnswer {
+    date_to_day_in(Context::RIGHT, year, month, day)
+}
+
+pub fn date_to_day_in(context: Context, year: i64, month: i64, day: i64) -> DayAnswer {
+    let year = taken(context, Variant::TakesMagnitudeOfYear, year);
     let exists = YEARS.contains(&year)
         && MONTHS.contains(&month)
         && (1..=month_length(year, month)).contains(&day);
@@ -129,22 +135,37 @@ pub fn final_statement(day: i64, holidays: &[i64]) -> DayAnswer {
 
 /// The day on which a month's residual data fall due.
 pub fn residual_due_day(year: i64, month: i64, holidays: &[i64]) -> DayAnswer {
+    residual_due_day_in(Context::RIGHT, year, month, holidays)
+}
+
+pub fn residual_due_day_in(context: Context, year: i64, month: i64, holidays: &[i64]) -> DayAnswer {
+    let year = taken(context, Variant::TakesMagnitudeOfDueYear, year);
+    let month = taken(context, Variant::TakesMagnitudeOfDueMonth, month);
     if !YEARS.contains(&year) || !MONTHS.contains(&month) {
         return refused(NO_SUCH_DATE);
-    }
-    if !ascending(holidays) {
-        return refused(BAD_HOLIDAYS);
     }
     let (year, month) = if month <= 10 {
         (year, month + 2)
     } else {
         (year + 1, month - 10)
     };
-    result(business_day_after(
-        day_of(year, month, DUE_AFTER),
-        1,
-        holidays,
-    ))
+    let due_after = day_of(year, month, DUE_AFTER);
+    if due_after > LAST_DAY && context.is(Variant::SaysDuePastLastDayBeforeHolidays) {
+        return refused(PAST_LAST_DAY);
+    }
+    if !ascending(holidays) {
+        return refused(BAD_HOLIDAYS);
+    }
+    result(business_day_after(due_after, 1, holidays))
+}
+
+/// A year or a month as given; its magnitude, if that is the variant's slip.
+fn taken(context: Context, slip: Variant, given: i64) -> i64 {
+    if context.is(slip) {
+        given.saturating_abs()
+    } else {
+        given
+    }
 }
 
 fn accepted(day: i64) -> DayAnswer {

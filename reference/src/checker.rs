@@ -3,7 +3,7 @@
 use crate::book::{judge, open_in, size};
 use crate::close::close_in;
 use crate::generate::lists::{Call, List};
-use crate::history::{Breach, History, Opening, Ties};
+use crate::history::{Breach, History, Ties};
 use crate::numbers::{Answer, ACCEPTED};
 use crate::submission::submit_in;
 use crate::variant::Context;
@@ -26,13 +26,7 @@ pub struct Report {
 /// book must be well formed and hold the words that the history tells, a
 /// refusal must have changed nothing, and the list so far must hold.
 pub fn run(context: Context, list: &List) -> Report {
-    let Opening {
-        accounts,
-        lag,
-        horizon,
-        first_day,
-    } = list.opening;
-    let book_words = size(accounts, lag, horizon).unwrap_or(0) as usize;
+    let book_words = size(list.opening).unwrap_or(0) as usize;
     // What no call may read or touch.
     let spare = vec![i64::MIN + 7; list.spare_words];
     let mut book = vec![-1; book_words];
@@ -46,7 +40,7 @@ pub fn run(context: Context, list: &List) -> Report {
         finished: false,
         ties: Ties::default(),
     };
-    let opened = open_in(context, &mut book, accounts, lag, horizon, first_day);
+    let opened = open_in(context, &mut book, list.opening);
     report.outputs.push(opened.number.into());
     if opened != Answer::ACCEPTED {
         report.breaches.insert(Breach::Answer);
@@ -80,7 +74,7 @@ pub fn run(context: Context, list: &List) -> Report {
                 report.outputs.extend(&statement);
                 report.expect(answer == expected, Breach::Answer);
                 if answer.number == ACCEPTED {
-                    let (written, beyond) = statement.split_at(accounts as usize + 1);
+                    let (written, beyond) = statement.split_at(history.accounts() + 1);
                     let kept = beyond == &blank[written.len()..];
                     report.expect(written == cents && kept, Breach::Statement);
                     report.residual_closes += u64::from(answer.residual_count > 0);

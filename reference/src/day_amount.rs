@@ -3,7 +3,7 @@
 //! An interval's amount is at most 5 quantities of 10,000,000 kWh times a
 //! price difference of 2,000,000, a day's 4,800,000,000,000 cents.
 
-use crate::book::Entry;
+use crate::layout::Entry;
 use crate::reference_price::price_of;
 use crate::share::share_of;
 use crate::tranche::tranches_of;

@@ -5,6 +5,8 @@
 //! of 4 bytes, an opening's parameters and all words of 8. A list comes after
 //! its count, a file after its length.
 
+use crate::book::Opening;
+
 /// The words of the program's book: as many as N = 4, L = 75 and H = 92 take,
 /// and some beyond.
 pub const BOOK_WORDS: usize = 802_000;
@@ -23,7 +25,7 @@ pub enum Frame {
     /// The book's first words are lent.
     Open {
         lent: usize,
-        parameters: [u64; 4],
+        opening: Opening,
     },
     Submit {
         lent: usize,
@@ -68,10 +70,16 @@ impl Frame {
                 write_count(input, *index);
                 write_words(input, &[*word]);
             }
-            Frame::Open { lent, parameters } => {
+            Frame::Open { lent, opening } => {
                 input.push(b'O');
                 write_count(input, *lent);
-                for parameter in parameters {
+                let Opening {
+                    accounts,
+                    lag,
+                    horizon,
+                    first_day,
+                } = opening;
+                for parameter in [accounts, lag, horizon, first_day] {
                     input.extend(parameter.to_le_bytes());
                 }
             }

@@ -3,24 +3,19 @@
 //!
 //! It reads accepted files by itself, keeps the rows in force, and says what
 //! the book must hold and what the next close must answer.
+//!
+//! It is independent on purpose: where each word stands is worked out here once
+//! more, and neither `layout` nor the book's own header is used, so that a slip
+//! there does not hide itself.
 
-use crate::close::CloseAnswer;
-use crate::numbers::{ACCEPTED, DATUM_ABSENT, FINISHED, OUTPUT_TOO_SHORT};
+use crate::book::Opening;
+use crate::numbers::{Answer, ACCEPTED, DATUM_ABSENT, FINISHED, OUTPUT_TOO_SHORT};
 use crate::reference_price::reference_price;
 use crate::share::share;
 use crate::tranche::tranche;
 use crate::units::{nearest, INTERVALS, LAST_DAY, THOUSANDTHS_A_CENT};
 use std::collections::{BTreeMap, BTreeSet};
 use std::ops::RangeInclusive;
-
-/// The arguments of an accepted opening.
-#[derive(Clone, Copy, Debug)]
-pub struct Opening {
-    pub accounts: u64,
-    pub lag: u64,
-    pub horizon: u64,
-    pub first_day: u64,
-}
 
 /// A row's section (0 to 3), account and day; the account is 0 in section 3.
 pub type Key = (usize, usize, i64);
@@ -100,6 +95,7 @@ pub struct History {
 }
 
 impl History {
+    /// The history of a book that this opening, being accepted, left.
     pub fn new(opening: Opening) -> History {
         History {
             accounts: opening.accounts as usize,
@@ -170,8 +166,8 @@ impl History {
 
     /// What a close must answer, and the cents it must post: each account's,
     /// then the MSSL's.
-    pub fn expected_close(&self, statement_words: usize) -> (CloseAnswer, Vec<i64>) {
-        let refused = |number, position| (CloseAnswer::refused(number, position), Vec::new());
+    pub fn expected_close(&self, statement_words: usize) -> (Answer, Vec<i64>) {
+        let refused = |number, position| (Answer::at(number, position), Vec::new());
         if self.finished() {
             return refused(FINISHED, 0);
         }
@@ -181,22 +177,18 @@ impl History {
         if let Some(key) = self.first_missing() {
             return refused(DATUM_ABSENT, self.flag_at(&key, 0));
         }
-        let answer = CloseAnswer {
-            number: ACCEPTED,
-            position: 0,
-            day: self.next_day(),
-            residual_count: match self.residual_day() {
-                Some(_) => (INTERVALS * self.accounts) as i64,
-                None => 0,
-            },
+        let residuals = match self.residual_day() {
+            Some(_) => INTERVALS * self.accounts,
+            None => 0,
         };
+        let answer = Answer::closed(self.next_day(), residuals as i64);
         let mut cents: Vec<i64> = self.day_sums().into_iter().map(to_cents).collect();
         cents.push(-cents.iter().sum::<i64>());
         (answer, cents)
     }
 
     /// A close with a statement of so many words was answered so.
-    pub fn closed(&mut self, statement_words: usize, answer: &CloseAnswer) {
+    pub fn closed(&mut self, statement_words: usize, answer: &Answer) {
         let missing = self.first_missing().is_some();
         let must_report = !self.finished() && statement_words > self.accounts && missing;
         if (answer.number == DATUM_ABSENT) != must_report {

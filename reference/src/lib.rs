@@ -4,11 +4,14 @@
 //! Every call is total: any slice of any length and content is answered with a
 //! number, and a refusal changes no lent word.
 //!
+//! `book::Opening` has an opening's arguments, `numbers::Answer` what open,
+//! submit and close answer, `layout::Layout` where a book's words stand.
+//!
 //! `history` tells a list of calls from their arguments and answers alone,
 //! `generate` makes cases from a fixed seed, `checker` runs one against the
-//! other, and `variant` holds the wrong books and programs which the cases have
-//! to show. `frames` and `player` are the form of the test program `replay`'s
-//! input and output, `stored` has all the cases that are kept as files.
+//! other, and `variant` holds the wrong books, calendars and programs which the
+//! cases have to show. `frames` and `player` are the form of the test program
+//! `replay`'s input and output, `stored` has all the cases that are kept as files.
 
 pub mod book;
 pub mod calendar;
@@ -18,6 +21,7 @@ pub mod day_amount;
 pub mod frames;
 pub mod generate;
 pub mod history;
+pub mod layout;
 pub mod numbers;
 pub mod player;
 pub mod reference_price;

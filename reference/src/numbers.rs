@@ -21,18 +21,38 @@ pub const NO_SUCH_DATE: u8 = 12;
 pub const BAD_HOLIDAYS: u8 = 13;
 pub const PAST_LAST_DAY: u8 = 14;
 
-/// The answer of a call that returns a number and a position only.
+/// The answer of an opening, a submission or a close.
 #[derive(Clone, Copy, Debug, PartialEq, Eq)]
 pub struct Answer {
     pub number: u8,
     /// A byte of the file or a word of the book; 0 unless the number names one.
     pub position: usize,
+    /// The day closed; 0 unless a close was accepted.
+    pub day: i64,
+    /// The residuals settled; 0 unless a close was accepted.
+    pub residual_count: i64,
 }
 
 impl Answer {
+    /// Of an accepted opening or submission.
     pub const ACCEPTED: Answer = Answer::at(ACCEPTED, 0);
 
+    /// A number and its position, the other figures being 0.
     pub const fn at(number: u8, position: usize) -> Answer {
-        Answer { number, position }
+        Answer {
+            number,
+            position,
+            day: 0,
+            residual_count: 0,
+        }
+    }
+
+    /// Of an accepted close.
+    pub const fn closed(day: i64, residual_count: i64) -> Answer {
+        Answer {
+            day,
+            residual_count,
+            ..Answer::ACCEPTED
+        }
     }
 }

@@ -6,8 +6,8 @@
 
 use crate::book::open_in;
 use crate::calendar::{
-    date_to_day, day_to_date, final_statement, is_business_day, residual_due_day, statement_day,
-    weekday,
+    date_to_day_in, day_to_date, final_statement, is_business_day, residual_due_day_in,
+    statement_day, weekday,
 };
 use crate::close::close_in;
 use crate::frames::{Frame, BOOK_WORDS};
@@ -44,10 +44,9 @@ impl Player {
                 self.book[*index] = *word;
                 return None;
             }
-            Frame::Open { lent, parameters } => {
+            Frame::Open { lent, opening } => {
                 let book = &mut self.book[..*lent];
-                let [accounts, lag, horizon, first_day] = *parameters;
-                let answer = open_in(context, book, accounts, lag, horizon, first_day);
+                let answer = open_in(context, book, *opening);
                 Line::of("open")
                     .figures([answer.number as usize, answer.position])
                     .digest(book)
@@ -98,20 +97,20 @@ impl Player {
                 let answer = tranche_in(context, *rvq, *bvq, *mq);
                 Line::of("tranche").figures([i64::from(answer.number), answer.first, answer.second])
             }
-            calendar => calendar_line(calendar),
+            calendar => calendar_line(context, calendar),
         };
         Some(line.0)
     }
 }
 
-fn calendar_line(frame: &Frame) -> Line {
+fn calendar_line(context: Context, frame: &Frame) -> Line {
     match frame {
         Frame::DayToDate(day) => {
             let date = day_to_date(*day);
             Line::of("date").figures([i64::from(date.number), date.year, date.month, date.day])
         }
         Frame::DateToDay([year, month, day]) => {
-            let answer = date_to_day(*year, *month, *day);
+            let answer = date_to_day_in(context, *year, *month, *day);
             Line::of("day").figures([i64::from(answer.number), answer.day])
         }
         Frame::Weekday(day) => {
@@ -135,7 +134,7 @@ fn calendar_line(frame: &Frame) -> Line {
                 .digest(holidays)
         }
         Frame::ResidualDue([year, month], holidays) => {
-            let answer = residual_due_day(*year, *month, holidays);
+            let answer = residual_due_day_in(context, *year, *month, holidays);
             Line::of("due")
                 .figures([i64::from(answer.number), answer.day])
                 .digest(holidays)

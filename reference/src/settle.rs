@@ -2,13 +2,15 @@
 //!
 //! Where a wrong variant goes another way, `context` tells.
 
-use crate::book::{open_in, MSSL_BALANCE};
-use crate::close::{close_in, CloseAnswer};
-use crate::numbers::ACCEPTED;
+use crate::book::{open_in, Opening};
+use crate::close::close_in;
+use crate::layout::{Layout, MSSL_BALANCE};
+use crate::numbers::{Answer, ACCEPTED};
 use crate::submission::submit_in;
 use crate::units::{LAST_DAY, MOST_ACCOUNTS};
 use crate::variant::{Context, Variant};
 use std::fmt::{Display, Write};
+use std::mem::swap;
 
 pub const BOOK_WORDS: usize = 5_072;
 pub const LONGEST_FILE: usize = 16_384;
@@ -39,7 +41,8 @@ struct Run<'a> {
     position: usize,
     /// The items before it, the opening too.
     items: usize,
-    accounts: usize,
+    /// None before an opening in range.
+    layout: Option<Layout>,
     book: Vec<i64>,
     statement: [i64; MOST_ACCOUNTS + 1],
     output: String,
@@ -56,7 +59,7 @@ impl<'a> Run<'a> {
             input: &input[..read],
             position: 0,
             items: 0,
-            accounts: 0,
+            layout: None,
             book: vec![0; book_words(context)],
             statement: [0; MOST_ACCOUNTS + 1],
             output: String::new(),
@@ -69,9 +72,8 @@ impl<'a> Run<'a> {
             self.bad_opening();
             return false;
         };
-        let [accounts, lag, horizon, first_day] = parameters(self.context, bytes);
-        let book = &mut self.book;
-        let opened = open_in(self.context, book, accounts, lag, horizon, first_day);
+        let opening = opening(self.context, bytes);
+        let opened = open_in(self.context, &mut self.book, opening);
         let accepted = opened.number == ACCEPTED;
         let number = usize::from(opened.number);
         match self.context.variant {
@@ -79,7 +81,7 @@ impl<'a> Run<'a> {
             Variant::SaysBadAtRefusedOpening if !accepted => self.line("bad", [0]),
             _ => self.line("open", [number, opened.position]),
         }
-        self.accounts = accounts as usize;
+        self.layout = Layout::of(opening);
         self.position = OPENING_BYTES;
         self.items = 1;
         accepted || self.is(Variant::ReadsOnAfterRefusedOpening)
@@ -159,7 +161,7 @@ impl<'a> Run<'a> {
     }
 
     /// An accepted close's number, day and count.
-    fn close_figures(&self, closed: &CloseAnswer) -> Vec<i128> {
+    fn close_figures(&self, closed: &Answer) -> Vec<i128> {
         let (day, count) = (closed.day.into(), closed.residual_count.into());
         match self.context.variant {
             Variant::ClosesWithPosition => vec![0, closed.position as i128, day, count],
@@ -172,11 +174,12 @@ impl<'a> Run<'a> {
 
     /// The accounts' amounts, then the MSSL's.
     fn amounts(&self) -> Vec<i128> {
-        let mut amounts = self.statement[..=self.accounts].to_vec();
+        let accounts = self.layout.map_or(0, |layout| layout.accounts());
+        let mut amounts = self.statement[..=accounts].to_vec();
         match self.context.variant {
-            Variant::OmitsMsslAmount => amounts.truncate(self.accounts),
+            Variant::OmitsMsslAmount => amounts.truncate(accounts),
             Variant::PrintsMsslAmountFirst => amounts.rotate_right(1),
-            Variant::PrintsMsslAmountUnnegated => amounts[self.accounts] *= -1,
+            Variant::PrintsMsslAmountUnnegated => amounts[accounts] *= -1,
             Variant::PrintsWholeStatement => amounts = self.statement.to_vec(),
             Variant::PrintsBalances => amounts = self.balances(),
             _ => {}
@@ -191,7 +194,9 @@ impl<'a> Run<'a> {
 
     /// The accounts' balances, then the MSSL's.
     fn balances(&self) -> Vec<i64> {
-        let accounts = (0..self.accounts).map(|account| self.book[64 + 8 * account]);
+        let accounts = self.layout.into_iter().flat_map(|layout| {
+            (0..layout.accounts()).map(move |account| self.book[layout.balance_at(account)])
+        });
         accounts.chain([self.book[MSSL_BALANCE]]).collect()
     }
 
@@ -329,20 +334,25 @@ fn longest_file(context: Context) -> usize {
     }
 }
 
-/// N, L, H and F.
-fn parameters(context: Context, bytes: [u8; OPENING_BYTES]) -> [u64; 4] {
+fn opening(context: Context, bytes: [u8; OPENING_BYTES]) -> Opening {
     let [accounts, lag, horizon, low, high] = bytes;
     let first_day = match context.variant {
         Variant::ReadsFirstDayBigEndian => u64::from(u16::from_be_bytes([low, high])),
         Variant::ReadsFirstDaySigned => i16::from_le_bytes([low, high]) as u64,
         _ => u64::from(u16::from_le_bytes([low, high])),
     };
-    let [accounts, lag, horizon] = [accounts, lag, horizon].map(u64::from);
+    let mut opening = Opening {
+        accounts: accounts.into(),
+        lag: lag.into(),
+        horizon: horizon.into(),
+        first_day,
+    };
     match context.variant {
-        Variant::ExchangesLagAndHorizon => [accounts, horizon, lag, first_day],
-        Variant::ExchangesAccountsAndLag => [lag, accounts, horizon, first_day],
-        _ => [accounts, lag, horizon, first_day],
+        Variant::ExchangesLagAndHorizon => swap(&mut opening.lag, &mut opening.horizon),
+        Variant::ExchangesAccountsAndLag => swap(&mut opening.accounts, &mut opening.lag),
+        _ => {}
     }
+    opening
 }
 
 fn file_length(context: Context, bytes: [u8; LENGTH_BYTES]) -> usize {

@@ -6,7 +6,7 @@ use crate::generate::runs::{runs, Run};
 use crate::generate::settle_inputs::settle_inputs;
 use crate::player::Player;
 use crate::settle::settle_in;
-use crate::variant::{Context, WRONG_SETTLES};
+use crate::variant::{Context, WRONG_CALENDARS, WRONG_SETTLES};
 
 /// A file, by its path in the folder.
 pub struct Stored {
@@ -47,19 +47,25 @@ impl Cases {
 
     /// All outputs.
     pub fn outputs(&self, context: Context) -> Vec<Stored> {
-        let mut files = vec![stored("replay/stdout", self.replay(context))];
+        let mut files = self.replay_outputs(context);
         files.extend(self.settle_outputs(context));
         files
     }
 
     /// The outputs that a variant can change: not those of `replay`, if it is
-    /// one of `settle`.
+    /// one of `settle`, and no others, if it is one of the calendar.
     pub fn variant_outputs(&self, context: Context) -> Vec<Stored> {
         if WRONG_SETTLES.contains(&context.variant) {
             self.settle_outputs(context)
+        } else if WRONG_CALENDARS.contains(&context.variant) {
+            self.replay_outputs(context)
         } else {
             self.outputs(context)
         }
+    }
+
+    fn replay_outputs(&self, context: Context) -> Vec<Stored> {
+        vec![stored("replay/stdout", self.replay(context))]
     }
 
     fn settle_outputs(&self, context: Context) -> Vec<Stored> {

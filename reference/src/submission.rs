@@ -1,8 +1,7 @@
 //! Submission files: judged whole, then stored.
 
-use crate::book::{
-    judge, Shape, METER_FLAG, MOST_SLOTS, NCC_FLAG, NCC_VALUE, RESIDUAL_FLAG, VESTING_FLAG,
-};
+use crate::book::{judge, Header, MOST_SLOTS};
+use crate::layout::Layout;
 use crate::numbers::{
     Answer, DAY_NOT_OPEN, NOT_WELL_FORMED, NOT_WHOLE, OUT_OF_RANGE, ROW_REPEATED, TRAILING_BYTES,
 };
@@ -16,14 +15,14 @@ pub fn submit(book: &mut [i64], file: &[u8]) -> Answer {
 }
 
 pub fn submit_in(context: Context, book: &mut [i64], file: &[u8]) -> Answer {
-    let Some(shape) = judge(book) else {
+    let Some(header) = judge(book) else {
         return Answer::at(NOT_WELL_FORMED, 0);
     };
     if context.is(Variant::RefusesEverything) {
         return Answer::at(NOT_WELL_FORMED, 0);
     }
     let mut rows = Vec::new();
-    let judged = judge_file(&shape, file, &mut rows);
+    let judged = judge_file(&header, file, &mut rows);
     let stored = match context.variant {
         Variant::StoresNothing => false,
         Variant::StoresRowsOfRefusedFile => true,
@@ -31,7 +30,7 @@ pub fn submit_in(context: Context, book: &mut [i64], file: &[u8]) -> Answer {
     };
     if stored {
         for row in rows {
-            store(book, &shape, &row, &file[row.values.clone()]);
+            store(book, header.layout(), &row, &file[row.values.clone()]);
         }
     }
     judged.err().unwrap_or(Answer::ACCEPTED)
@@ -74,13 +73,13 @@ struct Row {
 
 /// The fields in file order; a refusal names the first one at fault, and
 /// `rows` has those before it.
-fn judge_file(shape: &Shape, file: &[u8], rows: &mut Vec<Row>) -> Result<(), Answer> {
+fn judge_file(header: &Header, file: &[u8], rows: &mut Vec<Row>) -> Result<(), Answer> {
     let mut reader = Reader { file, position: 0 };
     for section in SECTIONS {
         // By slot, a bit for each account whose row was given.
         let mut given = [0_u32; MOST_SLOTS];
         for _ in 0..reader.two_bytes()? {
-            rows.push(judge_row(&mut reader, shape, section, &mut given)?);
+            rows.push(judge_row(&mut reader, header, section, &mut given)?);
         }
     }
     if reader.position < file.len() {
@@ -91,21 +90,21 @@ fn judge_file(shape: &Shape, file: &[u8], rows: &mut Vec<Row>) -> Result<(), Ans
 
 fn judge_row(
     reader: &mut Reader,
-    shape: &Shape,
+    header: &Header,
     section: Section,
     given: &mut [u32; MOST_SLOTS],
 ) -> Result<Row, Answer> {
     let account = match section {
         Section::Ncc => 0,
-        _ => reader.byte_in(0..=shape.accounts() - 1)?,
+        _ => reader.byte_in(0..=header.accounts() - 1)?,
     };
 
     let day_at = reader.position;
     let day = i64::from(reader.two_bytes()?);
-    if !open_days(shape, section).contains(&day) {
+    if !open_days(header, section).contains(&day) {
         return Err(Answer::at(DAY_NOT_OPEN, day_at));
     }
-    let (marks, mark) = (&mut given[shape.slot(day)], 1 << account);
+    let (marks, mark) = (&mut given[header.layout().slot(day)], 1 << account);
     if *marks & mark != 0 {
         return Err(Answer::at(ROW_REPEATED, day_at));
     }
@@ -134,10 +133,10 @@ fn judge_row(
 
 /// Vesting and meter rows are open from the next day to close on, residual
 /// and NCC rows as far back as the book holds days.
-fn open_days(shape: &Shape, section: Section) -> RangeInclusive<i64> {
-    let window = shape.window();
+fn open_days(header: &Header, section: Section) -> RangeInclusive<i64> {
+    let window = header.window();
     match section {
-        Section::Vesting | Section::Meter => shape.next_day()..=*window.end(),
+        Section::Vesting | Section::Meter => header.next_day()..=*window.end(),
         Section::Residual | Section::Ncc => window,
     }
 }
@@ -191,16 +190,19 @@ fn value_of(bytes: [u8; 4]) -> i64 {
 }
 
 /// Replaces all that the row names: flags, values and the pairs not used.
-fn store(book: &mut [i64], shape: &Shape, row: &Row, file: &[u8]) {
+fn store(book: &mut [i64], layout: &Layout, row: &Row, file: &[u8]) {
     let values = file.chunks_exact(file.len() / INTERVALS);
     for (interval, values) in values.enumerate() {
-        let ncc = shape.interval_at(row.day, interval);
-        let entry = shape.entry_at(row.day, interval, row.account);
-        let (flag, first, words) = match row.section {
-            Section::Vesting => (entry + VESTING_FLAG, entry + VESTING_FLAG + 1, 8),
-            Section::Meter => (entry + METER_FLAG, entry + METER_FLAG + 1, 8),
-            Section::Residual => (entry + RESIDUAL_FLAG, entry + RESIDUAL_FLAG + 1, 4),
-            Section::Ncc => (ncc + NCC_FLAG, ncc + NCC_VALUE, 1),
+        let flag = match row.section {
+            Section::Vesting => layout.vesting_flag_at(row.day, interval, row.account),
+            Section::Meter => layout.meter_flag_at(row.day, interval, row.account),
+            Section::Residual => layout.residual_flag_at(row.day, interval, row.account),
+            Section::Ncc => layout.ncc_flag_at(row.day, interval),
+        };
+        let (first, words) = match row.section {
+            Section::Vesting | Section::Meter => (flag + 1, 8),
+            Section::Residual => (flag + 1, 4),
+            Section::Ncc => (layout.ncc_load_at(row.day, interval), 1),
         };
         book[flag] = row.flag;
         let words = &mut book[first..first + words];

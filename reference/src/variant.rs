@@ -1,5 +1,5 @@
-//! Wrong ways to keep the book and to run `settle`. The stored cases must show
-//! each of them.
+//! Wrong ways to keep the book, to reckon the calendar and to run `settle`. The
+//! stored cases must show each of them.
 
 #[derive(Clone, Copy, Debug, Default, PartialEq, Eq)]
 pub enum Variant {
@@ -28,6 +28,16 @@ pub enum Variant {
     /// Writes the first day's statement only: lent again, it stands for all days.
     OneStatementForAllDays,
     RefusesEverything,
+
+    // The calendar.
+    /// The day of a date of year −2026 is that of 2026.
+    TakesMagnitudeOfYear,
+    /// Residual data of a month of −2026 fall due as those of 2026.
+    TakesMagnitudeOfDueYear,
+    /// Residual data of month −1 fall due as those of January.
+    TakesMagnitudeOfDueMonth,
+    /// Says that the due month lies in 2100 before the holidays are judged.
+    SaysDuePastLastDayBeforeHolidays,
 
     // `settle`: its opening.
     ExchangesLagAndHorizon,
@@ -138,6 +148,14 @@ pub const WRONG_BOOKS: [Variant; 11] = [
     Variant::RefusesEverything,
 ];
 
+/// The wrong calendars, of which the book and `settle` know nothing.
+pub const WRONG_CALENDARS: [Variant; 4] = [
+    Variant::TakesMagnitudeOfYear,
+    Variant::TakesMagnitudeOfDueYear,
+    Variant::TakesMagnitudeOfDueMonth,
+    Variant::SaysDuePastLastDayBeforeHolidays,
+];
+
 /// The wrong programs `settle`, which keep the right book.
 pub const WRONG_SETTLES: [Variant; 64] = [
     Variant::ExchangesLagAndHorizon,
@@ -208,10 +226,13 @@ pub const WRONG_SETTLES: [Variant; 64] = [
 
 /// All wrong variants.
 pub fn wrong() -> impl Iterator<Item = Variant> {
-    WRONG_BOOKS.into_iter().chain(WRONG_SETTLES)
+    WRONG_BOOKS
+        .into_iter()
+        .chain(WRONG_CALENDARS)
+        .chain(WRONG_SETTLES)
 }
 
-/// What a call is told beside its arguments: which variant of the book it keeps.
+/// What a call is told beside its arguments: which variant it is a call of.
 #[derive(Clone, Copy, Debug, Default)]
 pub struct Context {
     pub variant: Variant,

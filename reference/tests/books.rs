@@ -1,10 +1,10 @@
 //! The judge: books a single word off, and words of any kind.
 
-use reference::book::{open, size, well_formed};
+use reference::book::{open, size, well_formed, Opening};
 use reference::close::close;
 use reference::generate::books::{kept_book, opened_book, word_case};
 use reference::generate::Rng;
-use reference::history::Opening;
+use reference::layout::Layout;
 use reference::numbers::Answer;
 use reference::submission::submit;
 
@@ -23,8 +23,7 @@ fn judge_every_word(rng: &mut Rng, mut book: Vec<i64>) -> (usize, usize) {
                 let lent = book.clone();
                 assert_eq!(submit(&mut book, &[0; 8]), Answer::at(3, 0));
                 let mut statement = [5; 33];
-                let closed = close(&mut book, &mut statement);
-                assert_eq!((closed.number, closed.position, closed.day), (3, 0, 0));
+                assert_eq!(close(&mut book, &mut statement), Answer::at(3, 0));
                 assert!(book == lent && statement == [5; 33]);
             }
         }
@@ -54,7 +53,7 @@ fn a_single_word_off() {
             accounts,
             lag,
             horizon,
-            first_day,
+            ..Opening::smallest(first_day)
         };
         let (book, _) = kept_book(&mut rng, opening, closes, closes % 2 == 1);
         let judged = judge_every_word(&mut rng, book);
@@ -71,7 +70,7 @@ fn large_books_a_word_off() {
         accounts: 32,
         lag: 2,
         horizon: 2,
-        first_day: 30_000,
+        ..Opening::smallest(30_000)
     };
     let (mut book, _) = kept_book(&mut rng, opening, 5, true);
     for _ in 0..150 {
@@ -91,16 +90,11 @@ fn large_books_a_word_off() {
 #[test]
 fn words_beyond_the_size_are_not_judged() {
     let mut rng = Rng::new(0xBE);
-    let opening = Opening {
-        accounts: 1,
-        lag: 1,
-        horizon: 1,
-        first_day: 9_497,
-    };
+    let opening = Opening::smallest(9_497);
     let (mut book, _) = kept_book(&mut rng, opening, 1, false);
     book.extend([i64::MIN, 1, 395]);
     assert!(well_formed(&book));
-    book.truncate(size(1, 1, 1).unwrap() as usize);
+    book.truncate(size(opening).unwrap() as usize);
     assert!(well_formed(&book));
     book.pop();
     assert!(!well_formed(&book));
@@ -108,20 +102,14 @@ fn words_beyond_the_size_are_not_judged() {
 
 #[test]
 fn intervals_of_a_day_may_differ() {
-    let opening = Opening {
-        accounts: 1,
-        lag: 1,
-        horizon: 1,
-        first_day: 9_497,
-    };
+    let opening = Opening::smallest(9_497);
     let mut book = opened_book(opening);
-    let interval_words = 4 + 24;
+    let layout = Layout::of(opening).unwrap();
     for interval in (0..48).step_by(3) {
-        let at = 72 + interval * interval_words;
-        book[at + 1] = 1;
-        book[at + 4] = 1 + (interval as i64 / 3) % 4;
-        book[at + 4 + 9] = (interval as i64 / 3) % 5;
-        book[at + 4 + 18] = interval as i64 % 2;
+        book[layout.ncc_flag_at(9_497, interval)] = 1;
+        book[layout.vesting_flag_at(9_497, interval, 0)] = 1 + (interval as i64 / 3) % 4;
+        book[layout.meter_flag_at(9_497, interval, 0)] = (interval as i64 / 3) % 5;
+        book[layout.residual_flag_at(9_497, interval, 0)] = interval as i64 % 2;
     }
     assert!(well_formed(&book));
 }
@@ -169,11 +157,18 @@ fn any_opening_is_answered() {
         let first_day = parameter(36_500, 36_523);
         let length = rng.below(20_000);
         let mut book = vec![-9; length];
-        let answer = open(&mut book, accounts, lag, horizon, first_day);
+        let opening = Opening {
+            accounts,
+            lag,
+            horizon,
+            ..Opening::smallest(first_day)
+        };
+        let answer = open(&mut book, opening);
         let fits = (1..=32).contains(&accounts)
             && (1..=75).contains(&lag)
             && (1..=92).contains(&horizon)
             && (9_497..=36_524).contains(&first_day);
+        // The paper's size, not the layout's.
         let needed = fits.then(|| 64 + 8 * accounts + 48 * (lag + horizon) * (4 + 24 * accounts));
         let number = match needed {
             None => 1,

@@ -158,3 +158,28 @@ fn the_calendar_ends_within_the_count() {
     assert_eq!(residual_due_day(2_025, 11, &[]), date_to_day(2_026, 1, 12));
     assert_eq!(residual_due_day(2_025, 12, &[]), date_to_day(2_026, 2, 11));
 }
+
+#[test]
+fn negative_years_and_months() {
+    for year in [-2_000, -2_026, -2_099] {
+        assert_eq!(date_to_day(year, 1, 1), DayAnswer { number: 12, day: 0 });
+        for holidays in [&[][..], &[5, 5]] {
+            let answer = residual_due_day(year, 1, holidays);
+            assert_eq!(answer, DayAnswer { number: 12, day: 0 });
+        }
+    }
+    for month in -12..0 {
+        let answer = residual_due_day(2_026, month, &[]);
+        assert_eq!(answer, DayAnswer { number: 12, day: 0 });
+    }
+}
+
+#[test]
+fn the_list_is_judged_before_the_due_month() {
+    for (month, good, bad) in [(0, 12, 12), (11, 14, 13), (12, 14, 13), (13, 12, 12)] {
+        for (holidays, number) in [(&[5, 6], good), (&[6, 5], bad), (&[5, 5], bad)] {
+            let answer = residual_due_day(2_099, month, holidays);
+            assert_eq!(answer, DayAnswer { number, day: 0 });
+        }
+    }
+}

@@ -1,32 +1,35 @@
 //! The close on books whose intervals differ, and calls that hold no book.
 
-use reference::book::well_formed;
-use reference::close::{close, CloseAnswer};
+use reference::book::{well_formed, Opening};
+use reference::close::close;
 use reference::generate::books::{kept_book, opened_book};
 use reference::generate::files::{Draft, DraftRow};
 use reference::generate::Rng;
-use reference::history::{Opening, METER, VESTING};
+use reference::history::{METER, VESTING};
+use reference::layout::Layout;
+use reference::numbers::Answer;
 use reference::reference_price::reference_price;
 use reference::share::share;
 use reference::submission::submit;
 use reference::tranche::tranche;
 
 /// The flags that a close searches, in order, with the words each covers.
-fn searched(accounts: usize, lag: usize, horizon: usize, closes: usize) -> Vec<(usize, usize)> {
-    let interval_words = 4 + 24 * accounts;
-    let slot_at = |day: usize| 64 + 8 * accounts + day % (lag + horizon) * 48 * interval_words;
+fn searched(opening: Opening, closes: usize) -> Vec<(usize, usize)> {
+    let layout = Layout::of(opening).unwrap();
+    let accounts = 0..layout.accounts();
+    let first_day = opening.first_day as i64;
+    let day = first_day + closes as i64;
+    let residual_day = day - opening.lag as i64;
     let mut flags = Vec::new();
     for interval in 0..48 {
-        let closing = slot_at(closes) + interval * interval_words;
-        for account in 0..accounts {
-            let entry = closing + 4 + 24 * account;
-            flags.extend([(entry, 9), (entry + 9, 9)]);
+        for account in accounts.clone() {
+            flags.push((layout.vesting_flag_at(day, interval, account), 9));
+            flags.push((layout.meter_flag_at(day, interval, account), 9));
         }
-        if closes >= lag {
-            let residual = slot_at(closes - lag) + interval * interval_words;
-            flags.push((residual + 1, 1));
-            for account in 0..accounts {
-                flags.push((residual + 4 + 24 * account + 18, 5));
+        if residual_day >= first_day {
+            flags.push((layout.ncc_flag_at(residual_day, interval), 1));
+            for account in accounts.clone() {
+                flags.push((layout.residual_flag_at(residual_day, interval, account), 5));
             }
         }
     }
@@ -44,10 +47,10 @@ fn the_first_absent_flag_of_a_lent_book() {
             accounts: accounts as u64,
             lag: lag as u64,
             horizon: horizon as u64,
-            first_day: 9_497,
+            ..Opening::smallest(9_497)
         };
         let (mut book, _) = kept_book(&mut rng, opening, closes, true);
-        let flags = searched(accounts as usize, lag as usize, horizon as usize, closes);
+        let flags = searched(opening, closes);
         let mut first = usize::MAX;
         for _ in 0..rng.between(1, 3) {
             let hole = rng.below(flags.len());
@@ -64,7 +67,7 @@ fn the_first_absent_flag_of_a_lent_book() {
         let mut statement = [7; 5];
         assert_eq!(
             close(&mut book, &mut statement),
-            CloseAnswer::refused(11, flags[first].0)
+            Answer::at(11, flags[first].0)
         );
         assert!(book == lent && statement == [7; 5]);
     }
@@ -75,10 +78,8 @@ fn the_first_absent_flag_of_a_lent_book() {
 fn residuals_before_the_first_day_are_not_searched() {
     let mut rng = Rng::new(0xF1);
     let opening = Opening {
-        accounts: 1,
         lag: 2,
-        horizon: 1,
-        first_day: 9_497,
+        ..Opening::smallest(9_497)
     };
     for (closes, count) in [(0, 0), (1, 0), (2, 48)] {
         let (mut book, _) = kept_book(&mut rng, opening, closes, true);
@@ -89,12 +90,8 @@ fn residuals_before_the_first_day_are_not_searched() {
 
 #[test]
 fn each_interval_has_its_own_counts() {
-    let opening = Opening {
-        accounts: 1,
-        lag: 1,
-        horizon: 1,
-        first_day: 9_497,
-    };
+    let opening = Opening::smallest(9_497);
+    let layout = Layout::of(opening).unwrap();
     let mut book = opened_book(opening);
     let row = |section, count, interval: &[i64]| DraftRow {
         key: (section, 0, 9_497),
@@ -105,11 +102,11 @@ fn each_interval_has_its_own_counts() {
     let rows = vec![row(VESTING, 0, &[1_000, 0]), row(METER, 1, &[101, 0])];
     assert_eq!(submit(&mut book, &Draft { rows }.bytes()).number, 0);
     // In interval 2 a second facility: the plain average of 101 and 104 is 103.
-    let entry = 72 + 2 * 28 + 4;
+    let entry = layout.entry_at(9_497, 2, 0);
     book[entry + 9] = 2;
     book[entry + 12] = 104;
     // In interval 3 a tender of 10 kWh at 1,101.
-    let entry = 72 + 3 * 28 + 4;
+    let entry = layout.entry_at(9_497, 3, 0);
     book[entry] = 2;
     book[entry + 3] = 10;
     book[entry + 4] = 1_101;

@@ -1,15 +1,15 @@
 //! Every figure and example of the specification.
 
-use reference::book::{open, size, well_formed};
+use reference::book::{open, size, well_formed, Opening};
 use reference::calendar::{
     date_to_day, day_to_date, final_statement, is_business_day, residual_due_day, statement_day,
     weekday,
 };
-use reference::close::{close, CloseAnswer};
+use reference::close::close;
 use reference::generate::books::kept_book;
 use reference::generate::files::{Draft, DraftRow, Style};
 use reference::generate::Rng;
-use reference::history::{Key, Opening, METER, NCC, RESIDUAL, VESTING};
+use reference::history::{Key, METER, NCC, RESIDUAL, VESTING};
 use reference::numbers::Answer;
 use reference::reference_price::reference_price;
 use reference::settle::settle;
@@ -19,10 +19,13 @@ use reference::tranche::tranche;
 use reference::units::{nearest, THOUSANDTHS_A_CENT};
 
 const WORDS: usize = 5_072;
+const ONE: Opening = Opening::smallest(9_497);
+/// The opening whose book has so many words.
+const TWO: Opening = Opening { accounts: 2, ..ONE };
 
 fn new_book() -> Vec<i64> {
     let mut book = vec![0; WORDS];
-    assert_eq!(open(&mut book, 2, 1, 1, 9_497), Answer::ACCEPTED);
+    assert_eq!(open(&mut book, TWO), Answer::ACCEPTED);
     book
 }
 
@@ -42,8 +45,8 @@ fn row(key: Key, count: u8, interval: &[i64]) -> DraftRow {
 
 /// A book of one account with the given first base row, V being `v`, closed.
 fn closed_with(base: &[(i64, i64)], v: i64) -> Vec<i64> {
-    let mut book = vec![0; size(1, 1, 1).unwrap() as usize];
-    open(&mut book, 1, 1, 1, 9_497);
+    let mut book = vec![0; size(ONE).unwrap() as usize];
+    open(&mut book, ONE);
     let mut vesting = row((VESTING, 0, 9_497), 0, &[0, 0]);
     for (interval, (bvq, bvp)) in base.iter().enumerate() {
         vesting.values[2 * interval] = *bvq;
@@ -136,8 +139,8 @@ fn the_mssl_is_off_by_half_a_cent_an_account_at_most() {
 
 #[test]
 fn the_largest_day_amount() {
-    let mut book = vec![0; size(1, 1, 1).unwrap() as usize];
-    open(&mut book, 1, 1, 1, 9_497);
+    let mut book = vec![0; size(ONE).unwrap() as usize];
+    open(&mut book, ONE);
     let most = [10_000_000, 1_000_000];
     let mut statement = [0; 2];
     for (day, cents) in [(9_497, 3_840_000_000_000), (9_498, 4_800_000_000_000)] {
@@ -165,13 +168,7 @@ fn the_largest_day_amount() {
 #[test]
 fn eight_zero_bytes_change_nothing() {
     let mut rng = Rng::new(8);
-    let opening = Opening {
-        accounts: 2,
-        lag: 1,
-        horizon: 1,
-        first_day: 9_497,
-    };
-    let (mut book, _) = kept_book(&mut rng, opening, 2, true);
+    let (mut book, _) = kept_book(&mut rng, TWO, 2, true);
     let before = book.clone();
     assert_eq!(submit(&mut book, &[0; 8]), Answer::ACCEPTED);
     assert_eq!(book, before);
@@ -179,10 +176,20 @@ fn eight_zero_bytes_change_nothing() {
 
 #[test]
 fn opening_and_size() {
-    assert_eq!(size(2, 1, 1), Some(5_072));
-    assert_eq!(size(32, 75, 92), Some(6_188_672));
+    assert_eq!(size(TWO), Some(5_072));
+    let largest = Opening {
+        accounts: 32,
+        lag: 75,
+        horizon: 92,
+        ..ONE
+    };
+    assert_eq!(size(largest), Some(6_188_672));
+    // The first day has no part in the size.
+    for first_day in [0, 36_525, u64::MAX] {
+        assert_eq!(size(Opening { first_day, ..TWO }), Some(5_072));
+    }
     let mut book = vec![9; WORDS + 1];
-    assert_eq!(open(&mut book, 2, 1, 1, 9_497), Answer::ACCEPTED);
+    assert_eq!(open(&mut book, TWO), Answer::ACCEPTED);
     assert_eq!(book[..7], [395, 2, 1, 1, 9_497, 9_497, 0]);
     assert!(book[7..WORDS].iter().all(|&word| word == 0));
     assert_eq!(book[WORDS], 9);
@@ -192,25 +199,27 @@ fn opening_and_size() {
 fn number_1() {
     let mut book = vec![9; WORDS];
     let lent = book.clone();
-    let good = [2, 1, 1, 9_497];
-    for (parameter, values) in [
-        (0, [0, 33]),
-        (1, [0, 76]),
-        (2, [0, 93]),
-        (3, [9_496, 36_525]),
-    ] {
-        for value in values.into_iter().chain([u64::MAX]) {
-            let mut bad = good;
-            bad[parameter] = value;
-            let [accounts, lag, horizon, first_day] = bad;
-            assert_eq!(
-                open(&mut book, accounts, lag, horizon, first_day),
-                Answer::at(1, 0)
-            );
-        }
+    for accounts in [0, 33, u64::MAX] {
+        let bad = Opening { accounts, ..TWO };
+        assert_eq!(open(&mut book, bad), Answer::at(1, 0));
+    }
+    for lag in [0, 76, u64::MAX] {
+        let bad = Opening { lag, ..TWO };
+        assert_eq!(open(&mut book, bad), Answer::at(1, 0));
+    }
+    for horizon in [0, 93, u64::MAX] {
+        let bad = Opening { horizon, ..TWO };
+        assert_eq!(open(&mut book, bad), Answer::at(1, 0));
+    }
+    for first_day in [9_496, 36_525, u64::MAX] {
+        let bad = Opening { first_day, ..TWO };
+        assert_eq!(open(&mut book, bad), Answer::at(1, 0));
     }
     // 1 comes before 2.
-    assert_eq!(open(&mut [], 0, 1, 1, 9_497), Answer::at(1, 0));
+    assert_eq!(
+        open(&mut [], Opening { accounts: 0, ..TWO }),
+        Answer::at(1, 0)
+    );
     assert_eq!(book, lent);
 
     for (meps, ieqs) in [
@@ -251,7 +260,7 @@ fn number_1() {
 #[test]
 fn number_2() {
     let mut book = vec![9; WORDS - 1];
-    assert_eq!(open(&mut book, 2, 1, 1, 9_497), Answer::at(2, 0));
+    assert_eq!(open(&mut book, TWO), Answer::at(2, 0));
     assert_eq!(book, vec![9; WORDS - 1]);
 }
 
@@ -263,7 +272,7 @@ fn number_3() {
     assert_eq!(submit(&mut book, &[0; 8]), Answer::at(3, 0));
     // Before any number of the file, and before the statement's 10.
     assert_eq!(submit(&mut book, &[]), Answer::at(3, 0));
-    assert_eq!(close(&mut book, &mut []), CloseAnswer::refused(3, 0));
+    assert_eq!(close(&mut book, &mut []), Answer::at(3, 0));
     assert_eq!(book, lent);
 }
 
@@ -288,21 +297,13 @@ fn numbers_4_to_8() {
 #[test]
 fn number_9() {
     let mut rng = Rng::new(9);
-    let opening = Opening {
-        accounts: 1,
-        lag: 1,
-        horizon: 1,
-        first_day: 36_524,
-    };
+    let opening = Opening::smallest(36_524);
     let (mut book, history) = kept_book(&mut rng, opening, 1, false);
     assert!(history.finished() && book[5] == 36_525);
     let lent = book.clone();
     // 9 comes before 10.
     for words in [0, 2] {
-        assert_eq!(
-            close(&mut book, &mut vec![0; words]),
-            CloseAnswer::refused(9, 0)
-        );
+        assert_eq!(close(&mut book, &mut vec![0; words]), Answer::at(9, 0));
     }
     assert_eq!(book, lent);
     // A finished book still takes what the last days' residuals need.
@@ -322,10 +323,7 @@ fn number_10() {
     let mut book = new_book();
     let mut statement = [5, 6];
     // 10 comes before 11.
-    assert_eq!(
-        close(&mut book, &mut statement),
-        CloseAnswer::refused(10, 0)
-    );
+    assert_eq!(close(&mut book, &mut statement), Answer::at(10, 0));
     assert_eq!(statement, [5, 6]);
     let mut shares = [5, 6];
     assert_eq!(share(1, &[1, 1, 1], &mut shares), 10);
@@ -336,10 +334,7 @@ fn number_10() {
 fn number_11() {
     let mut book = new_book();
     let mut statement = [5; 4];
-    assert_eq!(
-        close(&mut book, &mut statement),
-        CloseAnswer::refused(11, 84)
-    );
+    assert_eq!(close(&mut book, &mut statement), Answer::at(11, 84));
     assert_eq!((book, statement), (new_book(), [5; 4]));
 }
 

@@ -1,9 +1,9 @@
 //! The random checker over lists of calls.
 
+use reference::book::Opening;
 use reference::checker::run;
 use reference::generate::lists::{list, list_on, long_list};
 use reference::generate::Rng;
-use reference::history::Opening;
 use reference::variant::Context;
 
 #[test]
@@ -47,7 +47,7 @@ fn a_lag_of_75_is_passed() {
             accounts,
             lag: 75,
             horizon,
-            first_day,
+            ..Opening::smallest(first_day)
         };
         let report = run(Context::RIGHT, &long_list(&mut rng, opening, 85));
         assert!(report.breaches.is_empty(), "{:?}", report.breaches);
@@ -64,7 +64,7 @@ fn many_accounts_hold() {
             accounts,
             lag,
             horizon,
-            first_day: 36_515,
+            ..Opening::smallest(36_515)
         };
         let report = run(Context::RIGHT, &long_list(&mut rng, opening, 6));
         assert!(report.breaches.is_empty(), "{:?}", report.breaches);
@@ -81,7 +81,7 @@ fn the_largest_book_holds() {
         accounts: 32,
         lag: 75,
         horizon: 92,
-        first_day: 9_497,
+        ..Opening::smallest(9_497)
     };
     let report = run(Context::RIGHT, &long_list(&mut rng, opening, 2));
     assert!(report.breaches.is_empty(), "{:?}", report.breaches);

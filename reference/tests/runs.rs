@@ -1,5 +1,6 @@
 //! The stored runs of `settle`, each output written out by hand.
 
+use reference::book::Opening;
 use reference::generate::inputs::Input;
 use reference::generate::runs::runs;
 use reference::settle::settle;
@@ -565,7 +566,12 @@ fn the_longest_accepted_file() {
 
 #[test]
 fn an_input_is_written_in_order() {
-    let input = Input::open(1, 2, 3, 0x0504)
+    let opening = Opening {
+        lag: 2,
+        horizon: 3,
+        ..Opening::smallest(0x0504)
+    };
+    let input = Input::open(opening)
         .close()
         .submit(&[7, 8])
         .bytes(&[9])

@@ -1,20 +1,15 @@
 //! The program `settle`.
 
+use reference::book::Opening;
 use reference::generate::inputs::{input, opening_bytes, submit_bytes};
 use reference::generate::Rng;
-use reference::history::Opening;
 use reference::settle::settle;
 
 fn text(input: &[u8]) -> String {
     String::from_utf8(settle(input)).unwrap()
 }
 
-const OPENING: Opening = Opening {
-    accounts: 1,
-    lag: 1,
-    horizon: 1,
-    first_day: 9_497,
-};
+const OPENING: Opening = Opening::smallest(9_497);
 
 #[test]
 fn generated_inputs() {

@@ -105,6 +105,7 @@ fn openings_at_their_limits() {
             && (1..=75).contains(&l)
             && (1..=92).contains(&h)
             && (9_497..=36_524).contains(&first_day);
+        // The paper's size and first flag, not the layout's.
         let number = match in_range {
             false => 1,
             true if 64 + 8 * n + 48 * (l + h) * (4 + 24 * n) > 5_072 => 2,

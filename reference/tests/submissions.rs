@@ -1,10 +1,10 @@
 //! Submission files: every damage, and files of thousands of rows.
 
-use reference::book::well_formed;
+use reference::book::{well_formed, Opening};
 use reference::generate::books::{kept_book, opened_book};
 use reference::generate::files::{every_damage, Draft, Style};
 use reference::generate::Rng;
-use reference::history::{History, Key, Opening, METER, NCC, RESIDUAL, VESTING};
+use reference::history::{History, Key, METER, NCC, RESIDUAL, VESTING};
 use reference::numbers::Answer;
 use reference::submission::submit;
 
@@ -12,12 +12,7 @@ use reference::submission::submit;
 fn every_damage_of_a_file() {
     let mut rng = Rng::new(0xDA);
     for (first_day, closes) in [(9_497, 0), (20_000, 2), (36_523, 1)] {
-        let opening = Opening {
-            accounts: 1,
-            lag: 1,
-            horizon: 1,
-            first_day,
-        };
+        let opening = Opening::smallest(first_day);
         let (mut book, history) = kept_book(&mut rng, opening, closes, false);
         let day = history.next_day();
         let keys = [VESTING, METER, RESIDUAL, NCC].map(|section| (section, 0, day));
@@ -41,12 +36,7 @@ fn every_damage_of_a_file() {
 
 #[test]
 fn the_first_field_at_fault_decides() {
-    let opening = Opening {
-        accounts: 1,
-        lag: 1,
-        horizon: 1,
-        first_day: 9_497,
-    };
+    let opening = Opening::smallest(9_497);
     let mut book = opened_book(opening);
     let day = 9_497_u16.to_le_bytes();
     let mut answers = |bytes: &[&[u8]]| submit(&mut book, &bytes.concat());
@@ -108,7 +98,7 @@ fn days_open_to_each_section() {
             accounts: 2,
             lag: 2,
             horizon: 3,
-            first_day,
+            ..Opening::smallest(first_day)
         };
         let (book, history) = kept_book(&mut rng, opening, closes, false);
         let next_day = first_day as i64 + closes as i64;
@@ -139,9 +129,8 @@ fn a_revision_replaces_all_that_it_names() {
     let mut rng = Rng::new(0x5E7);
     let opening = Opening {
         accounts: 2,
-        lag: 1,
         horizon: 2,
-        first_day: 12_000,
+        ..Opening::smallest(12_000)
     };
     let (mut book, mut history) = kept_book(&mut rng, opening, 3, true);
     let day = history.next_day();
@@ -164,9 +153,8 @@ fn a_file_of_thousands_of_rows() {
     let mut rng = Rng::new(0xF11E);
     let opening = Opening {
         accounts: 32,
-        lag: 1,
         horizon: 92,
-        first_day: 9_497,
+        ..Opening::smallest(9_497)
     };
     let mut book = opened_book(opening);
     let mut history = History::new(opening);
@@ -199,7 +187,7 @@ fn files_with_bytes_changed_at_random() {
             accounts: rng.pick(&[1, 2, 5]),
             lag: rng.pick(&[1, 2]),
             horizon: rng.pick(&[1, 2]),
-            first_day: rng.pick(&[9_497, 36_522]),
+            ..Opening::smallest(rng.pick(&[9_497, 36_522]))
         };
         let closes = rng.below(3);
         let (mut book, mut history) = kept_book(&mut rng, opening, closes, false);
@@ -225,7 +213,9 @@ fn files_with_bytes_changed_at_random() {
                 _ => {}
             }
             let lent = book.clone();
-            let Answer { number, position } = submit(&mut book, &file);
+            let Answer {
+                number, position, ..
+            } = submit(&mut book, &file);
             numbers[usize::from(number)] += 1;
             history.submitted(&file, number);
             assert!(book == history.words() && well_formed(&book));

@@ -1,5 +1,6 @@
 //! Each wrong book is shown by the generated cases.
 
+use reference::calendar::{date_to_day, date_to_day_in, residual_due_day, residual_due_day_in};
 use reference::checker::run;
 use reference::generate::inputs::input;
 use reference::generate::lists::list;
@@ -96,4 +97,26 @@ fn calls_on_no_book_show_their_wrong_variants() {
     assert_eq!(reference_price_in(refusing, &meps, &ieqs).number, 1);
     assert_eq!(share_in(refusing, 1, &[1], &mut [0]), 1);
     assert_eq!(tranche_in(refusing, 1, 1, 1).number, 1);
+}
+
+#[test]
+fn wrong_calendars_answer_their_slips() {
+    let year = Context::of(Variant::TakesMagnitudeOfYear);
+    assert_eq!(date_to_day_in(year, -2_026, 1, 1), date_to_day(2_026, 1, 1));
+    assert_eq!(date_to_day_in(year, i64::MIN, 1, 1).number, 12);
+    assert_eq!(residual_due_day_in(year, -2_026, 1, &[]).number, 12);
+
+    let january = residual_due_day(2_026, 1, &[]);
+    let year = Context::of(Variant::TakesMagnitudeOfDueYear);
+    assert_eq!(residual_due_day_in(year, -2_026, 1, &[]), january);
+    assert_eq!(residual_due_day_in(year, 2_026, -1, &[]).number, 12);
+    let month = Context::of(Variant::TakesMagnitudeOfDueMonth);
+    assert_eq!(residual_due_day_in(month, 2_026, -1, &[]), january);
+    assert_eq!(residual_due_day_in(month, -2_026, 1, &[]).number, 12);
+
+    let order = Context::of(Variant::SaysDuePastLastDayBeforeHolidays);
+    for (month, number) in [(10, 13), (11, 14), (12, 14), (13, 12)] {
+        let answer = residual_due_day_in(order, 2_099, month, &[5, 5]);
+        assert_eq!((answer.number, answer.day), (number, 0));
+    }
 }

@@ -1,8 +1,9 @@
 //! Small books with rows, as calls left them, and changes of single words.
 
+use reference::book::Opening;
 use reference::generate::books::{kept_book, word_case};
 use reference::generate::Rng;
-use reference::history::{History, Opening};
+use reference::history::History;
 
 /// A well-formed book of a small size, with rows of open and closed days.
 pub fn small_book(rng: &mut Rng) -> (Vec<i64>, History) {

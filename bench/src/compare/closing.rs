@@ -4,10 +4,11 @@ use super::books::{small_book, Change};
 use super::tally::Tally;
 use super::{both_close, same_words};
 use crate::robijan;
+use reference::book::Opening;
 use reference::generate::files::{Draft, STYLES};
 use reference::generate::Rng;
 use reference::history::{History, Key};
-use reference::numbers::ACCEPTED;
+use reference::numbers::{Answer, ACCEPTED};
 use reference::submission::submit;
 
 /// Cases for each book made.
@@ -45,12 +46,7 @@ pub fn close(rng: &mut Rng, cases: usize, tally: &mut Tally) -> Result<(), Strin
             ours.clone_from(&kept);
             theirs = kept;
         } else if told.number == u64::from(ACCEPTED) {
-            let answer = reference::close::CloseAnswer {
-                number: ACCEPTED,
-                position: 0,
-                day: told.day as i64,
-                residual_count: told.count as i64,
-            };
+            let answer = Answer::closed(told.day as i64, told.count as i64);
             history.closed(length, &answer);
         }
     }
@@ -88,7 +84,7 @@ fn prepare(
     let told = robijan::submit(ours, &file);
     let answer = submit(theirs, &file);
     let header = ours[..6].to_vec();
-    super::same(told, super::without_day(answer), || {
+    super::same(told, super::told_by(answer), || {
         format!("submission before a close, book {header:?}")
     })?;
     history.submitted(&file, answer.number);
@@ -109,7 +105,7 @@ fn damage(
             "a datum lost at one interval"
         }
         5 => {
-            let size = reference::book::size(kept[1] as u64, kept[2] as u64, kept[3] as u64);
+            let size = reference::book::size(opening_of(&kept));
             let book = &kept[..size.unwrap_or(0) as usize];
             Change::random(rng, book).make(ours);
             "a word changed"
@@ -141,4 +137,16 @@ fn forget(rng: &mut Rng, book: &mut [i64]) {
         (false, _) => account + 9..account + 18,
     };
     book[datum].fill(0);
+}
+
+/// The opening that a book's header tells.
+fn opening_of(book: &[i64]) -> Opening {
+    let [accounts, lag, horizon, first_day] =
+        [book[1], book[2], book[3], book[4]].map(|term| term as u64);
+    Opening {
+        accounts,
+        lag,
+        horizon,
+        first_day,
+    }
 }

@@ -2,10 +2,10 @@
 
 use super::books::{small_book, Change};
 use super::tally::Tally;
-use super::{same, same_words, without_day};
+use super::{same, same_words, told_by};
 use crate::plain;
 use crate::robijan::{self, Terms};
-use reference::book::{open as reference_open, size, well_formed};
+use reference::book::{open as reference_open, size, well_formed, Opening};
 use reference::generate::Rng;
 use reference::numbers::BAD_PARAMETER;
 
@@ -87,7 +87,13 @@ pub fn open(rng: &mut Rng, cases: usize, tally: &mut Tally) -> Result<(), String
             terms[rng.below(4)] = rng.pick(&[bound, bound, other]);
         }
         let [accounts, lag, horizon, first] = terms.map(|term| term as u64);
-        let needed = size(accounts, lag, horizon).unwrap_or(100) as usize;
+        let opening = Opening {
+            accounts,
+            lag,
+            horizon,
+            first_day: first,
+        };
+        let needed = size(opening).unwrap_or(100) as usize;
         let length = match rng.below(4) {
             0 => needed + rng.below(5),
             1 => needed - rng.below(5),
@@ -104,11 +110,11 @@ pub fn open(rng: &mut Rng, cases: usize, tally: &mut Tally) -> Result<(), String
             first: first as usize,
         };
         let told = robijan::open(&mut ours, lent);
-        let answer = reference_open(&mut theirs, accounts, lag, horizon, first);
-        same(told, without_day(answer), described)?;
+        let answer = reference_open(&mut theirs, opening);
+        same(told, told_by(answer), described)?;
         same_words(&ours, &theirs, described)?;
         let told_size = robijan::book_size(lent);
-        let expected = match size(accounts, lag, horizon) {
+        let expected = match size(opening) {
             Some(words) if answer.number != BAD_PARAMETER => (0, words),
             _ => (1, 0),
         };

@@ -1,12 +1,11 @@
 //! Lists of calls, each on the book as the last call left it: openings, submissions, revisions and closes, accepted and refused.
 
 use super::tally::Tally;
-use super::{both_close, same, same_words, without_day};
+use super::{both_close, same, same_words, told_by};
 use crate::robijan::{self, Terms};
-use reference::book::{open, size};
+use reference::book::{open, size, Opening};
 use reference::generate::lists::{list, list_on, long_list, Call, List};
 use reference::generate::Rng;
-use reference::history::Opening;
 use reference::submission::submit;
 
 /// Lists until so many calls were made.
@@ -74,7 +73,7 @@ pub fn run(
         horizon,
         first_day,
     } = list.opening;
-    let words = size(accounts, lag, horizon).unwrap_or(0) as usize + list.spare_words;
+    let words = size(list.opening).unwrap_or(0) as usize + list.spare_words;
     let mut ours = rng.words(words);
     let mut theirs = ours.clone();
     let of_list = |call: &str| format!("list {number}, {:?}, {call}", list.opening);
@@ -86,8 +85,8 @@ pub fn run(
         first: first_day as usize,
     };
     let told = robijan::open(&mut ours, terms);
-    let answer = open(&mut theirs, accounts, lag, horizon, first_day);
-    same(told, without_day(answer), || of_list("open"))?;
+    let answer = open(&mut theirs, list.opening);
+    same(told, told_by(answer), || of_list("open"))?;
     same_words(&ours, &theirs, || of_list("open"))?;
     tally.add("open", told.number, told.position);
     *made += 1;
@@ -98,7 +97,7 @@ pub fn run(
                 let told = robijan::submit(&mut ours, file);
                 let answer = submit(&mut theirs, file);
                 let described = || of_list(&format!("call {at}, submit of {} bytes", file.len()));
-                same(told, without_day(answer), described)?;
+                same(told, told_by(answer), described)?;
                 same_words(&ours, &theirs, described)?;
                 tally.add("submit", told.number, told.position);
             }

@@ -2,7 +2,7 @@
 
 use super::books::{small_book, Change};
 use super::tally::Tally;
-use super::{same, same_words, without_day};
+use super::{same, same_words, told_by};
 use crate::robijan;
 use reference::generate::files::{damaged, Draft, STYLES};
 use reference::generate::Rng;
@@ -36,7 +36,7 @@ pub fn submit(rng: &mut Rng, cases: usize, tally: &mut Tally) -> Result<(), Stri
         };
         let told = robijan::submit(&mut book, &file);
         let answer = reference_submit(&mut theirs, &file);
-        same(told, without_day(answer), described)?;
+        same(told, told_by(answer), described)?;
         same_words(&book, &theirs, described)?;
         tally.add(kind, told.number, told.position);
         if let (Some(change), Some(kept)) = (change, kept) {

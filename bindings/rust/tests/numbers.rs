@@ -7,10 +7,20 @@ fn refused<T: std::fmt::Debug>(answer: Result<T, Refusal>) -> (u64, u64) {
     (refusal.number, refusal.position)
 }
 
-/// A book of two accounts, lag and horizon 1, from this day on.
+/// Lag and horizon 1.
+fn terms(accounts: usize, first: usize) -> Terms {
+    Terms {
+        accounts,
+        lag: 1,
+        horizon: 1,
+        first,
+    }
+}
+
+/// A book of two accounts from this day on.
 fn book(first: usize) -> Vec<i64> {
     let mut book = vec![0; 5_072];
-    open(&mut book, 2, 1, 1, first).unwrap();
+    open(&mut book, terms(2, first)).unwrap();
     book
 }
 
@@ -30,9 +40,9 @@ fn rows(count: u8, day: u16, given: u8) -> Vec<u8> {
 fn opening() {
     assert_eq!(numbers::ACCEPTED, 0);
     let mut words = vec![0; 5_072];
-    assert_eq!(refused(open(&mut words, 0, 1, 1, 9_497)), (1, 0));
+    assert_eq!(refused(open(&mut words, terms(0, 9_497))), (1, 0));
     assert_eq!(numbers::OUTSIDE_RANGE, 1);
-    assert_eq!(refused(open(&mut words[1..], 2, 1, 1, 9_497)), (2, 0));
+    assert_eq!(refused(open(&mut words[1..], terms(2, 9_497))), (2, 0));
     assert_eq!(numbers::WORDS_TOO_FEW, 2);
 }
 
@@ -64,7 +74,7 @@ fn closing() {
 
     // One account's last day of all.
     let mut one = vec![0; 2_760];
-    open(&mut one, 1, 1, 1, 36_524).unwrap();
+    open(&mut one, terms(1, 36_524)).unwrap();
     let file = [rows(1, 36_524, 0), rows(1, 36_524, 1), vec![0; 4]].concat();
     submit(&mut one, &file).unwrap();
     let closed = close(&mut one, &mut [0; 2]).unwrap();

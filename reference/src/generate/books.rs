@@ -2,9 +2,13 @@
 
 use super::files::{Draft, Style, STYLES};
 use super::Rng;
-use crate::book::{open, size};
+use crate::book::{open, read_header, size, Opening};
 use crate::close::close;
-use crate::history::{History, Key, Opening};
+use crate::history::{History, Key};
+use crate::layout::{
+    ACCOUNT_WORDS, ENTRY_WORDS, ENTRY_ZERO, HEADER_WORDS, METER_FLAG, MSSL_BALANCE, NCC_FLAG,
+    NCC_VALUE, NCC_WORDS, NEXT_DAY, RESIDUAL_FLAG, VESTING_FLAG,
+};
 use crate::submission::submit;
 use crate::units::{IEQ, NCC_LOAD, PRICE, QUANTITY};
 use std::ops::RangeInclusive;
@@ -37,14 +41,8 @@ pub fn kept_book(
 }
 
 pub fn opened_book(opening: Opening) -> Vec<i64> {
-    let Opening {
-        accounts,
-        lag,
-        horizon,
-        first_day,
-    } = opening;
-    let mut book = vec![-7; size(accounts, lag, horizon).unwrap_or(0) as usize];
-    open(&mut book, accounts, lag, horizon, first_day);
+    let mut book = vec![-7; size(opening).unwrap_or(0) as usize];
+    open(&mut book, opening);
     book
 }
 
@@ -74,64 +72,73 @@ pub struct WordCase {
 
 /// What one word of a well-formed book may and may not be.
 pub fn word_case(book: &[i64], index: usize) -> WordCase {
-    let (accounts, slots) = (book[1] as usize, book[2] + book[3]);
-    let (first_day, next_day) = (book[4], book[5]);
+    let Some(header) = read_header(book) else {
+        return off(&[]);
+    };
+    let layout = header.layout();
+    let (first_day, next_day) = (header.first_day(), header.next_day());
     let bound = (next_day - first_day) * DAY_BOUND;
-    if index < 64 {
+    if index < HEADER_WORDS {
+        let mssl_bound = bound * layout.accounts() as i64;
         return match index {
             0 => off(&[394, 396, 0, -395]),
             1 => off(&[0, 33, -1, i64::MIN, i64::MAX]),
             2 => off(&[0, 76, -1, i64::MIN, i64::MAX]),
             3 => off(&[0, 93, -1, i64::MIN, i64::MAX]),
             4 => off(&[9_496, 36_525, next_day + 1, 0, i64::MIN, i64::MAX]),
-            5 => off(&[first_day - 1, 36_526, 0, i64::MIN, i64::MAX]),
-            6 => within(-bound * accounts as i64..=bound * accounts as i64),
+            NEXT_DAY => off(&[first_day - 1, 36_526, 0, i64::MIN, i64::MAX]),
+            MSSL_BALANCE => within(-mssl_bound..=mssl_bound),
             _ => zero(),
         };
     }
-    if index < 64 + 8 * accounts {
-        return if index.is_multiple_of(8) {
+    if index < layout.first_interval_at() {
+        return if (index - HEADER_WORDS).is_multiple_of(ACCOUNT_WORDS) {
             within(-bound..=bound)
         } else {
             zero()
         };
     }
 
-    let interval_words = 4 + 24 * accounts;
-    let within_slots = index - 64 - 8 * accounts;
-    let slot = (within_slots / (48 * interval_words)) as i64;
-    let oldest = first_day.max(next_day - book[2]);
-    let newest = 36_524.min(next_day + book[3] - 1);
-    let Some(day) = (oldest..=newest).find(|day| (day - first_day) % slots == slot) else {
+    let within_slots = index - layout.first_interval_at();
+    let slot = within_slots / layout.slot_words();
+    let Opening { lag, horizon, .. } = header.opening();
+    let oldest = first_day.max(next_day - lag as i64);
+    let newest = 36_524.min(next_day + horizon as i64 - 1);
+    let Some(day) = (oldest..=newest).find(|&day| layout.slot(day) == slot) else {
         return zero();
     };
-    let within_interval = within_slots % interval_words;
-    if within_interval < 4 {
-        let ncc = &book[index - within_interval..][..2];
+    let within_interval = within_slots % layout.interval_words();
+    if within_interval < NCC_WORDS {
+        let ncc = &book[index - within_interval..][..NCC_WORDS];
         return match within_interval {
-            0 if ncc[1] == 1 => within(NCC_LOAD),
-            1 if ncc[0] != 0 => off(&[0, 2, -1]),
-            1 => WordCase {
+            NCC_VALUE if ncc[NCC_FLAG] == 1 => within(NCC_LOAD),
+            NCC_FLAG if ncc[NCC_VALUE] != 0 => off(&[0, 2, -1]),
+            NCC_FLAG => WordCase {
                 off: vec![2, -1],
                 fine: vec![0, 1],
             },
             _ => zero(),
         };
     }
-    let word = (within_interval - 4) % 24;
-    let entry = &book[index - word..][..24];
-    match word {
-        0..=8 => group_case(&entry[..9], word, day < next_day, 4, &[QUANTITY, PRICE]),
-        9..=17 => group_case(&entry[9..18], word - 9, day < next_day, 4, &[PRICE, IEQ]),
-        18..=22 => group_case(
-            &entry[18..23],
-            word - 18,
-            false,
-            1,
-            &[QUANTITY, QUANTITY, PRICE, PRICE],
-        ),
-        _ => zero(),
-    }
+    let word = (within_interval - NCC_WORDS) % ENTRY_WORDS;
+    let entry = &book[index - word..][..ENTRY_WORDS];
+    let closed = day < next_day;
+    let (group, needed, most, ranges) = match word {
+        VESTING_FLAG..METER_FLAG => (VESTING_FLAG..METER_FLAG, closed, 4, &[QUANTITY, PRICE][..]),
+        METER_FLAG..RESIDUAL_FLAG => (METER_FLAG..RESIDUAL_FLAG, closed, 4, &[PRICE, IEQ][..]),
+        RESIDUAL_FLAG..ENTRY_ZERO => {
+            let ranges = &[QUANTITY, QUANTITY, PRICE, PRICE][..];
+            (RESIDUAL_FLAG..ENTRY_ZERO, false, 1, ranges)
+        }
+        _ => return zero(),
+    };
+    group_case(
+        &entry[group.clone()],
+        word - group.start,
+        needed,
+        most,
+        ranges,
+    )
 }
 
 /// A word of a group of a flag and, `most` times, values of these ranges.

@@ -59,12 +59,12 @@ struct Field {
 }
 
 /// A written file and its fields.
-struct Layout {
+struct Written {
     bytes: Vec<u8>,
     fields: Vec<Field>,
 }
 
-impl Layout {
+impl Written {
     fn put(&mut self, bytes: &[u8], kind: Kind) {
         self.fields.push(Field {
             at: self.bytes.len(),
@@ -122,11 +122,11 @@ impl Draft {
     }
 
     pub fn bytes(&self) -> Vec<u8> {
-        self.layout().bytes
+        self.written().bytes
     }
 
-    fn layout(&self) -> Layout {
-        let mut layout = Layout {
+    fn written(&self) -> Written {
+        let mut written = Written {
             bytes: Vec::new(),
             fields: Vec::new(),
         };
@@ -136,25 +136,25 @@ impl Draft {
                 .iter()
                 .filter(|row| row.key.0 == section)
                 .collect();
-            layout.put(&(rows.len() as u16).to_le_bytes(), Kind::RowCount);
+            written.put(&(rows.len() as u16).to_le_bytes(), Kind::RowCount);
             for row in rows {
                 let (_, account, day) = row.key;
                 if section != NCC {
-                    layout.put(&[account as u8], Kind::Account);
+                    written.put(&[account as u8], Kind::Account);
                 }
-                layout.put(&(day as u16).to_le_bytes(), Kind::Day { section });
+                written.put(&(day as u16).to_le_bytes(), Kind::Day { section });
                 if section <= METER {
                     let legal = if section == VESTING { 0..=3 } else { 1..=4 };
-                    layout.put(&[row.count], Kind::Count { legal });
+                    written.put(&[row.count], Kind::Count { legal });
                 }
                 let legal = legal_values(section, row.count);
                 for (value, legal) in row.values.iter().zip(legal.iter().cycle()) {
                     let legal = legal.clone();
-                    layout.put(&(*value as i32).to_le_bytes(), Kind::Value { legal });
+                    written.put(&(*value as i32).to_le_bytes(), Kind::Value { legal });
                 }
             }
         }
-        layout
+        written
     }
 }
 
@@ -252,7 +252,7 @@ pub fn damaged(rng: &mut Rng, draft: &Draft, history: &History) -> (Vec<u8>, Ans
     if !draft.rows.is_empty() && rng.percent(15) {
         return repeated(rng, draft);
     }
-    let Layout { mut bytes, fields } = draft.layout();
+    let Written { mut bytes, fields } = draft.written();
     match rng.below(10) {
         0 => trailing(rng, bytes),
         1..=3 => {
@@ -297,13 +297,13 @@ fn repeated(rng: &mut Rng, draft: &Draft) -> (Vec<u8>, Answer) {
     let section = twice.key.0;
     twice.values.fill(0);
     draft.rows.push(twice);
-    let layout = draft.layout();
+    let written = draft.written();
     // The copy is the last row of its section.
     let of_section =
         |field: &&Field| matches!(field.kind, Kind::Day { section: of } if of == section);
-    let last = layout.fields.iter().rfind(of_section);
+    let last = written.fields.iter().rfind(of_section);
     let at = last.map_or(0, |field| field.at);
-    (layout.bytes, Answer::at(ROW_REPEATED, at))
+    (written.bytes, Answer::at(ROW_REPEATED, at))
 }
 
 /// The faulty bytes that a field can get, with its position and the number.
@@ -345,7 +345,7 @@ fn faults(field: &Field, history: &History) -> Vec<(usize, Vec<u8>, u8)> {
 /// Calls back with every damage of one field: each cut, each fault, each row
 /// repeated, and a byte after the end.
 pub fn every_damage(draft: &Draft, history: &History, mut case: impl FnMut(&[u8], Answer)) {
-    let Layout { bytes, fields } = draft.layout();
+    let Written { bytes, fields } = draft.written();
     for field in &fields {
         for end in field.at..field.at + field.length {
             case(&bytes[..end], Answer::at(NOT_WHOLE, field.at));
@@ -362,13 +362,13 @@ pub fn every_damage(draft: &Draft, history: &History, mut case: impl FnMut(&[u8]
         let only = Draft {
             rows: vec![row.clone(), row.clone()],
         };
-        let layout = only.layout();
-        let mut days = layout
+        let written = only.written();
+        let mut days = written
             .fields
             .iter()
             .filter(|field| matches!(field.kind, Kind::Day { .. }));
         let at = days.next_back().map_or(0, |field| field.at);
-        case(&layout.bytes, Answer::at(ROW_REPEATED, at));
+        case(&written.bytes, Answer::at(ROW_REPEATED, at));
     }
     let mut longer = bytes.clone();
     longer.push(0);

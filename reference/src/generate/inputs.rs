@@ -3,23 +3,31 @@
 use super::files::{Draft, DraftRow};
 use super::lists::{list_on, Call};
 use super::Rng;
-use crate::history::{History, Opening};
+use crate::book::Opening;
+use crate::history::History;
 use crate::numbers::{Answer, ACCEPTED};
 use crate::settle::{CLOSE, SUBMIT};
 
-/// The books that fit 5,072 words: N, L and H.
-pub const SHAPES: [(u64, u64, u64); 4] = [(1, 1, 1), (1, 1, 2), (1, 2, 1), (2, 1, 1)];
+const ONE: Opening = Opening::smallest(9_497);
 
-/// The opening bytes of `settle`.
+/// The openings whose books fit 5,072 words, but for the first day.
+pub const SHAPES: [Opening; 4] = [
+    ONE,
+    Opening { horizon: 2, ..ONE },
+    Opening { lag: 2, ..ONE },
+    Opening { accounts: 2, ..ONE },
+];
+
+/// The opening bytes of `settle`; of each parameter those that have a place.
 pub fn opening_bytes(opening: Opening) -> Vec<u8> {
-    let [low, high] = (opening.first_day as u16).to_le_bytes();
-    vec![
-        opening.accounts as u8,
-        opening.lag as u8,
-        opening.horizon as u8,
-        low,
-        high,
-    ]
+    let Opening {
+        accounts,
+        lag,
+        horizon,
+        first_day,
+    } = opening;
+    let [low, high] = (first_day as u16).to_le_bytes();
+    vec![accounts as u8, lag as u8, horizon as u8, low, high]
 }
 
 pub fn submit_bytes(file: &[u8]) -> Vec<u8> {
@@ -34,9 +42,8 @@ pub fn submit_bytes(file: &[u8]) -> Vec<u8> {
 pub struct Input(Vec<u8>);
 
 impl Input {
-    pub fn open(accounts: u8, lag: u8, horizon: u8, first_day: u16) -> Input {
-        let [low, high] = first_day.to_le_bytes();
-        Input(vec![accounts, lag, horizon, low, high])
+    pub fn open(opening: Opening) -> Input {
+        Input(opening_bytes(opening))
     }
 
     pub fn close(self) -> Input {
@@ -113,21 +120,16 @@ impl Told {
 
 /// An input of some commands, perhaps with a bad ending, and its output.
 pub fn input(rng: &mut Rng) -> (Vec<u8>, String) {
-    let (accounts, lag, horizon) = rng.pick(&SHAPES);
+    let shape = rng.pick(&SHAPES);
     let first_day = rng.pick(&[9_497, 20_000, 36_521, 36_524]);
-    let opening = Opening {
-        accounts,
-        lag,
-        horizon,
-        first_day,
-    };
+    let opening = Opening { first_day, ..shape };
     let mut told = Told::open(opening);
     let steps = rng.below(30);
     for call in list_on(rng, opening, steps).calls {
         match call {
             Call::Submit { file, expected } => told.submit(&file, expected),
             // The program has room for every statement.
-            Call::Close { statement_words } if statement_words <= accounts as usize => {}
+            Call::Close { statement_words } if statement_words <= opening.accounts as usize => {}
             Call::Close { .. } => told.close(),
         }
     }

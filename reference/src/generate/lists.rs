@@ -2,7 +2,8 @@
 
 use super::files::{damaged, Draft, Style, STYLES};
 use super::Rng;
-use crate::history::{History, Key, Opening};
+use crate::book::Opening;
+use crate::history::{History, Key};
 use crate::numbers::{Answer, ACCEPTED, NOT_WHOLE, OUT_OF_RANGE};
 
 pub enum Call {
@@ -63,7 +64,7 @@ fn small_opening(rng: &mut Rng) -> Opening {
         accounts: rng.pick(&[1, 1, 1, 2, 2, 3]),
         lag: rng.pick(&[1, 1, 1, 2, 2, 3]),
         horizon: rng.pick(&[1, 1, 2, 2, 3]),
-        first_day: first_day as u64,
+        ..Opening::smallest(first_day as u64)
     }
 }
 

@@ -5,6 +5,7 @@
 
 use super::files::{even_row, Draft, DraftRow};
 use super::inputs::{submit_bytes, Input};
+use crate::book::Opening;
 use crate::history::{METER, NCC, RESIDUAL, VESTING};
 use crate::settle::{CLOSE, LONGEST_FILE, SUBMIT};
 
@@ -44,13 +45,19 @@ pub fn runs() -> Vec<Run> {
 type Named = (&'static str, Vec<u8>);
 
 /// N = 1, L = H = 1.
+const ONE: Opening = from(DAY);
+
+const fn from(first_day: u16) -> Opening {
+    Opening::smallest(first_day as u64)
+}
+
 fn one() -> Input {
-    Input::open(1, 1, 1, DAY)
+    Input::open(ONE)
 }
 
 /// N = 2, L = H = 1: all 5,072 words.
 fn two() -> Input {
-    Input::open(2, 1, 1, DAY)
+    Input::open(Opening { accounts: 2, ..ONE })
 }
 
 fn vesting(account: usize, day: u16, bvq: i64, bvp: i64) -> DraftRow {
@@ -89,10 +96,7 @@ fn file(rows: &[DraftRow]) -> Vec<u8> {
 
 fn openings() -> Vec<Named> {
     let opening = one().finish();
-    let refused = |accounts, lag, horizon, first_day| {
-        let input = Input::open(accounts, lag, horizon, first_day);
-        input.bytes(&MORE).finish()
-    };
+    let refused = |opening| Input::open(opening).bytes(&MORE).finish();
     vec![
         // Fewer than five bytes are a bad item at 0.
         ("empty_input", vec![]),
@@ -104,33 +108,67 @@ fn openings() -> Vec<Named> {
         ("opening_only", opening),
         // A refused opening prints its line, and what follows is not read:
         // each parameter just out of its range is 1.
-        ("no_accounts", refused(0, 1, 1, DAY)),
-        ("accounts_33", refused(33, 1, 1, DAY)),
-        ("no_lag", refused(1, 0, 1, DAY)),
-        ("no_horizon", refused(1, 1, 0, DAY)),
-        ("horizon_93", refused(1, 1, 93, DAY)),
-        ("first_day_9496", refused(1, 1, 1, DAY - 1)),
-        ("first_day_36525", refused(1, 1, 1, LAST_DAY + 1)),
-        ("first_day_65535", refused(1, 1, 1, 65_535)),
+        ("no_accounts", refused(Opening { accounts: 0, ..ONE })),
+        (
+            "accounts_33",
+            refused(Opening {
+                accounts: 33,
+                ..ONE
+            }),
+        ),
+        ("no_lag", refused(Opening { lag: 0, ..ONE })),
+        ("no_horizon", refused(Opening { horizon: 0, ..ONE })),
+        ("horizon_93", refused(Opening { horizon: 93, ..ONE })),
+        ("first_day_9496", refused(from(DAY - 1))),
+        ("first_day_36525", refused(from(LAST_DAY + 1))),
+        ("first_day_65535", refused(from(65_535))),
         // L and H exchanged would give the other's number: 76 is no lag, but
         // a horizon, for which the words are too few.
-        ("lag_76", refused(1, 76, 1, DAY)),
-        ("horizon_76", refused(1, 1, 76, DAY)),
+        ("lag_76", refused(Opening { lag: 76, ..ONE })),
+        ("horizon_76", refused(Opening { horizon: 76, ..ONE })),
         // The largest lag is one.
-        ("lag_75", refused(1, 75, 1, DAY)),
+        ("lag_75", refused(Opening { lag: 75, ..ONE })),
         // All in range, but more than 5,072 words: 7,384, 5,448 and 7,568,
         // and the largest book.
-        ("three_accounts", refused(3, 1, 1, DAY)),
-        ("lag_and_horizon_of_4", refused(1, 2, 2, DAY)),
-        ("two_accounts_lag_2", refused(2, 2, 1, DAY)),
-        ("largest_book", refused(32, 75, 92, LAST_DAY)),
+        ("three_accounts", refused(Opening { accounts: 3, ..ONE })),
+        (
+            "lag_and_horizon_of_4",
+            refused(Opening {
+                lag: 2,
+                horizon: 2,
+                ..ONE
+            }),
+        ),
+        (
+            "two_accounts_lag_2",
+            refused(Opening {
+                accounts: 2,
+                lag: 2,
+                ..ONE
+            }),
+        ),
+        (
+            "largest_book",
+            refused(Opening {
+                accounts: 32,
+                lag: 75,
+                horizon: 92,
+                ..from(LAST_DAY)
+            }),
+        ),
         // 1 comes before 2.
-        ("three_accounts_first_day_9496", refused(3, 1, 1, DAY - 1)),
+        (
+            "three_accounts_first_day_9496",
+            refused(Opening {
+                accounts: 3,
+                ..from(DAY - 1)
+            }),
+        ),
         // Both bytes of F count, and either order of them is a first day:
         // hex 26 25 is 9,510, the other way round 9,765.
         (
             "first_day_bytes",
-            Input::open(1, 1, 1, 9_510)
+            Input::open(from(9_510))
                 .submit_rows(&plain_day(0, 9_510))
                 .close()
                 .finish(),
@@ -138,7 +176,7 @@ fn openings() -> Vec<Named> {
         // The largest F, which no signed 16 bits hold.
         (
             "first_day_36524",
-            Input::open(1, 1, 1, LAST_DAY).close().finish(),
+            Input::open(from(LAST_DAY)).close().finish(),
         ),
     ]
 }
@@ -435,7 +473,7 @@ fn closes() -> Vec<Named> {
         }),
         // The same with a lag of 2, all three slots, and the first one again.
         ("absent_flags_lag_2", {
-            let input = Input::open(1, 2, 1, DAY);
+            let input = Input::open(Opening { lag: 2, ..ONE });
             let input = row_by_row(input, &no_hedges(0, DAY));
             let input = row_by_row(input, &no_hedges(0, next));
             let third = [
@@ -460,7 +498,7 @@ fn closes() -> Vec<Named> {
                 row.values[..2].copy_from_slice(&[1, thousandths]);
                 [row, meter(0, day, 0)]
             };
-            Input::open(1, 2, 1, DAY)
+            Input::open(Opening { lag: 2, ..ONE })
                 .submit_rows(&sum(DAY, 500))
                 .close()
                 .submit_rows(&sum(next, -500))
@@ -477,7 +515,7 @@ fn closes() -> Vec<Named> {
                 let meter = even_row((METER, 0, day.into()), facilities, pairs);
                 [vesting(0, day, 1_000, 0), meter]
             };
-            Input::open(1, 2, 1, DAY)
+            Input::open(Opening { lag: 2, ..ONE })
                 .submit_rows(&day(DAY, 3, &[100, 2, 200, 2, 300, -1]))
                 .close()
                 .submit_rows(&day(next, 2, &[101, -5, 104, 0]))
@@ -512,7 +550,7 @@ fn closes() -> Vec<Named> {
         // that day are still open.
         (
             "finished_book",
-            Input::open(1, 1, 1, LAST_DAY)
+            Input::open(from(LAST_DAY))
                 .submit_rows(&plain_day(0, LAST_DAY))
                 .close()
                 .close()
@@ -536,7 +574,7 @@ fn lives() -> Vec<Named> {
         // Days without residuals, of both signs: L = 2 leaves two of them.
         (
             "close_without_residuals",
-            Input::open(1, 2, 1, DAY)
+            Input::open(Opening { lag: 2, ..ONE })
                 .submit_rows(&plain_day(0, DAY))
                 .close()
                 .submit_rows(&[vesting(0, next, 1_000, 9_000), meter(0, next, 10_000)])
@@ -598,7 +636,7 @@ fn lives() -> Vec<Named> {
         // second. L and H exchanged would refuse the first file.
         (
             "lag_1_horizon_2",
-            Input::open(1, 1, 2, DAY)
+            Input::open(Opening { horizon: 2, ..ONE })
                 .submit_rows(&[plain_day(0, DAY), plain_day(0, next)].concat())
                 .submit_rows(&plain_day(0, third))
                 .close()
@@ -616,7 +654,7 @@ fn lives() -> Vec<Named> {
         // exchanged would accept the second file.
         (
             "lag_2_horizon_1",
-            Input::open(1, 2, 1, DAY)
+            Input::open(Opening { lag: 2, ..ONE })
                 .submit_rows(&plain_day(0, DAY))
                 .submit_rows(&plain_day(0, next))
                 .close()
@@ -632,14 +670,17 @@ fn lives() -> Vec<Named> {
         // The last two days with a horizon of 2: none opens past 36,524.
         ("last_days", {
             let eve = LAST_DAY - 1;
-            Input::open(1, 1, 2, eve)
-                .submit_rows(&[plain_day(0, eve), plain_day(0, LAST_DAY)].concat())
-                .close()
-                .submit_rows(&plain_day(0, LAST_DAY + 1))
-                .submit_rows(&small_residual(eve))
-                .close()
-                .close()
-                .finish()
+            Input::open(Opening {
+                horizon: 2,
+                ..from(eve)
+            })
+            .submit_rows(&[plain_day(0, eve), plain_day(0, LAST_DAY)].concat())
+            .close()
+            .submit_rows(&plain_day(0, LAST_DAY + 1))
+            .submit_rows(&small_residual(eve))
+            .close()
+            .close()
+            .finish()
         }),
         // Twelve days, each with 100 kWh more at 1,000 cents per MWh, and a
         // residual of 240 cents from the second on.

@@ -4,7 +4,8 @@
 use super::files::{damaged, even_row, slim, Draft, Style, STYLES};
 use super::inputs::{input, submit_bytes, Input, Told, SHAPES};
 use super::Rng;
-use crate::history::{Key, Opening, METER, VESTING};
+use crate::book::Opening;
+use crate::history::{Key, METER, VESTING};
 use crate::numbers::Answer;
 use crate::settle::{CLOSE, SUBMIT};
 
@@ -13,7 +14,7 @@ pub const LONGEST_INPUT: usize = 40_000;
 /// About how many bytes the random inputs come to.
 const RANDOM_BYTES: usize = 600_000;
 
-const DAY: u16 = 9_497;
+const DAY: u64 = 9_497;
 /// After an opening: a close, a file without rows, a refused one and a close.
 const ITEMS: [u8; 18] = [
     CLOSE, SUBMIT, 8, 0, 0, 0, 0, 0, 0, 0, 0, 0, SUBMIT, 2, 0, 1, 0, CLOSE,
@@ -34,7 +35,7 @@ pub fn settle_inputs() -> Vec<Vec<u8>> {
 }
 
 fn one() -> Input {
-    Input::open(1, 1, 1, DAY)
+    Input::open(Opening::smallest(DAY))
 }
 
 /// The items alone, on the book of the specification's example.
@@ -44,7 +45,7 @@ fn short_input() -> Vec<u8> {
 
 /// A close too early, a day's file, its close.
 fn day_input() -> Vec<u8> {
-    let key = |section| (section, 0, i64::from(DAY));
+    let key = |section| (section, 0, DAY as i64);
     let rows = [
         even_row(key(VESTING), 0, &[1_000, 15_000]),
         even_row(key(METER), 1, &[10_000, 1]),
@@ -101,18 +102,27 @@ pub fn openings() -> Vec<Vec<u8>> {
     for accounts in [0, 1, 2, 3, 32, 33, 255] {
         for lag in [0, 1, 2, 3, 75, 76, 92, 255] {
             for horizon in [0, 1, 2, 3, 75, 76, 92, 93, 255] {
-                let opening = Input::open(accounts, lag, horizon, DAY);
-                inputs.push(opening.bytes(&ITEMS).finish());
+                let opening = Opening {
+                    accounts,
+                    lag,
+                    horizon,
+                    ..Opening::smallest(DAY)
+                };
+                inputs.push(Input::open(opening).bytes(&ITEMS).finish());
             }
         }
     }
-    for (accounts, lag, horizon) in [(1, 1, 1), (1, 1, 2), (1, 2, 1), (2, 1, 1), (3, 1, 1)] {
+    let three = Opening {
+        accounts: 3,
+        ..Opening::smallest(DAY)
+    };
+    for shape in SHAPES.into_iter().chain([three]) {
         for first_day in [
             0, 255, 256, 6_437, 9_496, 9_497, 9_498, 9_510, 9_765, 32_767, 32_768, 36_523, 36_524,
             36_525, 36_526, 65_535,
         ] {
-            let opening = Input::open(accounts, lag, horizon, first_day);
-            inputs.push(opening.bytes(&ITEMS).finish());
+            let opening = Opening { first_day, ..shape };
+            inputs.push(Input::open(opening).bytes(&ITEMS).finish());
         }
     }
     inputs
@@ -203,15 +213,10 @@ pub fn changes() -> Vec<Vec<u8>> {
 pub fn told_lives() -> Vec<Told> {
     let mut rng = Rng::new(0x11FE);
     let mut lives = Vec::new();
-    for (accounts, lag, horizon) in SHAPES {
+    for shape in SHAPES {
         for style in STYLES {
             for first_day in [9_497, 9_510, 36_521, 36_523, 36_524] {
-                let opening = Opening {
-                    accounts,
-                    lag,
-                    horizon,
-                    first_day,
-                };
+                let opening = Opening { first_day, ..shape };
                 lives.push(life(&mut rng, style, opening));
             }
         }

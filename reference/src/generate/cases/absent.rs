@@ -1,8 +1,9 @@
 //! Closes that lack a datum, at every interval and account of the search, and
 //! books that lack a row of a closed day.
 
-use super::desk::{opening, Desk};
+use super::desk::Desk;
 use super::Script;
+use crate::book::Opening;
 use crate::generate::files::{even_row, DraftRow, Style};
 use crate::history::{Key, METER, NCC, RESIDUAL, VESTING};
 
@@ -14,7 +15,12 @@ pub(super) fn write(script: &mut Script) {
         (2, 3, 2, 0),
         (1, 3, 1, 5),
     ] {
-        let opening = opening(accounts, lag, horizon, 12_345);
+        let opening = Opening {
+            accounts,
+            lag,
+            horizon,
+            ..Opening::smallest(12_345)
+        };
         let mut desk = Desk::open(script, Style::Usual, opening);
         for _ in 0..closes {
             feed_zeros(&mut desk);
@@ -110,17 +116,11 @@ fn flags_off(desk: &mut Desk) {
 
 /// The flag word of a row in an interval.
 fn flag_at(desk: &Desk, &(section, account, day): &Key, interval: usize) -> usize {
-    let book = desk.book();
-    let accounts = desk.history.accounts();
-    let words = 4 + 24 * accounts;
-    let slot = ((day - book[4]) % (book[2] + book[3])) as usize;
-    let at = 64 + 8 * accounts + (48 * slot + interval) * words;
-    let entry = at + 4 + 24 * account;
     match section {
-        VESTING => entry,
-        METER => entry + 9,
-        RESIDUAL => entry + 18,
-        NCC => at + 1,
+        VESTING => desk.layout.vesting_flag_at(day, interval, account),
+        METER => desk.layout.meter_flag_at(day, interval, account),
+        RESIDUAL => desk.layout.residual_flag_at(day, interval, account),
+        NCC => desk.layout.ncc_flag_at(day, interval),
         _ => unreachable!("a file has four sections"),
     }
 }

@@ -1,11 +1,13 @@
 //! Closes that are accepted: half cents, revisions, books of uneven intervals,
 //! the last days.
 
-use super::desk::{opening, Desk};
+use super::desk::Desk;
 use super::Script;
+use crate::book::Opening;
 use crate::generate::books::{word_case, DAY_BOUND};
 use crate::generate::files::{even_row, Style};
 use crate::history::{METER, NCC, RESIDUAL, VESTING};
+use crate::layout::MSSL_BALANCE;
 
 pub(super) fn write(script: &mut Script) {
     half_cents(script);
@@ -20,7 +22,7 @@ pub(super) fn write(script: &mut Script) {
 fn half_cents(script: &mut Script) {
     let sums = [499, 500, 501, 1_499, 1_500, 1_501, 999_500];
     for (turn, sum) in sums.into_iter().flat_map(|sum| [sum, -sum]).enumerate() {
-        let mut desk = Desk::open(script, Style::Usual, opening(1, 1, 1, 9_497));
+        let mut desk = Desk::open(script, Style::Usual, Opening::smallest(9_497));
         // The residual is one kWh at price `sum`, on a day of no other amount.
         desk.submit_rows(vec![
             even_row((VESTING, 0, 9_497), 0, &[0, 0]),
@@ -51,7 +53,7 @@ fn half_cents(script: &mut Script) {
 /// The largest amounts of both signs, day after day.
 fn extremes(script: &mut Script) {
     for sign in [1, -1] {
-        let mut desk = Desk::open(script, Style::Extreme, opening(1, 1, 1, 36_522));
+        let mut desk = Desk::open(script, Style::Extreme, Opening::smallest(36_522));
         let pair = [10_000_000, sign * 1_000_000];
         for day in 36_522..=36_524 {
             let mut rows = vec![
@@ -74,7 +76,15 @@ fn extremes(script: &mut Script) {
 /// after it.
 fn revisions(script: &mut Script) {
     for style in [Style::Tiny, Style::Usual, Style::Wide] {
-        let mut desk = Desk::open(script, style, opening(1, 2, 2, 15_000));
+        let mut desk = Desk::open(
+            script,
+            style,
+            Opening {
+                lag: 2,
+                horizon: 2,
+                ..Opening::smallest(15_000)
+            },
+        );
         for day in 15_000..15_004 {
             for full in [100, 0, 50] {
                 let keys = [(VESTING, 0, day), (METER, 0, day)];
@@ -101,18 +111,25 @@ fn uneven(script: &mut Script) {
     for turn in 0..24 {
         let accounts = 1 + turn % 2;
         let style = [Style::Tiny, Style::Usual, Style::Wide][turn as usize % 3];
-        let mut desk = Desk::open(script, style, opening(accounts, 1, 1, 11_000 + turn));
+        let mut desk = Desk::open(
+            script,
+            style,
+            Opening {
+                accounts,
+                ..Opening::smallest(11_000 + turn)
+            },
+        );
         desk.feed(30);
         desk.close();
         desk.feed(30);
-        let slots = 64 + 8 * accounts as usize;
+        let slots = desk.layout.first_interval_at();
         for _ in 0..60 {
-            let index = slots + desk.script.rng.below(desk.size - slots);
+            let index = slots + desk.script.rng.below(desk.layout.size() - slots);
             poke_fine(&mut desk, index);
         }
         let bound = desk.script.rng.pick(&[DAY_BOUND, -DAY_BOUND]);
-        desk.script.poke(64, bound);
-        desk.script.poke(6, -bound);
+        desk.script.poke(desk.layout.balance_at(0), bound);
+        desk.script.poke(MSSL_BALANCE, -bound);
         desk.script.close(desk.lent, accounts as usize + 1);
         desk.script.close(desk.lent, accounts as usize + 1);
     }
@@ -132,7 +149,15 @@ fn poke_fine(desk: &mut Desk, index: usize) {
 /// NCC rows are still taken, and nothing else.
 fn last_days(script: &mut Script) {
     for (lag, horizon) in [(1, 1), (2, 3), (3, 1)] {
-        let mut desk = Desk::open(script, Style::Usual, opening(1, lag, horizon, 36_522));
+        let mut desk = Desk::open(
+            script,
+            Style::Usual,
+            Opening {
+                lag,
+                horizon,
+                ..Opening::smallest(36_522)
+            },
+        );
         while !desk.history.finished() {
             desk.feed(10);
             desk.close();

@@ -1,7 +1,8 @@
 //! Files with a single fault, at fields all over the file.
 
-use super::desk::{opening, Desk};
+use super::desk::Desk;
 use super::Script;
+use crate::book::Opening;
 use crate::generate::files::{every_damage, slim, Draft, Style};
 use crate::history::{Key, METER, NCC, RESIDUAL, VESTING};
 
@@ -16,7 +17,12 @@ pub(super) fn write(script: &mut Script) {
         (2, 2, 3, 20_000, 3),
         (3, 1, 2, 36_523, 2),
     ] {
-        let opening = opening(accounts, lag, horizon, first_day);
+        let opening = Opening {
+            accounts,
+            lag,
+            horizon,
+            ..Opening::smallest(first_day)
+        };
         let mut desk = Desk::open(script, Style::Extreme, opening);
         for _ in 0..closes {
             desk.feed(0);

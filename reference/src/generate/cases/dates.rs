@@ -16,6 +16,8 @@ pub(super) fn write(script: &mut Script) {
     due_days(script);
     bad_lists(script);
     long_lists(script);
+    negative_years(script);
+    due_in_2100(script);
 }
 
 fn days(script: &mut Script) {
@@ -171,4 +173,36 @@ fn long_lists(script: &mut Script) {
     let mut bad = every(30);
     bad[MOST_HOLIDAYS - 1] -= 30;
     script.push(Frame::FinalStatement(17_900, bad));
+}
+
+/// Years and months that would be there without their sign: 12.
+fn negative_years(script: &mut Script) {
+    for date in [[-2026, 1, 1], [-2000, 2, 29], [-2099, 12, 31]] {
+        script.push(Frame::DateToDay(date));
+    }
+    for month in [[-2026, 1], [-2000, 2], [-2099, 10], [2026, -1], [-2026, -1]] {
+        script.push(Frame::ResidualDue(month, vec![]));
+    }
+}
+
+/// Months whose due month lies in 2100: 14, but 13 with a bad list. No such
+/// month: 12, whatever the list.
+fn due_in_2100(script: &mut Script) {
+    let good = [vec![], vec![LAST_DAY - 1, LAST_DAY]];
+    let bad = [
+        vec![LAST_DAY, LAST_DAY - 1],
+        vec![5, 5],
+        vec![5, LAST_DAY + 1],
+        vec![-1],
+    ];
+    for month in [11, 12] {
+        for list in good.iter().chain(&bad) {
+            script.push(Frame::ResidualDue([2099, month], list.clone()));
+        }
+    }
+    for month in [[2099, 0], [2099, 13], [2099, -11], [-2099, 11], [2100, 1]] {
+        for list in &bad[..2] {
+            script.push(Frame::ResidualDue(month, list.clone()));
+        }
+    }
 }

@@ -1,55 +1,39 @@
 //! A book kept through frames, with its history.
 
 use super::Script;
-use crate::book::size;
+use crate::book::Opening;
 use crate::frames::Frame;
 use crate::generate::files::{slim, Draft, DraftRow, Style};
-use crate::history::{History, Key, Opening};
+use crate::history::{History, Key};
+use crate::layout::Layout;
 use crate::numbers::ACCEPTED;
 
 pub(super) struct Desk<'a> {
     pub script: &'a mut Script,
     pub history: History,
     pub style: Style,
+    pub layout: Layout,
     /// Words lent, the book's size and some beyond.
     pub lent: usize,
-    pub size: usize,
-}
-
-pub(super) fn opening(accounts: u64, lag: u64, horizon: u64, first_day: u64) -> Opening {
-    Opening {
-        accounts,
-        lag,
-        horizon,
-        first_day,
-    }
 }
 
 impl<'a> Desk<'a> {
+    /// The opening is one that is accepted.
     pub fn open(script: &'a mut Script, style: Style, opening: Opening) -> Desk<'a> {
-        let Opening {
-            accounts,
-            lag,
-            horizon,
-            first_day,
-        } = opening;
-        let size = size(accounts, lag, horizon).unwrap_or(0) as usize;
-        let lent = size + script.rng.below(4);
-        script.push(Frame::Open {
-            lent,
-            parameters: [accounts, lag, horizon, first_day],
-        });
+        let layout = Layout::of(opening).expect("an accepted opening has a layout");
+        let lent = layout.size() + script.rng.below(4);
+        script.push(Frame::Open { lent, opening });
         Desk {
             script,
             history: History::new(opening),
             style,
+            layout,
             lent,
-            size,
         }
     }
 
     pub fn book(&self) -> &[i64] {
-        &self.script.player.book()[..self.size]
+        &self.script.player.book()[..self.layout.size()]
     }
 
     pub fn submit(&mut self, file: &[u8]) {

@@ -1,7 +1,8 @@
 //! Every example and figure of the specification that a call shows.
 
-use super::desk::{opening, Desk};
+use super::desk::Desk;
 use super::Script;
+use crate::book::Opening;
 use crate::frames::Frame;
 use crate::generate::files::{even_row, Draft, Style};
 use crate::history::{METER, VESTING};
@@ -34,7 +35,10 @@ pub(super) fn write(script: &mut Script) {
 fn table(script: &mut Script) {
     let open = |lent, accounts| Frame::Open {
         lent,
-        parameters: [accounts, 1, 1, 9_497],
+        opening: Opening {
+            accounts,
+            ..Opening::smallest(9_497)
+        },
     };
     script.push(open(WORDS, 0));
     script.push(open(WORDS - 1, 2));
@@ -71,7 +75,7 @@ fn table(script: &mut Script) {
 
 /// Number 9, before 10.
 fn finished(script: &mut Script) {
-    let mut desk = Desk::open(script, Style::Usual, opening(1, 1, 1, 36_524));
+    let mut desk = Desk::open(script, Style::Usual, Opening::smallest(36_524));
     desk.feed(50);
     desk.close();
     desk.close();
@@ -111,7 +115,7 @@ fn figures(script: &mut Script) {
 
 /// The first intervals have these base quantities and prices, the others none.
 fn day_amount(script: &mut Script, base: &[(i64, i64)], v: i64) {
-    let mut desk = Desk::open(script, Style::Usual, opening(1, 1, 1, 9_497));
+    let mut desk = Desk::open(script, Style::Usual, Opening::smallest(9_497));
     let mut vesting = even_row((VESTING, 0, 9_497), 0, &[0, 0]);
     for (interval, (bvq, bvp)) in base.iter().enumerate() {
         vesting.values[2 * interval] = *bvq;

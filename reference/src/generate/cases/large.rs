@@ -1,9 +1,11 @@
 //! Large books: 32 accounts, a lag of 75 days, a horizon of 92.
 
-use super::desk::{opening, Desk};
+use super::desk::Desk;
 use super::Script;
+use crate::book::Opening;
 use crate::generate::files::{even_row, Style};
 use crate::history::{Key, METER, NCC, RESIDUAL, VESTING};
+use crate::layout::{ENTRY_WORDS, ENTRY_ZERO, RESIDUAL_FLAG, VESTING_FLAG};
 
 pub(super) fn write(script: &mut Script) {
     most_accounts(script);
@@ -15,7 +17,14 @@ pub(super) fn write(script: &mut Script) {
 
 /// 32 accounts at the largest amounts, then at the least R, −1,280,000,000.
 fn most_accounts(script: &mut Script) {
-    let mut desk = Desk::open(script, Style::Extreme, opening(32, 1, 1, 9_497));
+    let mut desk = Desk::open(
+        script,
+        Style::Extreme,
+        Opening {
+            accounts: 32,
+            ..Opening::smallest(9_497)
+        },
+    );
     let most = [10_000_000, 1_000_000];
     for (day, tranches, load) in [(9_497, 0, 0), (9_498, 3, 1_000_000_000), (9_499, 0, 0)] {
         let mut rows = Vec::new();
@@ -40,7 +49,15 @@ fn most_accounts(script: &mut Script) {
 
 /// 32 accounts of any numbers.
 fn many_accounts(script: &mut Script) {
-    let mut desk = Desk::open(script, Style::Usual, opening(32, 1, 2, 28_000));
+    let mut desk = Desk::open(
+        script,
+        Style::Usual,
+        Opening {
+            accounts: 32,
+            horizon: 2,
+            ..Opening::smallest(28_000)
+        },
+    );
     desk.feed(15);
     desk.close();
     let mut keys = desk.missing();
@@ -52,7 +69,13 @@ fn many_accounts(script: &mut Script) {
     let rows = desk.rows(&keys, 15);
     desk.submit_rows(rows);
     desk.close();
-    for index in [64 + 8 * 31, desk.size - 1, desk.size - 6, desk.size - 24] {
+    let last_entry = desk.layout.size() - ENTRY_WORDS;
+    for index in [
+        desk.layout.balance_at(31),
+        last_entry + ENTRY_ZERO,
+        last_entry + RESIDUAL_FLAG,
+        last_entry + VESTING_FLAG,
+    ] {
         let kept = desk.book()[index];
         desk.script.poke(index, i64::MIN);
         desk.script.submit(desk.lent, &[0; 8]);
@@ -62,7 +85,15 @@ fn many_accounts(script: &mut Script) {
 
 /// L = 75 and H = 92: residuals are settled from the 76th day on.
 fn long_lag(script: &mut Script) {
-    let mut desk = Desk::open(script, Style::Usual, opening(1, 75, 92, 9_497));
+    let mut desk = Desk::open(
+        script,
+        Style::Usual,
+        Opening {
+            lag: 75,
+            horizon: 92,
+            ..Opening::smallest(9_497)
+        },
+    );
     let days: Vec<i64> = (9_497..9_576).collect();
     for days in days.chunks(20) {
         let keys: Vec<Key> = days
@@ -99,7 +130,16 @@ fn long_lag(script: &mut Script) {
 
 /// The largest book with both of the longest that the program holds.
 fn longest_window(script: &mut Script) {
-    let mut desk = Desk::open(script, Style::Wide, opening(4, 75, 92, 30_000));
+    let mut desk = Desk::open(
+        script,
+        Style::Wide,
+        Opening {
+            accounts: 4,
+            lag: 75,
+            horizon: 92,
+            ..Opening::smallest(30_000)
+        },
+    );
     desk.feed(30);
     desk.close();
     let keys = [
@@ -112,26 +152,37 @@ fn longest_window(script: &mut Script) {
     let rows = desk.rows(&keys, 0);
     desk.submit_rows(rows);
     desk.close();
-    for index in [desk.size - 1, 64 + 32, desk.size / 2] {
+    let size = desk.layout.size();
+    for index in [size - 1, desk.layout.first_interval_at(), size / 2] {
         let kept = desk.book()[index];
         desk.script.poke(index, 1);
         desk.script.submit(desk.lent, &[0; 8]);
         desk.script.poke(index, kept);
     }
-    desk.script.submit(desk.size - 1, &[0; 8]);
-    desk.script.submit(desk.size, &[0; 8]);
+    desk.script.submit(size - 1, &[0; 8]);
+    desk.script.submit(size, &[0; 8]);
 }
 
 /// 32 accounts over as many slots as the program holds.
 fn widest_book(script: &mut Script) {
-    let mut desk = Desk::open(script, Style::Usual, opening(32, 10, 11, 36_500));
+    let mut desk = Desk::open(
+        script,
+        Style::Usual,
+        Opening {
+            accounts: 32,
+            lag: 10,
+            horizon: 11,
+            ..Opening::smallest(36_500)
+        },
+    );
     let rows = desk.rows(
         &[(METER, 31, 36_510), (VESTING, 31, 36_510), (NCC, 0, 36_510)],
         0,
     );
     desk.submit_rows(rows);
     desk.close();
-    desk.script.poke(desk.size - 1, 1);
+    let last = desk.layout.size() - 1;
+    desk.script.poke(last, 1);
     desk.script.submit(desk.lent, &[0; 8]);
-    desk.script.poke(desk.size - 1, 0);
+    desk.script.poke(last, 0);
 }

@@ -1,9 +1,9 @@
 //! Lists of submissions and closes on small books, of every style.
 
-use super::desk::{opening, Desk};
+use super::desk::Desk;
 use super::Script;
+use crate::book::Opening;
 use crate::generate::files::{damaged, Draft, STYLES};
-use crate::history::Opening;
 
 /// Input bytes for all lists.
 const BYTES: usize = 800_000;
@@ -28,7 +28,12 @@ fn small_opening(script: &mut Script, turn: usize) -> Opening {
     };
     let accounts = rng.pick(&[1, 1, 1, 2, 2, 3]);
     let lag = rng.pick(&[1, 1, 1, 2, 2, 3]);
-    opening(accounts, lag, rng.pick(&[1, 1, 2, 3]), first_day as u64)
+    Opening {
+        accounts,
+        lag,
+        horizon: rng.pick(&[1, 1, 2, 3]),
+        ..Opening::smallest(first_day as u64)
+    }
 }
 
 fn list(desk: &mut Desk) {

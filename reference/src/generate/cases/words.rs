@@ -1,11 +1,13 @@
 //! Books with a single word off, and words that are no book.
 
-use super::desk::{opening, Desk};
+use super::desk::Desk;
 use super::Script;
+use crate::book::Opening;
 use crate::frames::Frame;
 use crate::generate::books::word_case;
 use crate::generate::files::{even_row, Draft, STYLES};
 use crate::history::{METER, NCC, RESIDUAL, VESTING};
+use crate::layout::{ENTRY_WORDS, HEADER_WORDS, NCC_WORDS};
 
 const EIGHT_ZEROS: [u8; 8] = [0; 8];
 
@@ -21,7 +23,12 @@ pub(super) fn write(script: &mut Script) {
     .into_iter()
     .enumerate()
     {
-        let opening = opening(accounts, lag, horizon, first_day);
+        let opening = Opening {
+            accounts,
+            lag,
+            horizon,
+            ..Opening::smallest(first_day)
+        };
         let mut desk = Desk::open(script, STYLES[turn % 4], opening);
         for _ in 0..closes {
             desk.feed(30);
@@ -43,7 +50,14 @@ pub(super) fn write(script: &mut Script) {
 /// Every word of an account with all its pairs in use, of a closed day and of
 /// an open one.
 fn full_intervals(script: &mut Script) {
-    let mut desk = Desk::open(script, STYLES[0], opening(2, 1, 1, 16_000));
+    let mut desk = Desk::open(
+        script,
+        STYLES[0],
+        Opening {
+            accounts: 2,
+            ..Opening::smallest(16_000)
+        },
+    );
     for day in [16_000, 16_001] {
         let mut rows = vec![even_row((NCC, 0, day), 0, &[9])];
         for account in 0..2 {
@@ -59,9 +73,10 @@ fn full_intervals(script: &mut Script) {
             desk.close();
         }
     }
-    for slot in 0..2 {
-        let interval = 64 + 16 + 52 * (48 * slot + 5);
-        for index in (interval..interval + 4).chain(interval + 28..interval + 52) {
+    for day in [16_000, 16_001] {
+        let ncc = desk.layout.interval_at(day, 5);
+        let entry = desk.layout.entry_at(day, 5, 1);
+        for index in (ncc..ncc + NCC_WORDS).chain(entry..entry + ENTRY_WORDS) {
             word(&mut desk, index, 100, 100);
         }
     }
@@ -70,22 +85,22 @@ fn full_intervals(script: &mut Script) {
 
 /// Every word before the slots.
 fn header_words(desk: &mut Desk) {
-    let slots = 64 + 8 * desk.history.accounts();
-    for index in (0..8).chain([31, 62, 63]).chain(64..slots) {
+    let slots = desk.layout.first_interval_at();
+    for index in (0..8).chain([31, 62, 63]).chain(HEADER_WORDS..slots) {
         word(desk, index, 100, 40);
     }
 }
 
 /// Words all over the slots.
 fn slot_words(desk: &mut Desk) {
-    let slots = 64 + 8 * desk.history.accounts();
+    let (slots, size) = (desk.layout.first_interval_at(), desk.layout.size());
     for _ in 0..90 {
-        let index = slots + desk.script.rng.below(desk.size - slots);
+        let index = slots + desk.script.rng.below(size - slots);
         word(desk, index, 50, 30);
     }
     // Flags and what follows them, of the first and the last account.
-    let interval = 4 + 24 * desk.history.accounts();
-    for index in (slots..slots + 28).chain(desk.size - interval..desk.size) {
+    let first = slots..slots + NCC_WORDS + ENTRY_WORDS;
+    for index in first.chain(size - desk.layout.interval_words()..size) {
         word(desk, index, 30, 20);
     }
 }
@@ -120,8 +135,8 @@ fn word(desk: &mut Desk, index: usize, off: u64, fine: u64) {
 
 /// Too few words are lent, down to none.
 fn lent_words(desk: &mut Desk) {
-    let size = desk.size;
-    for lent in [size - 1, size - 24, size / 2, 65, 64, 63, 7, 1, 0] {
+    let size = desk.layout.size();
+    for lent in [size - 1, size - ENTRY_WORDS, size / 2, 65, 64, 63, 7, 1, 0] {
         desk.script.submit(lent, &[]);
         desk.script.close(lent, 40);
     }
@@ -133,8 +148,8 @@ fn lent_words(desk: &mut Desk) {
 fn wild_headers(script: &mut Script) {
     for turn in 0..80 {
         let size = {
-            let desk = Desk::open(script, STYLES[0], opening(1, 1, 1, 20_000));
-            desk.size
+            let desk = Desk::open(script, STYLES[0], Opening::smallest(20_000));
+            desk.layout.size()
         };
         for _ in 0..1 + turn % 3 {
             let index = script.rng.below(7);
@@ -149,7 +164,7 @@ fn wild_headers(script: &mut Script) {
         for index in 1..=3 {
             script.push(Frame::Open {
                 lent: 3_000,
-                parameters: [1, 1, 1, 20_000],
+                opening: Opening::smallest(20_000),
             });
             script.poke(index, word);
             script.close(3_000, 2);
