@@ -19,6 +19,7 @@ use Rattle.rulebook.specs.Sections.{leastCount, mostCount}
 use Rattle.rulebook.specs.File.{accountBytes, countBytes, accountAt, dayAt, countAt, dayPos, countPos, valuesPos, valuesIn, rowEnd, rowPos, rowsIn, sectionEnd}
 use Rattle.rulebook.specs.Judging.{openFrom, require, _andThen_, upTo, fieldIn, key, rest, rowAfter, judgedRow, judgedSection}
 use Rattle.rulebook.specs.JudgingLaws.{then-both, checked, field-says, keyed}
+use Rattle.files.specs.declared.fields.Outcome.the-variants.{Passed}
 use Rattle.files.specs.declared.reader.Heading.{Heading}
 use Rattle.files.specs.Fields.{outcome, headingAt, fieldOutcome}
 use Rattle.files.specs.FieldsLaws.{up-none, up-more, field-whole, field-judged}
@@ -189,3 +190,7 @@ module _ (l : Limits) (sec : Section) (s : List ℕ) (at : ℕ) where
       → outcome (upTo count (judgedRow l sec s first)) (rowPos sec s first count) ≡ outcome (judgedSection l sec s at) (sectionEnd sec s at)
   unfolding sectionEnd
   section-judged h = rw (section-rows (h .0), ← h .1, ← h .2)
+
+  pub section-empty : {count first : ℕ} → (at + 2 ≤ length s) × (rowsIn s at ≡ count) × (at + 2 ≡ first) → count ≡ 0
+      → Passed first ≡ outcome (judgedSection l sec s at) (sectionEnd sec s at)
+  section-empty {count} {first} h z = rw (up-none (judgedRow l sec s first), pos-none sec s first) at (rw z at (section-judged h))

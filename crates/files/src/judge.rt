@@ -43,7 +43,7 @@ fn judge_rows(
     Outcome::Passed(at)
 }
 
-// The section at a position: its count of rows, then the rows; the position past it. The marks are its own.
+// The section at a position: its count of rows, then the rows; the position past it. The marks are cleared where there are rows.
 fn judge_section(limits: Limits, sec: Section, file: &[u8], at: usize, marks: &mut [u8]) -> Outcome
     requires { ⌜ (Judgeable limits (length (now marks))) × (at ≤ length (now file)) ⌝ }
     ensures { λ r. ⌜ r ≡ outcome (judgedSection limits sec (now (file .entry)) at) (sectionEnd sec (now (file .entry)) at) ⌝ }
@@ -51,6 +51,9 @@ fn judge_section(limits: Limits, sec: Section, file: &[u8], at: usize, marks: &m
     match read_count(file, at) {
         Field::Cut => Outcome::Stopped(Why::NotWhole, at),
         Field::Whole(count, first) => {
+            if count == 0 {
+                return Outcome::Passed(first);
+            }
             clear_marks(marks);
             judge_rows(limits, sec, file, first, count, marks)
         }
