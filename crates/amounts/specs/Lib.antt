@@ -1,7 +1,6 @@
 pub mod Cell
-pub mod CellLaws
 pub mod Interval
-pub mod IntervalLaws
 pub mod Total
 pub mod Day
-pub mod DayLaws
+-- laws and proofs
+pub mod laws

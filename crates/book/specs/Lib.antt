@@ -2,13 +2,5 @@ pub mod Parts
 pub mod Slots
 pub mod Header
 pub mod Judged
-pub mod LoopLaws
-pub mod WordLaws
-pub mod RowLaws
-pub mod BlankLaws
-pub mod SlotLaws
-pub mod WalkLaws
-pub mod HeaderLaws
-pub mod JudgeLaws
-pub mod JudgedLaws
-pub mod OpenLaws
+-- laws and proofs
+pub mod laws

@@ -9,7 +9,7 @@ use lib.Signed.{_≤ℤ_}
 use Rattle.integer.specs.Integer.{positive}
 use Rattle.integer.specs.Words.{word}
 use Rattle.calendar.specs.Calendar.{daysInMonth, dayOf, dateGiven, dateOf, weekdayOf, isBusinessDay, daysAfter, dueAfter, dateAccepted, dateRefused, dayAccepted, dayRefused, weekdayAccepted, weekdayRefused, businessRefused, DayReturned, dateTold, dayTold, weekdayTold, statementTold, businessTold, finalStatementTold, residualDueTold}
-use Rattle.calendar.specs.CalendarLaws.{Ascending}
+use Rattle.calendar.specs.laws.CalendarLaws.{Ascending}
 
 -- ---- What is given
 

@@ -2,11 +2,7 @@ pub mod Calendar
 pub mod CalendarTheorems
 pub mod CalendarTable
 pub mod Steps
-pub mod YearLaws
-pub mod DateLaws
-pub mod HolidayLaws
-pub mod BusinessLaws
-pub mod CalendarLaws
-pub mod CalendarWordLaws
-pub mod CalendarTableLaws
-pub mod CalendarExamples
+-- figures and examples
+pub mod examples
+-- laws and proofs
+pub mod laws

@@ -1,12 +1,5 @@
 pub mod Search
-pub mod SearchLaws
 pub mod Slots
-pub mod SlotsLaws
-pub mod SearchSameLaws
-pub mod SlotDataLaws
-pub mod PostedLaws
-pub mod SlotRangedLaws
 pub mod Written
-pub mod WrittenLaws
-pub mod SettlingLaws
-pub mod CloseLaws
+-- laws and proofs
+pub mod laws

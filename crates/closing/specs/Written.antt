@@ -12,7 +12,7 @@ use Rattle.rulebook.specs.Units.{lastDay}
 use Rattle.rulebook.specs.Layout.{balanceWord}
 use Rattle.rulebook.specs.WellFormed.{dayBound}
 use Rattle.rulebook.specs.Close.{firstMissing, posted, postedToMssl}
-use Rattle.book.specs.JudgedLaws.{Formed}
+use Rattle.book.specs.laws.JudgedLaws.{Formed}
 
 -- each of the statement's n amounts is at most a day's
 pub record Small (n : ℕ) (st : List ℤ) : Type 0 where

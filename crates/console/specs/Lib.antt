@@ -2,10 +2,7 @@ pub mod Decimal
 pub mod Lines
 pub mod Input
 pub mod Written
-pub mod DecimalLaws
-pub mod WrittenLaws
-pub mod LinesLaws
-pub mod InputLaws
-pub mod ReadingLaws
-pub mod LineExamples
-pub mod InputExamples
+-- figures and examples
+pub mod examples
+-- laws and proofs
+pub mod laws

@@ -3,7 +3,5 @@ pub mod Positions
 pub mod Fields
 pub mod Values
 pub mod Marks
-pub mod FieldsLaws
-pub mod ValuesLaws
-pub mod MarksLaws
-pub mod RowsLaws
+-- laws and proofs
+pub mod laws

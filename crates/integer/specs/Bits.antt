@@ -8,7 +8,7 @@ use mir.Val.{SFits, toZ, ofZ}
 use mir.ValLaws.{toZ-ofZ}
 use native.Mathlib.Omega.{arith}
 use Rattle.integer.specs.Integer.{positive, negative}
-use Rattle.integer.specs.IntegerLaws.{Parts, parts, read-abs, fits-abs, abs-add, abs-sub, abs-neg, abs-mul}
+use Rattle.integer.specs.laws.IntegerLaws.{Parts, parts, read-abs, fits-abs, abs-add, abs-sub, abs-neg, abs-mul}
 
 -- ---- What is read back
 

@@ -1,11 +1,8 @@
 pub mod Integer
-pub mod IntegerLaws
 pub mod Ring
 pub mod Bits
 pub mod Below
-pub mod BelowLaws
-pub mod CountLaws
 pub mod Words
-pub mod WordsLaws
 pub mod Nearest
-pub mod NearestLaws
+-- laws and proofs
+pub mod laws

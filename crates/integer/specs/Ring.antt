@@ -6,7 +6,7 @@ use native.Mathlib.Omega.{arith}
 use lib.IntN.{ℤ, pos, negsuc, negℤ, subℕ, _+ℤ_, _*ℤ_}
 use lib.Signed.{_≤ℤ_, _<ℤ_}
 use Rattle.integer.specs.Integer.{positive, negative}
-use Rattle.integer.specs.IntegerLaws.{parts-eq, parts-le, parts-lt, add-parts, neg-parts, mul-parts, subℕ-parts, eq-parts, le-parts, lt-parts, lt-test, nlt-test, le-test, nle-test, read-abs}
+use Rattle.integer.specs.laws.IntegerLaws.{parts-eq, parts-le, parts-lt, add-parts, neg-parts, mul-parts, subℕ-parts, eq-parts, le-parts, lt-parts, lt-test, nlt-test, le-test, nle-test, read-abs}
 
 unfoldable pub diff : ℕ → ℕ → ℤ
 diff a b = subℕ a b

@@ -13,8 +13,8 @@ use Rattle.console.specs.declared.input.Item.{Item}
 use Rattle.console.specs.declared.input.Item.the-variants.{Close, Submit, Bad, End}
 use Rattle.console.specs.Input.{openingBytes, openingTerms, itemOf, wanted, itemBytes}
 use Rattle.console.specs.Lines.{badLine}
-use Rattle.console.specs.InputLaws.{item-end}
-use Rattle.console.specs.ReadingLaws.{wanted-least, opening-length, opening-read, item-read, wanted-read, close-whole, submit-whole, submit-read}
+use Rattle.console.specs.laws.InputLaws.{item-end}
+use Rattle.console.specs.laws.ReadingLaws.{wanted-least, opening-length, opening-read, item-read, wanted-read, close-whole, submit-whole, submit-read}
 use Rattle.interpreter.specs.Interpreter.{openedBy, beginning, turnOf, turn, printedFrom, newWords, printed}
 
 -- ---- The run

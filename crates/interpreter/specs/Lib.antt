@@ -1,8 +1,7 @@
 pub mod Interpreter
-pub mod InterpreterLaws
 pub mod InterpreterTheorems
 pub mod Running
-pub mod RunningLaws
-pub mod PrintedLaws
-pub mod InterpreterExamples
-pub mod ExamplesProof
+-- figures and examples
+pub mod examples
+-- laws and proofs
+pub mod laws

@@ -20,16 +20,16 @@ use Rattle.rulebook.specs.NamedRows.{NamedRow, named, namedRows}
 use Rattle.rulebook.specs.Encoding.{encoded}
 use Rattle.rulebook.specs.Proper.{Bytes, ProperRows, AllAlike, LackingZero}
 use Rattle.rulebook.specs.FileTable.{fieldsOf, EndToEnd, checks, NoneStrikes, FirstStrikes}
-use Rattle.rulebook.specs.EncodingExamples.{Written, written}
-use Rattle.rulebook.specs.JudgingExamples.{FileWindows, file-windows, Keys, keys}
-use Rattle.rulebook.specs.IntervalLaws.{lacking-zero}
-use Rattle.rulebook.specs.EncodingLaws.{encoded-bytes, alike-bytes}
-use Rattle.rulebook.specs.WholeLaws.{taken-whole}
-use Rattle.rulebook.specs.EncodedFileLaws.{encoded-accepted}
-use Rattle.rulebook.specs.AcceptedLaws.{accepted-proper, accepted-exactly}
-use Rattle.rulebook.specs.StrikeLaws.{refused-exactly, accepted-clear}
-use Rattle.rulebook.specs.AdjoinLaws.{fields-adjoin}
-use Rattle.rulebook.specs.SubmitTableLaws.{submit-ill-formed, submit-refused, submit-accepted}
+use Rattle.rulebook.specs.examples.EncodingExamples.{Written, written}
+use Rattle.rulebook.specs.examples.JudgingExamples.{FileWindows, file-windows, Keys, keys}
+use Rattle.rulebook.specs.laws.IntervalLaws.{lacking-zero}
+use Rattle.rulebook.specs.laws.EncodingLaws.{encoded-bytes, alike-bytes}
+use Rattle.rulebook.specs.laws.WholeLaws.{taken-whole}
+use Rattle.rulebook.specs.laws.EncodedFileLaws.{encoded-accepted}
+use Rattle.rulebook.specs.laws.AcceptedLaws.{accepted-proper, accepted-exactly}
+use Rattle.rulebook.specs.laws.StrikeLaws.{refused-exactly, accepted-clear}
+use Rattle.rulebook.specs.laws.AdjoinLaws.{fields-adjoin}
+use Rattle.rulebook.specs.laws.SubmitTableLaws.{submit-ill-formed, submit-refused, submit-accepted}
 
 -- a book's terms are o, C is its next day to close
 pub record FileTheorems : Type 0 where

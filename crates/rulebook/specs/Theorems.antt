@@ -9,7 +9,7 @@ use lib.ListN.{length}
 use Rattle.integer.specs.Below.{all, Each}
 use Rattle.integer.specs.Words.{word}
 use Rattle.integer.specs.Nearest.{IsNearest}
-use Rattle.integer.specs.NearestLaws.{nearest-is}
+use Rattle.integer.specs.laws.NearestLaws.{nearest-is}
 use Rattle.rulebook.specs.declared.Terms.{Terms}
 use Rattle.rulebook.specs.declared.Section.{Section}
 use Rattle.rulebook.specs.declared.Verdict.the-variants.{Accepted}
@@ -40,38 +40,38 @@ use Rattle.rulebook.specs.CloseTable.{CloseTable}
 use Rattle.rulebook.specs.Leaves.{SubmitLeaves, CloseLeaves, CloseKeeps}
 use Rattle.rulebook.specs.Bounds.{CloseSized}
 use Rattle.rulebook.specs.FileTheorems.{FileTheorems, file-theorems}
-use Rattle.rulebook.specs.Figures.{Right, starred, starred-right}
-use Rattle.rulebook.specs.WorkedDay.{WorkedDay, worked-day}
-use Rattle.rulebook.specs.Examples.{RowExamples, row-examples, Headers, headers, Balances, balances, AccountWords, account-words, Ranges, ranges}
-use Rattle.rulebook.specs.AmountExamples.{BoundReached, bound-reached, ResidualOfThree, residual-of-three, LagOfTwo, lag-of-two}
-use Rattle.rulebook.specs.LayoutExamples.{Places, places, NewHeader, new-header, Windows, windows}
-use Rattle.rulebook.specs.BookExamples.{Days, days}
-use Rattle.rulebook.specs.FileExamples.{BytesRead, bytes-read, FiguresRead, figures-read}
-use Rattle.rulebook.specs.DataExamples.{BookRead, book-read, RowsRead, rows-read}
-use Rattle.rulebook.specs.NumberExamples.{Returned, returned, Table, table, Refusals, refusals, ThreeAccounts, three-accounts}
-use Rattle.rulebook.specs.InputExamples.{CallsTold, calls-told}
-use Rattle.rulebook.specs.CallExamples.{Openings, openings, LentBooks, lent-books}
-use Rattle.rulebook.specs.SubmitExamples.{StoredRows, stored-rows, OverNines, over-nines, SubmittedFile, submitted-file}
-use Rattle.rulebook.specs.HistoryExamples.{Closes, closes-told, NewBooks, new-books}
-use Rattle.rulebook.specs.SearchExamples.{SearchedFlags, searched-flags}
-use Rattle.rulebook.specs.SharesLaws.{share-total, share-rule}
-use Rattle.rulebook.specs.TranchesLaws.{tranche-split}
-use Rattle.rulebook.specs.DayAmountLaws.{interval-shares, posted-within, mssl-within}
-use Rattle.rulebook.specs.WalkLaws.{days-are-places}
-use Rattle.rulebook.specs.WindowLaws.{window-days-apart, slot-day}
-use Rattle.rulebook.specs.FormedBookLaws.{formed-book, book-formed}
-use Rattle.rulebook.specs.BookSizeLaws.{close-sized}
-use Rattle.rulebook.specs.SearchOrderLaws.{search-holds}
-use Rattle.rulebook.specs.CloseTableLaws.{close-table}
-use Rattle.rulebook.specs.AnySubmitLaws.{submitted-formed}
-use Rattle.rulebook.specs.AnyCloseLaws.{closed-formed}
-use Rattle.rulebook.specs.LentLaws.{submitted-beyond, closed-words-beyond, submitted-rows, refused-submit, refused-close}
-use Rattle.rulebook.specs.LeavesLaws.{submitted-leaves, closed-leaves}
-use Rattle.rulebook.specs.DeterminedLaws.{submit-determined, close-determined}
-use Rattle.rulebook.specs.StartLaws.{opening-told, new-formed}
-use Rattle.rulebook.specs.RunLaws.{run-of, calls-of}
-use Rattle.rulebook.specs.Demand3Proof.{demand3, demand3-on-calls}
-use Rattle.rulebook.specs.CompanionProof.{companion}
+use Rattle.rulebook.specs.examples.Figures.{Right, starred, starred-right}
+use Rattle.rulebook.specs.examples.WorkedDay.{WorkedDay, worked-day}
+use Rattle.rulebook.specs.examples.Examples.{RowExamples, row-examples, Headers, headers, Balances, balances, AccountWords, account-words, Ranges, ranges}
+use Rattle.rulebook.specs.examples.AmountExamples.{BoundReached, bound-reached, ResidualOfThree, residual-of-three, LagOfTwo, lag-of-two}
+use Rattle.rulebook.specs.examples.LayoutExamples.{Places, places, NewHeader, new-header, Windows, windows}
+use Rattle.rulebook.specs.examples.BookExamples.{Days, days}
+use Rattle.rulebook.specs.examples.FileExamples.{BytesRead, bytes-read, FiguresRead, figures-read}
+use Rattle.rulebook.specs.examples.DataExamples.{BookRead, book-read, RowsRead, rows-read}
+use Rattle.rulebook.specs.examples.NumberExamples.{Returned, returned, Table, table, Refusals, refusals, ThreeAccounts, three-accounts}
+use Rattle.rulebook.specs.examples.InputExamples.{CallsTold, calls-told}
+use Rattle.rulebook.specs.examples.CallExamples.{Openings, openings, LentBooks, lent-books}
+use Rattle.rulebook.specs.examples.SubmitExamples.{StoredRows, stored-rows, OverNines, over-nines, SubmittedFile, submitted-file}
+use Rattle.rulebook.specs.examples.HistoryExamples.{Closes, closes-told, NewBooks, new-books}
+use Rattle.rulebook.specs.examples.SearchExamples.{SearchedFlags, searched-flags}
+use Rattle.rulebook.specs.laws.SharesLaws.{share-total, share-rule}
+use Rattle.rulebook.specs.laws.TranchesLaws.{tranche-split}
+use Rattle.rulebook.specs.laws.DayAmountLaws.{interval-shares, posted-within, mssl-within}
+use Rattle.rulebook.specs.laws.WalkLaws.{days-are-places}
+use Rattle.rulebook.specs.laws.WindowLaws.{window-days-apart, slot-day}
+use Rattle.rulebook.specs.laws.FormedBookLaws.{formed-book, book-formed}
+use Rattle.rulebook.specs.laws.BookSizeLaws.{close-sized}
+use Rattle.rulebook.specs.laws.SearchOrderLaws.{search-holds}
+use Rattle.rulebook.specs.laws.CloseTableLaws.{close-table}
+use Rattle.rulebook.specs.laws.AnySubmitLaws.{submitted-formed}
+use Rattle.rulebook.specs.laws.AnyCloseLaws.{closed-formed}
+use Rattle.rulebook.specs.laws.LentLaws.{submitted-beyond, closed-words-beyond, submitted-rows, refused-submit, refused-close}
+use Rattle.rulebook.specs.laws.LeavesLaws.{submitted-leaves, closed-leaves}
+use Rattle.rulebook.specs.laws.DeterminedLaws.{submit-determined, close-determined}
+use Rattle.rulebook.specs.laws.StartLaws.{opening-told, new-formed}
+use Rattle.rulebook.specs.laws.RunLaws.{run-of, calls-of}
+use Rattle.rulebook.specs.laws.Demand3Proof.{demand3, demand3-on-calls}
+use Rattle.rulebook.specs.laws.CompanionProof.{companion}
 
 pub record Theorems : Type 0 where
   -- ---- Calls on a book

@@ -1,3 +1,4 @@
 pub mod PriceSums
 pub mod SpareTold
-pub mod SpareToldLaws
+-- laws and proofs
+pub mod laws

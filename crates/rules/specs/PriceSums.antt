@@ -5,9 +5,9 @@ use native.Mathlib.Nat.{le-refl}
 use native.Mathlib.Omega.{arith}
 use lib.IntN.{ℤ, pos, natAbs, _+ℤ_, _*ℤ_}
 use Rattle.integer.specs.Integer.{positive}
-use Rattle.integer.specs.IntegerLaws.{parts, abs-mul-le}
+use Rattle.integer.specs.laws.IntegerLaws.{parts, abs-mul-le}
 use Rattle.integer.specs.Below.{fold, sumℤ}
-use Rattle.integer.specs.BelowLaws.{fold-suc, sumℕ-le, abs-sumℤ}
+use Rattle.integer.specs.laws.BelowLaws.{fold-suc, sumℕ-le, abs-sumℤ}
 use Rattle.rulebook.specs.Units.{mostPrice, mostQuantity}
 use Rattle.rulebook.specs.ReferencePrice.{weight, totalWeight, weightedSum, average, referencePrice}
 use Rattle.rules.specs.declared.price.Sums.{Sums}

@@ -1,4 +1,4 @@
 pub mod Marks
 pub mod Stored
-pub mod StoredLaws
-pub mod SubmitLaws
+-- laws and proofs
+pub mod laws

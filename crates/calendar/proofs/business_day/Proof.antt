@@ -5,7 +5,7 @@ use borrow.Author.Needs.{needs}
 use borrow.Author.Tests.{not-true, not-false}
 use Rattle.integer.specs.Integer.{positive}
 use Rattle.calendar.specs.Calendar.{isDay, isProper, isBusinessDay, businessAccepted, businessTold}
-use Rattle.calendar.specs.DateLaws.{given}
+use Rattle.calendar.specs.laws.DateLaws.{given}
 use Rattle.calendar.proofs.business_day.Statement.{statement}
 use Rattle.calendar.proofs.business_day.Tie as tie
 

@@ -6,7 +6,7 @@ use native.Mathlib.Omega.{arith}
 use borrow.Author.Tests.{not-true, not-false}
 use Rattle.integer.specs.Integer.{positive}
 use Rattle.calendar.specs.Calendar.{isDay, daysBeforeYear, dateOf, dateAccepted, dateTold}
-use Rattle.calendar.specs.DateLaws.{given, of-isDay}
+use Rattle.calendar.specs.laws.DateLaws.{given, of-isDay}
 use Rattle.calendar.proofs.date_of.Statement.{statement}
 use Rattle.calendar.proofs.date_of.Tie as tie
 

@@ -5,8 +5,8 @@ use native.Mathlib.Omega.{arith}
 use borrow.Author.Tests.{not-true, not-false}
 use Rattle.integer.specs.Integer.{positive}
 use Rattle.calendar.specs.Calendar.{Date, dayAccepted, dateGiven, dayTold}
-use Rattle.calendar.specs.YearLaws.{daysInMonth-range}
-use Rattle.calendar.specs.DateLaws.{given, of-isDate}
+use Rattle.calendar.specs.laws.YearLaws.{daysInMonth-range}
+use Rattle.calendar.specs.laws.DateLaws.{given, of-isDate}
 use Rattle.calendar.proofs.day_of.Statement.{statement}
 use Rattle.calendar.proofs.day_of.Tie as tie
 

@@ -6,7 +6,7 @@ use native.Mathlib.Omega.{arith}
 use borrow.Author.Tests.{not-true, not-false}
 use Rattle.integer.specs.Integer.{positive}
 use Rattle.calendar.specs.Calendar.{isDay, isProper, statementDay, finalStatement, upToLastDay, searchTold, finalStatementTold}
-use Rattle.calendar.specs.DateLaws.{given, of-isDay}
+use Rattle.calendar.specs.laws.DateLaws.{given, of-isDay}
 use Rattle.calendar.proofs.final_statement.Statement.{statement}
 use Rattle.calendar.proofs.final_statement.Tie as tie
 

@@ -6,7 +6,7 @@ use native.Mathlib.Omega.{arith}
 use borrow.Author.Tests.{not-true, not-false}
 use Rattle.integer.specs.Integer.{positive}
 use Rattle.calendar.specs.Calendar.{isMonth, isProper, isBusinessDay, nthAfter, dayOf, dueAfter, dueDay, upToLastDay, searchTold, residualDueTold}
-use Rattle.calendar.specs.DateLaws.{given}
+use Rattle.calendar.specs.laws.DateLaws.{given}
 use Rattle.calendar.proofs.residual_due.Statement.{statement}
 use Rattle.calendar.proofs.residual_due.Tie as tie
 

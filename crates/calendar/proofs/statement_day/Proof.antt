@@ -6,7 +6,7 @@ use borrow.Author.Tests.{not-true, not-false, lt-leb, le-leb}
 use Rattle.integer.specs.Integer.{positive}
 use Rattle.rulebook.specs.Units.{lastDay}
 use Rattle.calendar.specs.Calendar.{isDay, statementDay, dayAccepted, statementTold}
-use Rattle.calendar.specs.DateLaws.{given, of-isDay}
+use Rattle.calendar.specs.laws.DateLaws.{given, of-isDay}
 use Rattle.calendar.proofs.statement_day.Statement.{statement}
 use Rattle.calendar.proofs.statement_day.Tie as tie
 

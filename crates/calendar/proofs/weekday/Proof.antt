@@ -4,7 +4,7 @@ use borrow.Author.Needs.{needs}
 use borrow.Author.Tests.{not-true, not-false}
 use Rattle.integer.specs.Integer.{positive}
 use Rattle.calendar.specs.Calendar.{isDay, weekdayOf, weekdayAccepted, weekdayTold}
-use Rattle.calendar.specs.DateLaws.{given}
+use Rattle.calendar.specs.laws.DateLaws.{given}
 use Rattle.calendar.proofs.weekday.Statement.{statement}
 use Rattle.calendar.proofs.weekday.Tie as tie
 

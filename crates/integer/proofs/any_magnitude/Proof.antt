@@ -7,7 +7,7 @@ use mir.Syntax.{w64}
 use mir.Val.{SFits, toZ, ofZ}
 use mir.Facts.{toZ-ofZ}
 use Rattle.integer.specs.Integer.{negative}
-use Rattle.integer.specs.IntegerLaws.{int, parts, add-parts, fits-abs}
+use Rattle.integer.specs.laws.IntegerLaws.{int, parts, add-parts, fits-abs}
 use Rattle.integer.specs.Bits.{known}
 use Rattle.integer.proofs.any_magnitude.Statement.{statement}
 use Rattle.integer.proofs.any_magnitude.Tie as tie

@@ -2,7 +2,7 @@
 use borrow.Author.Needs.{needs}
 use lib.IntN.{pos, _-ℤ_}
 use mir.Facts.{toZ-ofZ}
-use Rattle.integer.specs.IntegerLaws.{int, parts, sub-parts}
+use Rattle.integer.specs.laws.IntegerLaws.{int, parts, sub-parts}
 use Rattle.integer.specs.Bits.{known, fits-sub}
 use Rattle.integer.proofs.magnitude.Statement.{statement}
 use Rattle.integer.proofs.magnitude.Tie as tie

@@ -8,9 +8,9 @@ use lib.Signed.{quotZ, remZ}
 use mir.Syntax.{w64}
 use mir.Val.{SFits, toZ, ofZ}
 use Rattle.integer.specs.Integer.{withSign}
-use Rattle.integer.specs.IntegerLaws.{int, fits-abs, withSign-abs}
+use Rattle.integer.specs.laws.IntegerLaws.{int, fits-abs, withSign-abs}
 use Rattle.integer.specs.Bits.{Holds, holds, holds-ok, holds-nat, holds-as, op-fits, op-holds, fits-add}
-use Rattle.integer.specs.NearestLaws.{quotient-abs, remainder-abs, nearest-cut, nearest-away}
+use Rattle.integer.specs.laws.NearestLaws.{quotient-abs, remainder-abs, nearest-cut, nearest-away}
 use Rattle.integer.proofs.nearest_to.Statement.{statement}
 use Rattle.integer.proofs.nearest_to.Tie as tie
 

@@ -7,7 +7,7 @@ use mir.Syntax.{w64}
 use mir.Facts.{toZ-ofZ}
 use mir.ValLaws.{toZ-pos}
 use Rattle.integer.specs.Integer.{negative}
-use Rattle.integer.specs.IntegerLaws.{int, withSign-negative, withSign-positive}
+use Rattle.integer.specs.laws.IntegerLaws.{int, withSign-negative, withSign-positive}
 use Rattle.integer.specs.Bits.{known, fits-sub, fits-neg}
 use Rattle.integer.proofs.with_sign.Statement.{statement}
 use Rattle.integer.proofs.with_sign.Tie as tie

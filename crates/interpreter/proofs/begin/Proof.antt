@@ -2,7 +2,7 @@
 use borrow.Author.Needs.{needs}
 use mathlib.Core.Path.{sym, ap, _∙_}
 use Rattle.rulebook.specs.declared.Answer.{Answer}
-use Rattle.interpreter.specs.InterpreterLaws.{begins-cut, begins-opened, begins-refused}
+use Rattle.interpreter.specs.laws.InterpreterLaws.{begins-cut, begins-opened, begins-refused}
 use Rattle.interpreter.proofs.begin.Statement.{statement}
 use Rattle.interpreter.proofs.begin.Tie as tie
 

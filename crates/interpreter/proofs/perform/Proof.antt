@@ -2,8 +2,8 @@
 use borrow.Author.Needs.{needs}
 use mathlib.Core.Path.{_≡_, sym, _∙_}
 use native.Mathlib.Omega.{arith}
-use Rattle.console.specs.InputLaws.{submit-fits, bad-near}
-use Rattle.interpreter.specs.InterpreterLaws.{performs-close, performs-submit, performs-bad, performs-end}
+use Rattle.console.specs.laws.InputLaws.{submit-fits, bad-near}
+use Rattle.interpreter.specs.laws.InterpreterLaws.{performs-close, performs-submit, performs-bad, performs-end}
 use Rattle.interpreter.proofs.perform.Statement.{statement}
 use Rattle.interpreter.proofs.perform.Tie as tie
 

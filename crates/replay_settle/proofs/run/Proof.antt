@@ -6,7 +6,7 @@ use lib.ListN.{length, drop, length-drop}
 use native.Mathlib.Omega.{arith}
 use Rattle.interpreter.specs.Interpreter.{newWords}
 use Rattle.interpreter.specs.Running.{RestOf, Stands}
-use Rattle.interpreter.specs.RunningLaws.{stands-begun, stands-next}
+use Rattle.interpreter.specs.laws.RunningLaws.{stands-begun, stands-next}
 use borrow.Author.Needs.{needs}
 use Rattle.replay_settle.proofs.run.Statement.{statement}
 use Rattle.replay_settle.proofs.run.Tie as tie

@@ -4,7 +4,7 @@ use Prim.Native.Nat.{_-_, _≤_}
 use native.Mathlib.Omega.{arith}
 use lib.Seq.{length-take-le}
 use borrow.Rule.Slice.PartMut.{mid-len, take-put}
-use Rattle.console.specs.ReadingLaws.{within-on}
+use Rattle.console.specs.laws.ReadingLaws.{within-on}
 use borrow.Author.Needs.{needs}
 use Rattle.settle.proofs.read_on.Statement.{statement}
 use Rattle.settle.proofs.read_on.Tie as tie

@@ -8,7 +8,7 @@ use borrow.Author.Tests.{not-true, not-false}
 use native.Mathlib.Omega.{arith}
 use Rattle.interpreter.specs.Interpreter.{newWords}
 use Rattle.interpreter.specs.Running.{SomeItem, farthest, Stands}
-use Rattle.interpreter.specs.RunningLaws.{stands-begun, stands-next}
+use Rattle.interpreter.specs.laws.RunningLaws.{stands-begun, stands-next}
 use borrow.Author.Needs.{needs}
 use Rattle.settle.proofs.run.Statement.{statement}
 use Rattle.settle.proofs.run.Tie as tie

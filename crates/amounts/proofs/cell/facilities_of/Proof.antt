@@ -2,7 +2,7 @@
 use mathlib.Core.Path.{ap}
 use borrow.Author.Needs.{sfits-of}
 use Rattle.integer.specs.Integer.{positive}
-use Rattle.integer.specs.IntegerLaws.{int, parts}
+use Rattle.integer.specs.laws.IntegerLaws.{int, parts}
 use Rattle.integer.specs.Bits.{known}
 use Rattle.amounts.proofs.cell.facilities_of.Statement.{statement}
 use Rattle.amounts.proofs.cell.facilities_of.Tie as tie

@@ -4,7 +4,7 @@ use borrow.Author.Needs.{needs}
 use lib.IntN.{pos, natAbs, _-ℤ_, _*ℤ_}
 use mir.Syntax.{w64}
 use mir.Val.{SFits, toZ, ofZ}
-use Rattle.integer.specs.IntegerLaws.{int, abs-sub, abs-mul-le, fits-abs}
+use Rattle.integer.specs.laws.IntegerLaws.{int, abs-sub, abs-mul-le, fits-abs}
 use Rattle.integer.specs.Bits.{Holds, holds, holds-ok, holds-as, op-fits, op-holds}
 use Rattle.amounts.proofs.cell.priced.Statement.{statement}
 use Rattle.amounts.proofs.cell.priced.Tie as tie

@@ -7,18 +7,18 @@ use borrow.Author.Needs.{needs}
 use lib.IntN.{ℤ, pos, natAbs, _-ℤ_, _*ℤ_}
 use mir.Syntax.{w64}
 use mir.Val.{toZ, ofZ}
-use Rattle.integer.specs.IntegerLaws.{int}
+use Rattle.integer.specs.laws.IntegerLaws.{int}
 use Rattle.integer.specs.Bits.{got, known}
 use Rattle.integer.specs.Words.{word}
 use Rattle.rulebook.specs.Units.{asQuantity}
 use Rattle.rulebook.specs.Shares.{shareOf}
-use Rattle.rulebook.specs.SharesLaws.{share-cap}
+use Rattle.rulebook.specs.laws.SharesLaws.{share-cap}
 use Rattle.rulebook.specs.Tranches.{tranche1, tranche2}
-use Rattle.rulebook.specs.TranchesLaws.{tranche-split}
+use Rattle.rulebook.specs.laws.TranchesLaws.{tranche-split}
 use Rattle.rulebook.specs.DayAmount.{shareAmount}
-use Rattle.rulebook.specs.SizeLaws.{first-tranche-size, second-tranche-size}
+use Rattle.rulebook.specs.laws.SizeLaws.{first-tranche-size, second-tranche-size}
 use Rattle.amounts.specs.Cell.{cellData}
-use Rattle.amounts.specs.CellLaws.{cell-sized, priced-cong, shareOf-cong, tranche-cong, sum-cong}
+use Rattle.amounts.specs.laws.CellLaws.{cell-sized, priced-cong, shareOf-cong, tranche-cong, sum-cong}
 use Rattle.amounts.proofs.cell.residual_amount.Statement.{statement}
 use Rattle.amounts.proofs.cell.residual_amount.Tie as tie
 

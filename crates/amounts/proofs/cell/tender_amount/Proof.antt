@@ -7,16 +7,16 @@ use borrow.Author.Needs.{needs}
 use lib.IntN.{ℤ, pos, natAbs, _+ℤ_, _-ℤ_, _*ℤ_}
 use mir.Syntax.{w64}
 use mir.Val.{toZ, ofZ}
-use Rattle.integer.specs.IntegerLaws.{int}
+use Rattle.integer.specs.laws.IntegerLaws.{int}
 use Rattle.integer.specs.Bits.{Holds, holds-ok, holds-as, known, got}
 use Rattle.integer.specs.Below.{fold, sumℤ}
-use Rattle.integer.specs.BelowLaws.{fold-suc}
+use Rattle.integer.specs.laws.BelowLaws.{fold-suc}
 use Rattle.integer.specs.Words.{word}
 use Rattle.rulebook.specs.Units.{asQuantity}
 use Rattle.rulebook.specs.DayAmount.{tenderAmount}
-use Rattle.rulebook.specs.SizeLaws.{tender-size, tenders-size}
+use Rattle.rulebook.specs.laws.SizeLaws.{tender-size, tenders-size}
 use Rattle.amounts.specs.Cell.{cellData}
-use Rattle.amounts.specs.CellLaws.{cell-sized}
+use Rattle.amounts.specs.laws.CellLaws.{cell-sized}
 use Rattle.amounts.proofs.cell.tender_amount.Statement.{statement}
 use Rattle.amounts.proofs.cell.tender_amount.Tie as tie
 

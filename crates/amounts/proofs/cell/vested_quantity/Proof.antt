@@ -3,7 +3,7 @@ use mathlib.Core.Path.{_≡_, ap, _∙_}
 use Prim.Native.Nat.{ℕ, _+_, _*_, _-_, _≤_}
 use native.Mathlib.Omega.{arith}
 use Rattle.integer.specs.Below.{fold, sumℕ}
-use Rattle.integer.specs.BelowLaws.{fold-suc}
+use Rattle.integer.specs.laws.BelowLaws.{fold-suc}
 use Rattle.integer.specs.Words.{word}
 use Rattle.rulebook.specs.Units.{asQuantity}
 use Rattle.rulebook.specs.DayAmount.{vestedQuantity}

@@ -11,9 +11,9 @@ use Rattle.integer.specs.Bits.{got}
 use Rattle.integer.specs.Words.{word}
 use Rattle.rulebook.specs.Units.{asQuantity}
 use Rattle.rulebook.specs.DayAmount.{referencePriceOf, tenderAmount, vestingAmount}
-use Rattle.rulebook.specs.SizeLaws.{price-sized, base-size, tender-amount-size}
+use Rattle.rulebook.specs.laws.SizeLaws.{price-sized, base-size, tender-amount-size}
 use Rattle.amounts.specs.Cell.{cellData}
-use Rattle.amounts.specs.CellLaws.{cell-sized, priced-cong, sum-cong}
+use Rattle.amounts.specs.laws.CellLaws.{cell-sized, priced-cong, sum-cong}
 use Rattle.amounts.proofs.cell.vesting_amount.Statement.{statement}
 use Rattle.amounts.proofs.cell.vesting_amount.Tie as tie
 

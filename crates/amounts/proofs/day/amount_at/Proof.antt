@@ -8,12 +8,12 @@ use borrow.Author.Needs.{needs}
 use lib.IntN.{ℤ}
 use lib.ListN.{length, take, drop}
 use Rattle.integer.specs.Words.{part}
-use Rattle.integer.specs.WordsLaws.{lent}
+use Rattle.integer.specs.laws.WordsLaws.{lent}
 use Rattle.integer.specs.Bits.{got}
 use Rattle.rulebook.specs.Layout.{intervalWords, accountWords, intervalLength}
 use Rattle.amounts.specs.declared.interval.Residual.{Residual}
 use Rattle.amounts.specs.Day.{cellAt, amountAt, slotAmount}
-use Rattle.amounts.specs.DayLaws.{cell-ranged, cell-fits}
+use Rattle.amounts.specs.laws.DayLaws.{cell-ranged, cell-fits}
 use Rattle.amounts.proofs.day.amount_at.Statement.{statement}
 use Rattle.amounts.proofs.day.amount_at.Tie as tie
 

@@ -54,7 +54,7 @@ use Rattle.amounts.specs.declared.total.DayTotal.{DayTotal}
 use Rattle.amounts.specs.declared.day.Residuals.{Residuals}
 use Rattle.amounts.specs.Total.{absorbed}
 use Rattle.amounts.specs.Day.{DaysRanged, slotAmount, totalTo}
-use Rattle.amounts.specs.DayLaws.{total-zero, total-suc, total-room}
+use Rattle.amounts.specs.laws.DayLaws.{total-zero, total-suc, total-room}
 use Rattle.amounts.proofs.total.DayTotal as T
 use Rattle.amounts.proofs.total.DayTotal.Laws as T′
 use Rattle.amounts.proofs.day.Residuals as R

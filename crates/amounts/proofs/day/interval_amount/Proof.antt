@@ -9,16 +9,16 @@ use lib.IntN.{ℤ, natAbs, _+ℤ_, +ℤ-idr}
 use mir.Syntax.{w64}
 use mir.Val.{SFits, toZ, ofZ}
 use mir.Facts.{toZ-ofZ}
-use Rattle.integer.specs.IntegerLaws.{int, fits-abs}
+use Rattle.integer.specs.laws.IntegerLaws.{int, fits-abs}
 use Rattle.integer.specs.Bits.{got, known}
 use Rattle.rulebook.specs.DayAmount.{AccountData, referencePriceOf, vestingAmount, shareAmount}
 use Rattle.rulebook.specs.Shares.{shareOf}
-use Rattle.rulebook.specs.SizeLaws.{price-sized, vesting-size}
+use Rattle.rulebook.specs.laws.SizeLaws.{price-sized, vesting-size}
 use Rattle.amounts.specs.declared.interval.Residual.{Residual}
 use Rattle.amounts.specs.Cell.{cellData}
 use Rattle.amounts.specs.Day.{cellResidual, amountAt}
-use Rattle.amounts.specs.CellLaws.{cell-sized, sum-cong}
-use Rattle.amounts.specs.DayLaws.{cell-residual-le}
+use Rattle.amounts.specs.laws.CellLaws.{cell-sized, sum-cong}
+use Rattle.amounts.specs.laws.DayLaws.{cell-residual-le}
 use Rattle.amounts.proofs.day.interval_amount.Statement.{statement}
 use Rattle.amounts.proofs.day.interval_amount.Tie as tie
 

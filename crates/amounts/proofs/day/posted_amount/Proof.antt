@@ -7,12 +7,12 @@ use lib.IntN.{ℤ, natAbs}
 use mir.Syntax.{w64}
 use mir.Val.{SFits}
 use mir.Facts.{toZ-ofZ}
-use Rattle.integer.specs.IntegerLaws.{int, fits-abs}
+use Rattle.integer.specs.laws.IntegerLaws.{int, fits-abs}
 use Rattle.integer.specs.Bits.{got, known}
 use Rattle.rulebook.specs.Units.{intervals, nearest, thousandthsPerCent}
 use Rattle.amounts.specs.declared.total.DayTotal.{DayTotal}
 use Rattle.amounts.specs.Day.{slotPosted, totalTo}
-use Rattle.amounts.specs.DayLaws.{total-le}
+use Rattle.amounts.specs.laws.DayLaws.{total-le}
 use Rattle.amounts.proofs.day.posted_amount.Statement.{statement}
 use Rattle.amounts.proofs.day.posted_amount.Tie as tie
 

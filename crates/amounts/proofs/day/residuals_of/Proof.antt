@@ -10,16 +10,16 @@ use mir.Syntax.{w64}
 use mir.Val.{SFits}
 use mir.Facts.{toZ-ofZ}
 use Rattle.integer.specs.Below.{tabulate}
-use Rattle.integer.specs.IntegerLaws.{int, fits-abs}
+use Rattle.integer.specs.laws.IntegerLaws.{int, fits-abs}
 use Rattle.integer.specs.Words.{part, filled}
-use Rattle.integer.specs.WordsLaws.{row-fits, lent, filled-step, filled-whole}
+use Rattle.integer.specs.laws.WordsLaws.{row-fits, lent, filled-step, filled-whole}
 use Rattle.rulebook.specs.Units.{intervals}
 use Rattle.rulebook.specs.Layout.{intervalLength}
 use Rattle.amounts.specs.declared.interval.Residual.{Residual}
 use Rattle.amounts.specs.declared.day.Residuals.{Residuals}
 use Rattle.rulebook.specs.DayAmount.{residualLoad, spareGeneration}
 use Rattle.amounts.specs.Interval.{loadIn, dataIn, residualAt}
-use Rattle.amounts.specs.IntervalLaws.{residual-le}
+use Rattle.amounts.specs.laws.IntervalLaws.{residual-le}
 use Rattle.amounts.specs.Day.{intervalOf, residualsOf}
 use Rattle.amounts.proofs.day.residuals_of.Statement.{statement}
 use Rattle.amounts.proofs.day.residuals_of.Tie as tie

@@ -3,7 +3,7 @@ use borrow.Author.Needs.{needs}
 use lib.IntN.{pos, _-ℤ_}
 use mir.Syntax.{w64}
 use mir.Val.{SFits, ofZ}
-use Rattle.integer.specs.IntegerLaws.{int}
+use Rattle.integer.specs.laws.IntegerLaws.{int}
 use Rattle.integer.specs.Bits.{Holds, holds, holds-ok, holds-as, fits-sub, op-fits, op-holds}
 use Rattle.amounts.proofs.interval.less_vested.Statement.{statement}
 use Rattle.amounts.proofs.interval.less_vested.Tie as tie

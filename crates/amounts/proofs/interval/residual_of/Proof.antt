@@ -8,11 +8,11 @@ use mir.Syntax.{w64}
 use mir.Val.{toZ, ofZ}
 use Rattle.integer.specs.Bits.{got}
 use Rattle.rulebook.specs.DayAmount.{residualLoad}
-use Rattle.rulebook.specs.SizeLaws.{all-vested-size}
+use Rattle.rulebook.specs.laws.SizeLaws.{all-vested-size}
 use Rattle.amounts.specs.declared.interval.Residual.{Residual}
 use Rattle.amounts.specs.declared.interval.Totals.{Totals}
 use Rattle.amounts.specs.Interval.{loadIn, dataIn}
-use Rattle.amounts.specs.IntervalLaws.{data-sized, load-le, load-is}
+use Rattle.amounts.specs.laws.IntervalLaws.{data-sized, load-le, load-is}
 use Rattle.amounts.proofs.interval.residual_of.Statement.{statement}
 use Rattle.amounts.proofs.interval.residual_of.Tie as tie
 

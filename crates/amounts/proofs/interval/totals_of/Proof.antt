@@ -6,11 +6,11 @@ use native.Mathlib.Omega.{arith}
 use borrow.Author.Needs.{needs}
 use lib.IntN.{ℤ}
 use lib.ListN.{length}
-use Rattle.integer.specs.WordsLaws.{row-fits, lent}
+use Rattle.integer.specs.laws.WordsLaws.{row-fits, lent}
 use Rattle.rulebook.specs.Layout.{intervalWords, accountWords}
 use Rattle.amounts.specs.declared.interval.Totals.{Totals}
 use Rattle.amounts.specs.Interval.{totalsOf, more, Room}
-use Rattle.amounts.specs.IntervalLaws.{totals-zero, totals-suc, totals-room}
+use Rattle.amounts.specs.laws.IntervalLaws.{totals-zero, totals-suc, totals-room}
 use Rattle.amounts.proofs.interval.totals_of.Statement.{statement}
 use Rattle.amounts.proofs.interval.totals_of.Tie as tie
 

@@ -1,7 +1,7 @@
 -- `meter_fits` meets its contract: by `meter-is` the row fits exactly if its flag and its four pairs do.
 use borrow.Author.Needs.{needs}
-use Rattle.book.specs.LoopLaws.{passed, left}
-use Rattle.book.specs.RowLaws.{meter-is}
+use Rattle.book.specs.laws.LoopLaws.{passed, left}
+use Rattle.book.specs.laws.RowLaws.{meter-is}
 use Rattle.book.proofs.cell.meter_fits.Statement.{statement}
 use Rattle.book.proofs.cell.meter_fits.Tie as tie
 

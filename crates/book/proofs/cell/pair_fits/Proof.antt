@@ -5,7 +5,7 @@ use lib.Signed.{ltZ}
 use mir.Syntax.{w64}
 use mir.Val.{toZ, ofZ}
 use Rattle.integer.specs.Words.{word}
-use Rattle.book.specs.LoopLaws.{passed, left}
+use Rattle.book.specs.laws.LoopLaws.{passed, left}
 use Rattle.book.specs.Parts.{pairFits}
 use Rattle.book.proofs.cell.pair_fits.Statement.{statement}
 use Rattle.book.proofs.cell.pair_fits.Tie as tie

@@ -1,7 +1,7 @@
 -- `vesting_fits` meets its contract: by `vesting-is` the row fits exactly if its flag and its four pairs do.
 use borrow.Author.Needs.{needs}
-use Rattle.book.specs.LoopLaws.{passed, left}
-use Rattle.book.specs.RowLaws.{vesting-is}
+use Rattle.book.specs.laws.LoopLaws.{passed, left}
+use Rattle.book.specs.laws.RowLaws.{vesting-is}
 use Rattle.book.proofs.cell.vesting_fits.Statement.{statement}
 use Rattle.book.proofs.cell.vesting_fits.Tie as tie
 

@@ -4,9 +4,9 @@ use Prim.Native.Nat.{_+_, _*_}
 use native.Mathlib.Nat.{one-mul}
 use native.Mathlib.Omega.{arith}
 use borrow.Author.Needs.{needs}
-use Rattle.integer.specs.WordsLaws.{lent}
+use Rattle.integer.specs.laws.WordsLaws.{lent}
 use Rattle.rulebook.specs.WellFormed.{balanceFits, balanceWordsFit}
-use Rattle.book.specs.BlankLaws.{blank-part}
+use Rattle.book.specs.laws.BlankLaws.{blank-part}
 use Rattle.book.proofs.header.balance_fits.Statement.{statement}
 use Rattle.book.proofs.header.balance_fits.Tie as tie
 

@@ -5,7 +5,7 @@ use native.Mathlib.Omega.{arith}
 use borrow.Author.Needs.{needs}
 use Rattle.integer.specs.Below.{fold, all}
 use Rattle.rulebook.specs.WellFormed.{balanceWordsFit}
-use Rattle.book.specs.LoopLaws.{all-step}
+use Rattle.book.specs.laws.LoopLaws.{all-step}
 use Rattle.book.proofs.header.balances_fit.Statement.{statement}
 use Rattle.book.proofs.header.balances_fit.Tie as tie
 

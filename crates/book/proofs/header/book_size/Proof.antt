@@ -2,7 +2,7 @@
 use native.Mathlib.Omega.{arith}
 use borrow.Author.Needs.{needs}
 use Rattle.rulebook.specs.Layout.{intervalSize, ring, base, size}
-use Rattle.book.specs.HeaderLaws.{slots-small}
+use Rattle.book.specs.laws.HeaderLaws.{slots-small}
 use Rattle.book.proofs.header.book_size.Statement.{statement}
 use Rattle.book.proofs.header.book_size.Tie as tie
 

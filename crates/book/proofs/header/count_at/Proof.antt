@@ -4,7 +4,7 @@ use borrow.Author.Needs.{needs}
 use mir.Syntax.{w64}
 use mir.Val.{toZ, ofZ}
 use Rattle.integer.specs.Bits.{got}
-use Rattle.integer.specs.IntegerLaws.{int, parts}
+use Rattle.integer.specs.laws.IntegerLaws.{int, parts}
 use Rattle.integer.specs.Words.{word}
 use Rattle.book.proofs.header.count_at.Statement.{statement}
 use Rattle.book.proofs.header.count_at.Tie as tie

@@ -3,7 +3,7 @@ use mathlib.Core.Path.{_∙_}
 use native.Mathlib.Omega.{arith}
 use borrow.Author.Needs.{needs}
 use Rattle.rulebook.specs.WellFormed.{headerFits}
-use Rattle.book.specs.BlankLaws.{blank-part}
+use Rattle.book.specs.laws.BlankLaws.{blank-part}
 use Rattle.book.specs.Header.{termsWordsFit}
 use Rattle.book.proofs.header.header_fits.Statement.{statement}
 use Rattle.book.proofs.header.header_fits.Tie as tie

@@ -2,7 +2,7 @@
 use native.Mathlib.Omega.{arith}
 use borrow.Author.Needs.{needs}
 use Rattle.rulebook.specs.WellFormed.{balanceFits}
-use Rattle.book.specs.HeaderLaws.{bound-small}
+use Rattle.book.specs.laws.HeaderLaws.{bound-small}
 use Rattle.book.proofs.header.mssl_fits.Statement.{statement}
 use Rattle.book.proofs.header.mssl_fits.Tie as tie
 

@@ -1,7 +1,7 @@
 -- `next_day_of` meets its contract: the word is not below zero.
 use native.Mathlib.Omega.{arith}
 use borrow.Author.Needs.{needs}
-use Rattle.book.specs.HeaderLaws.{header-says}
+use Rattle.book.specs.laws.HeaderLaws.{header-says}
 use Rattle.book.proofs.header.next_day_of.Statement.{statement}
 use Rattle.book.proofs.header.next_day_of.Tie as tie
 

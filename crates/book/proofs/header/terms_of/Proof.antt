@@ -1,6 +1,6 @@
 -- `terms_of` meets its contract: none of the four words is below zero.
 use native.Mathlib.Omega.{arith}
-use Rattle.book.specs.HeaderLaws.{header-says}
+use Rattle.book.specs.laws.HeaderLaws.{header-says}
 use Rattle.book.proofs.header.terms_of.Statement.{statement}
 use Rattle.book.proofs.header.terms_of.Tie as tie
 

@@ -3,13 +3,13 @@ use mathlib.Core.Path.{_≡_, _∙_}
 use Prim.Native.Nat.{_+_, _*_}
 use native.Mathlib.Omega.{arith}
 use borrow.Author.Needs.{needs}
-use Rattle.integer.specs.WordsLaws.{lent}
+use Rattle.integer.specs.laws.WordsLaws.{lent}
 use Rattle.rulebook.specs.Layout.{balanceWord, slotLength, ring}
 use Rattle.rulebook.specs.WellFormed.{daysFit}
-use Rattle.book.specs.JudgeLaws.{header-inside}
+use Rattle.book.specs.laws.JudgeLaws.{header-inside}
 use Rattle.book.specs.Judged.{contentsFit}
-use Rattle.book.specs.LoopLaws.{length-lent}
-use Rattle.book.specs.WalkLaws.{size-by-slots, slots-are-days}
+use Rattle.book.specs.laws.LoopLaws.{length-lent}
+use Rattle.book.specs.laws.WalkLaws.{size-by-slots, slots-are-days}
 use Rattle.book.proofs.judge.contents_fit.Statement.{statement}
 use Rattle.book.proofs.judge.contents_fit.Tie as tie
 

@@ -1,8 +1,8 @@
 -- `open_book` meets its contract: each answer, with the words that it leaves, is the promise's.
 use native.Mathlib.Omega.{arith}
 use borrow.Author.Needs.{needs}
-use Rattle.book.specs.LoopLaws.{passed, left}
-use Rattle.book.specs.OpenLaws.{terms-in, terms-refused, size-refused, book-opened}
+use Rattle.book.specs.laws.LoopLaws.{passed, left}
+use Rattle.book.specs.laws.OpenLaws.{terms-in, terms-refused, size-refused, book-opened}
 use Rattle.book.proofs.open.open_book.Statement.{statement}
 use Rattle.book.proofs.open.open_book.Tie as tie
 

@@ -1,8 +1,8 @@
 -- `put_new_book` meets its contract: the header is stored, then the part from word 6 to the size is cleared.
 use native.Mathlib.Omega.{arith}
 use borrow.Author.Needs.{needs}
-use Rattle.book.specs.JudgeLaws.{header-inside}
-use Rattle.book.specs.OpenLaws.{header-then-zeros}
+use Rattle.book.specs.laws.JudgeLaws.{header-inside}
+use Rattle.book.specs.laws.OpenLaws.{header-then-zeros}
 use Rattle.book.proofs.open.put_new_book.Statement.{statement}
 use Rattle.book.proofs.open.put_new_book.Tie as tie
 

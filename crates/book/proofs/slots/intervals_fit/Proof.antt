@@ -9,11 +9,11 @@ use borrow.Author.Needs.{needs}
 use lib.IntN.{ℤ}
 use lib.ListN.{take, drop}
 use Rattle.integer.specs.Below.{fold, all}
-use Rattle.integer.specs.WordsLaws.{row-fits, lent}
+use Rattle.integer.specs.laws.WordsLaws.{row-fits, lent}
 use Rattle.integer.specs.Words.{part}
 use Rattle.rulebook.specs.Units.{intervals}
 use Rattle.rulebook.specs.Layout.{intervalLength}
-use Rattle.book.specs.LoopLaws.{all-step, length-lent}
+use Rattle.book.specs.laws.LoopLaws.{all-step, length-lent}
 use Rattle.book.specs.Parts.{intervalFits, intervalsFit}
 use Rattle.book.proofs.slots.intervals_fit.Statement.{statement}
 use Rattle.book.proofs.slots.intervals_fit.Tie as tie

@@ -9,12 +9,12 @@ use lib.Dec.{ltb}
 use lib.IntN.{ℤ}
 use lib.ListN.{length}
 use Rattle.integer.specs.Below.{fold, all}
-use Rattle.integer.specs.WordsLaws.{row-fits, lent}
+use Rattle.integer.specs.laws.WordsLaws.{row-fits, lent}
 use Rattle.integer.specs.Words.{part}
 use Rattle.rulebook.specs.Layout.{slotLength, ring}
 use Rattle.rulebook.specs.declared.Terms.{Terms}
 use Rattle.rulebook.specs.WindowWalk.{windowPlace}
-use Rattle.book.specs.LoopLaws.{all-step, length-lent}
+use Rattle.book.specs.laws.LoopLaws.{all-step, length-lent}
 use Rattle.book.specs.Parts.{slotFits}
 use Rattle.book.specs.Slots.{isDay, slotsFit}
 use Rattle.book.proofs.slots.slots_fit.Statement.{statement}

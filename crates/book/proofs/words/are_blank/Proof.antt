@@ -5,9 +5,9 @@ use native.Mathlib.Omega.{arith}
 use borrow.Author.Needs.{needs}
 use Rattle.integer.specs.Below.{fold, all}
 use Rattle.integer.specs.Words.{part}
-use Rattle.integer.specs.WordsLaws.{lent}
-use Rattle.book.specs.BlankLaws.{blank-rows}
-use Rattle.book.specs.LoopLaws.{all-step}
+use Rattle.integer.specs.laws.WordsLaws.{lent}
+use Rattle.book.specs.laws.BlankLaws.{blank-rows}
+use Rattle.book.specs.laws.LoopLaws.{all-step}
 use Rattle.book.specs.Parts.{blank, rowWords}
 use Rattle.book.proofs.words.are_blank.Statement.{statement}
 use Rattle.book.proofs.words.are_blank.Tie as tie

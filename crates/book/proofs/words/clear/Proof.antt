@@ -7,7 +7,7 @@ use lib.IntN.{pos}
 use lib.ListN.{length, length-set}
 use Rattle.integer.specs.Below.{tabulate}
 use Rattle.integer.specs.Words.{filled}
-use Rattle.integer.specs.WordsLaws.{filled-suc, filled-all}
+use Rattle.integer.specs.laws.WordsLaws.{filled-suc, filled-all}
 use Rattle.book.proofs.words.clear.Statement.{statement}
 use Rattle.book.proofs.words.clear.Tie as tie
 

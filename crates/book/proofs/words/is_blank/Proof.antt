@@ -7,7 +7,7 @@ use lib.ListN.{length}
 use Rattle.integer.specs.Below.{fold, all}
 use Rattle.integer.specs.Words.{word}
 use Rattle.rulebook.specs.WellFormed.{isZero}
-use Rattle.book.specs.LoopLaws.{all-step}
+use Rattle.book.specs.laws.LoopLaws.{all-step}
 use Rattle.book.specs.Parts.{blank}
 use Rattle.book.proofs.words.is_blank.Statement.{statement}
 use Rattle.book.proofs.words.is_blank.Tie as tie

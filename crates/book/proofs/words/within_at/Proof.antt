@@ -8,7 +8,7 @@ use mir.Val.{toZ, ofZ}
 use mir.ValLaws.{toZ-ofZ}
 use Rattle.integer.specs.Bits.{got, holds-nat, fits-sub}
 use Rattle.integer.specs.Words.{word}
-use Rattle.book.specs.WordLaws.{within-is}
+use Rattle.book.specs.laws.WordLaws.{within-is}
 use Rattle.book.proofs.words.within_at.Statement.{statement}
 use Rattle.book.proofs.words.within_at.Tie as tie
 

@@ -1,7 +1,7 @@
 -- `zero_at` meets its contract: a word is zero where its bits are.
 use borrow.Author.Needs.{needs}
 use Rattle.integer.specs.Words.{word}
-use Rattle.book.specs.WordLaws.{zero-bits}
+use Rattle.book.specs.laws.WordLaws.{zero-bits}
 use Rattle.book.proofs.words.zero_at.Statement.{statement}
 use Rattle.book.proofs.words.zero_at.Tie as tie
 

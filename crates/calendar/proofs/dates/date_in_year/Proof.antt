@@ -5,8 +5,8 @@ use Prim.Native.Nat.{_+_, _-_, _≤_, _<_}
 use borrow.Author.Needs.{needs}
 use native.Mathlib.Omega.{arith}
 use Rattle.calendar.specs.Calendar.{dateAccepted, daysBeforeMonth, daysInMonth}
-use Rattle.calendar.specs.YearLaws.{january, daysInYear-range, daysBeforeMonth-within, daysBeforeMonth-suc, december}
-use Rattle.calendar.specs.DateLaws.{dateOf-in-year}
+use Rattle.calendar.specs.laws.YearLaws.{january, daysInYear-range, daysBeforeMonth-within, daysBeforeMonth-suc, december}
+use Rattle.calendar.specs.laws.DateLaws.{dateOf-in-year}
 use Rattle.calendar.proofs.dates.date_in_year.Statement.{statement}
 use Rattle.calendar.proofs.dates.date_in_year.Tie as tie
 

@@ -2,7 +2,7 @@
 use borrow.Author.Needs.{needs}
 use native.Mathlib.Omega.{arith}
 use Rattle.calendar.specs.Calendar.{dayOf}
-use Rattle.calendar.specs.YearLaws.{daysBeforeYear-closed, daysInYear-range, daysBeforeMonth-within}
+use Rattle.calendar.specs.laws.YearLaws.{daysBeforeYear-closed, daysInYear-range, daysBeforeMonth-within}
 use Rattle.calendar.proofs.dates.day_number.Statement.{statement}
 use Rattle.calendar.proofs.dates.day_number.Tie as tie
 

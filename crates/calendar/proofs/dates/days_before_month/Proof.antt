@@ -4,7 +4,7 @@ use Prim.Native.Nat.{_-_, _≤_}
 use borrow.Author.Needs.{needs}
 use native.Mathlib.Omega.{arith}
 use Rattle.calendar.specs.Calendar.{daysBeforeMonth}
-use Rattle.calendar.specs.YearLaws.{january, daysInYear-range, daysBeforeMonth-within, daysBeforeMonth-suc}
+use Rattle.calendar.specs.laws.YearLaws.{january, daysInYear-range, daysBeforeMonth-within, daysBeforeMonth-suc}
 use Rattle.calendar.proofs.dates.days_before_month.Statement.{statement}
 use Rattle.calendar.proofs.dates.days_before_month.Tie as tie
 

@@ -3,7 +3,7 @@ use borrow.Author.Needs.{needs}
 use native.Mathlib.Omega.{arith}
 use borrow.Author.Tests.{lt-ltb, le-ltb}
 use Rattle.calendar.specs.Calendar.{dueAfter}
-use Rattle.calendar.specs.DateLaws.{of-isMonth}
+use Rattle.calendar.specs.laws.DateLaws.{of-isMonth}
 use Rattle.calendar.proofs.dates.due_after.Statement.{statement}
 use Rattle.calendar.proofs.dates.due_after.Tie as tie
 

@@ -1,5 +1,5 @@
 -- `natural` meets its contract: the parts of z, read by omega.
-use Rattle.integer.specs.IntegerLaws.{int}
+use Rattle.integer.specs.laws.IntegerLaws.{int}
 use Rattle.integer.specs.Bits.{known}
 use Rattle.calendar.proofs.dates.natural.Statement.{statement}
 use Rattle.calendar.proofs.dates.natural.Tie as tie

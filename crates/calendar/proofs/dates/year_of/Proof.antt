@@ -2,7 +2,7 @@
 use Prim.Native.Nat.{ℕ, _+_, _*_, _-_, _/_, _%_}
 use borrow.Author.Needs.{needs}
 use native.Mathlib.Omega.{arith}
-use Rattle.calendar.specs.YearLaws.{daysBeforeYear-closed, daysBeforeYear-suc}
+use Rattle.calendar.specs.laws.YearLaws.{daysBeforeYear-closed, daysBeforeYear-suc}
 use Rattle.calendar.proofs.dates.year_of.Statement.{statement}
 use Rattle.calendar.proofs.dates.year_of.Tie as tie
 

@@ -1,7 +1,7 @@
 -- `first_from` meets its contract. The invariant: the entries below low lie before the day, those from high on do not. The list ascends, so the entry in the middle settles one half. The measure is high - low.
 use Prim.Native.Nat.{ℕ, _+_, _-_, _/_}
 use native.Mathlib.Omega.{arith}
-use Rattle.calendar.specs.HolidayLaws.{Bracket, bracket-start, bracket-up, bracket-down, bracket-end}
+use Rattle.calendar.specs.laws.HolidayLaws.{Bracket, bracket-start, bracket-up, bracket-down, bracket-end}
 use Rattle.calendar.proofs.holidays.first_from.Statement.{statement}
 use Rattle.calendar.proofs.holidays.first_from.Tie as tie
 

@@ -2,7 +2,7 @@
 use mathlib.Core.Path.{sym, ap, _∙_}
 use borrow.Author.Needs.{needs}
 use lib.Dec.{eqb}
-use Rattle.calendar.specs.HolidayLaws.{listed-is, none-listed}
+use Rattle.calendar.specs.laws.HolidayLaws.{listed-is, none-listed}
 use Rattle.calendar.proofs.holidays.is_listed.Statement.{statement}
 use Rattle.calendar.proofs.holidays.is_listed.Tie as tie
 

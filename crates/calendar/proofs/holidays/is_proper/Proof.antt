@@ -7,7 +7,7 @@ use native.Mathlib.Omega.{arith}
 use borrow.Author.Tests.{not-true, not-false}
 use lib.ListN.{length}
 use Rattle.integer.specs.Below.{fold, all}
-use Rattle.integer.specs.BelowLaws.{all-more, all-fails}
+use Rattle.integer.specs.laws.BelowLaws.{all-more, all-fails}
 use Rattle.calendar.specs.Calendar.{inPlace, isProper}
 use Rattle.calendar.proofs.holidays.is_proper.Statement.{statement}
 use Rattle.calendar.proofs.holidays.is_proper.Tie as tie

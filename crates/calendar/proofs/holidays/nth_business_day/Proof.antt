@@ -5,7 +5,7 @@ use borrow.Author.Needs.{needs}
 use native.Mathlib.Omega.{arith}
 use Rattle.rulebook.specs.Units.{lastDay}
 use Rattle.calendar.specs.Calendar.{isBusinessDay, daysAfter}
-use Rattle.calendar.specs.BusinessLaws.{daysAfter-none, daysAfter-suc, daysAfter-mono, nth-here, nth-found, nth-none}
+use Rattle.calendar.specs.laws.BusinessLaws.{daysAfter-none, daysAfter-suc, daysAfter-mono, nth-here, nth-found, nth-none}
 use Rattle.calendar.proofs.holidays.nth_business_day.Statement.{statement}
 use Rattle.calendar.proofs.holidays.nth_business_day.Tie as tie
 

@@ -1,7 +1,7 @@
 -- `close` meets its contract: the promise goes by what the judge says of the book.
 use mathlib.Core.Path.{sym, _∙_}
-use Rattle.book.specs.JudgedLaws.{book-ill}
-use Rattle.closing.specs.CloseLaws.{ill-formed}
+use Rattle.book.specs.laws.JudgedLaws.{book-ill}
+use Rattle.closing.specs.laws.CloseLaws.{ill-formed}
 use borrow.Author.Needs.{needs}
 use Rattle.closing.proofs.close.close.Statement.{statement}
 use Rattle.closing.proofs.close.close.Tie as tie

@@ -1,8 +1,8 @@
 -- `close_day` meets its contract: each number's test is that of the rule book, in its order.
 use mathlib.Core.Path.{sym, _∙_}
 use native.Mathlib.Omega.{arith}
-use Rattle.book.specs.JudgedLaws.{Formed, book-formed}
-use Rattle.closing.specs.CloseLaws.{finished, no-room, missing}
+use Rattle.book.specs.laws.JudgedLaws.{Formed, book-formed}
+use Rattle.closing.specs.laws.CloseLaws.{finished, no-room, missing}
 use borrow.Author.Needs.{needs}
 use Rattle.closing.proofs.close.close_day.Statement.{statement}
 use Rattle.closing.proofs.close.close_day.Tie as tie

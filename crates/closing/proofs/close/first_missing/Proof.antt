@@ -7,8 +7,8 @@ use native.Mathlib.Omega.{arith}
 use lib.IntN.{ℤ}
 use Rattle.closing.specs.Search.{firstAbsent}
 use Rattle.closing.specs.Slots.{slotStart, thenDay}
-use Rattle.closing.specs.SlotsLaws.{slot-sized, then-late}
-use Rattle.closing.specs.SearchSameLaws.{search-same}
+use Rattle.closing.specs.laws.SlotsLaws.{slot-sized, then-late}
+use Rattle.closing.specs.laws.SearchSameLaws.{search-same}
 use borrow.Author.Needs.{needs}
 use Rattle.closing.proofs.close.first_missing.Statement.{statement}
 use Rattle.closing.proofs.close.first_missing.Tie as tie

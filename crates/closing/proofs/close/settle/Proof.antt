@@ -1,8 +1,8 @@
 -- `settle` meets its contract: the book is written by the statement, and both are the rule book's.
 use mathlib.Core.Path.{sym, subst}
 use Rattle.closing.specs.Written.{StatementOf}
-use Rattle.closing.specs.SettlingLaws.{statement-of}
-use Rattle.closing.specs.CloseLaws.{accepted}
+use Rattle.closing.specs.laws.SettlingLaws.{statement-of}
+use Rattle.closing.specs.laws.CloseLaws.{accepted}
 use borrow.Author.Needs.{needs}
 use Rattle.closing.proofs.close.settle.Statement.{statement}
 use Rattle.closing.proofs.close.settle.Tie as tie

@@ -6,9 +6,9 @@ use mir.Syntax.{w64}
 use mir.Val.{toZ, ofZ}
 use mir.Facts.{toZ-ofZ}
 use Rattle.integer.specs.Bits.{got, known}
-use Rattle.integer.specs.IntegerLaws.{int}
+use Rattle.integer.specs.laws.IntegerLaws.{int}
 use Rattle.integer.specs.Words.{word}
-use Rattle.amounts.specs.CellLaws.{sum-cong}
+use Rattle.amounts.specs.laws.CellLaws.{sum-cong}
 use Rattle.closing.proofs.ledger.grow.Statement.{statement}
 use Rattle.closing.proofs.ledger.grow.Tie as tie
 

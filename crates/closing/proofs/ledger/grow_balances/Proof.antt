@@ -9,7 +9,7 @@ use Rattle.integer.specs.Bits.{got}
 use Rattle.integer.specs.Words.{word}
 use Rattle.rulebook.specs.Layout.{balanceWord}
 use Rattle.rulebook.specs.Close.{balancesGrownBy}
-use Rattle.closing.specs.WrittenLaws.{grown-none, grown-next, grown-step}
+use Rattle.closing.specs.laws.WrittenLaws.{grown-none, grown-next, grown-step}
 use Rattle.closing.proofs.ledger.grow_balances.Statement.{statement}
 use Rattle.closing.proofs.ledger.grow_balances.Tie as tie
 

@@ -9,13 +9,13 @@ use lib.IntN.{ℤ}
 use lib.ListN.{length}
 use Rattle.integer.specs.declared.Found.{Found}
 use Rattle.integer.specs.Below.{fold, first}
-use Rattle.integer.specs.BelowLaws.{first-more, first-stops}
-use Rattle.integer.specs.WordsLaws.{row-fits}
+use Rattle.integer.specs.laws.BelowLaws.{first-more, first-stops}
+use Rattle.integer.specs.laws.WordsLaws.{row-fits}
 use Rattle.rulebook.specs.declared.Section.the-variants.{Residual}
 use Rattle.rulebook.specs.Units.{intervals}
 use Rattle.rulebook.specs.Layout.{intervalWords, accountWords, intervalLength, flagAt}
 use Rattle.closing.specs.Search.{absentAt, absentPair, absentSettled, absentIn, firstAbsent}
-use Rattle.closing.specs.SearchLaws.{absent-here, absent-not, pair-vesting, pair-meter, pair-there, settled-ncc, settled-residual, passed, passed-due, stops-pair, stops-settled}
+use Rattle.closing.specs.laws.SearchLaws.{absent-here, absent-not, pair-vesting, pair-meter, pair-there, settled-ncc, settled-residual, passed, passed-due, stops-pair, stops-settled}
 use Rattle.closing.proofs.search.first_absent.Statement.{statement}
 use Rattle.closing.proofs.search.first_absent.Tie as tie
 

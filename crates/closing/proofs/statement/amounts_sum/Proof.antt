@@ -7,9 +7,9 @@ use mir.Syntax.{w64}
 use mir.Val.{toZ, ofZ}
 use Rattle.integer.specs.Bits.{Holds, holds-ok, holds-as, got}
 use Rattle.integer.specs.Below.{fold, sumℤ}
-use Rattle.integer.specs.BelowLaws.{fold-suc}
+use Rattle.integer.specs.laws.BelowLaws.{fold-suc}
 use Rattle.integer.specs.Words.{word}
-use Rattle.closing.specs.WrittenLaws.{amounts-le}
+use Rattle.closing.specs.laws.WrittenLaws.{amounts-le}
 use Rattle.closing.proofs.statement.amounts_sum.Statement.{statement}
 use Rattle.closing.proofs.statement.amounts_sum.Tie as tie
 

@@ -6,11 +6,11 @@ use lib.IntN.{ℤ, pos, negℤ, natAbs, _-ℤ_, +ℤ-idl}
 use mir.Syntax.{w64}
 use mir.Val.{SFits, toZ, ofZ}
 use mir.Facts.{toZ-ofZ}
-use Rattle.integer.specs.IntegerLaws.{fits-abs, abs-neg}
+use Rattle.integer.specs.laws.IntegerLaws.{fits-abs, abs-neg}
 use Rattle.integer.specs.Bits.{got}
 use Rattle.integer.specs.Below.{sumℤ}
 use Rattle.integer.specs.Words.{word}
-use Rattle.closing.specs.WrittenLaws.{amounts-le}
+use Rattle.closing.specs.laws.WrittenLaws.{amounts-le}
 use Rattle.closing.proofs.statement.mssl_amount.Statement.{statement}
 use Rattle.closing.proofs.statement.mssl_amount.Tie as tie
 

@@ -5,7 +5,7 @@ use native.Mathlib.Omega.{arith}
 use lib.ListN.{length}
 use Rattle.integer.specs.Bits.{got}
 use Rattle.integer.specs.Words.{filled}
-use Rattle.integer.specs.WordsLaws.{filled-zero, filled-step}
+use Rattle.integer.specs.laws.WordsLaws.{filled-zero, filled-step}
 use Rattle.amounts.specs.Day.{slotPosted}
 use Rattle.closing.proofs.statement.post_amounts.Statement.{statement}
 use Rattle.closing.proofs.statement.post_amounts.Tie as tie

@@ -7,8 +7,8 @@ use Rattle.rulebook.specs.DayAmount.{residualDue}
 use Rattle.rulebook.specs.Layout.{size}
 use Rattle.rulebook.specs.Close.{slotBlanked}
 use Rattle.closing.specs.Slots.{slotStart}
-use Rattle.closing.specs.SlotsLaws.{slot-sized}
-use Rattle.closing.specs.SettlingLaws.{slot-blanked}
+use Rattle.closing.specs.laws.SlotsLaws.{slot-sized}
+use Rattle.closing.specs.laws.SettlingLaws.{slot-blanked}
 use borrow.Author.Needs.{needs}
 use Rattle.closing.proofs.write.blank_settled.Statement.{statement}
 use Rattle.closing.proofs.write.blank_settled.Tie as tie

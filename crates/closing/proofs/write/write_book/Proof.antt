@@ -12,7 +12,7 @@ use Rattle.integer.specs.Words.{word}
 use Rattle.rulebook.specs.declared.Terms.{Terms}
 use Rattle.rulebook.specs.Layout.{msslWord, nextDayWord}
 use Rattle.rulebook.specs.Close.{slotBlanked}
-use Rattle.closing.specs.SettlingLaws.{balances-room, credit-room, book-same}
+use Rattle.closing.specs.laws.SettlingLaws.{balances-room, credit-room, book-same}
 use borrow.Author.Needs.{needs}
 use Rattle.closing.proofs.write.write_book.Statement.{statement}
 use Rattle.closing.proofs.write.write_book.Tie as tie

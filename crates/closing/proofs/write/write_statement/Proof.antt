@@ -7,14 +7,14 @@ use native.Mathlib.Omega.{arith}
 use lib.IntN.{ℤ}
 use lib.ListN.{length, take, drop}
 use Rattle.integer.specs.Words.{part, filled}
-use Rattle.integer.specs.WordsLaws.{lent}
+use Rattle.integer.specs.laws.WordsLaws.{lent}
 use Rattle.rulebook.specs.DayAmount.{residualDue}
 use Rattle.amounts.specs.declared.day.Residuals.{Residuals}
 use Rattle.amounts.specs.Day.{DaysRanged, slotPosted}
 use Rattle.closing.specs.Slots.{slotStart, slotWords, thenDay, residualsDue}
-use Rattle.closing.specs.SlotsLaws.{slot-sized, then-late}
+use Rattle.closing.specs.laws.SlotsLaws.{slot-sized, then-late}
 use Rattle.closing.specs.Written.{Small, withMssl}
-use Rattle.closing.specs.SettlingLaws.{settling-ranged, amounts-small, amounts-room, statement-same}
+use Rattle.closing.specs.laws.SettlingLaws.{settling-ranged, amounts-small, amounts-room, statement-same}
 use borrow.Author.Needs.{needs}
 use Rattle.closing.proofs.write.write_statement.Statement.{statement}
 use Rattle.closing.proofs.write.write_statement.Tie as tie

@@ -5,8 +5,8 @@ use native.Mathlib.Omega.{arith}
 use borrow.Author.Needs.{needs}
 use borrow.Fn.Kinds.{In}
 use borrow.Fn.PlainCycle.{Measures, is, falls, and}
-use Rattle.console.specs.DecimalLaws.{decimal-small, decimal-large, length-decimal-small, length-decimal-large}
-use Rattle.console.specs.WrittenLaws.{put-then}
+use Rattle.console.specs.laws.DecimalLaws.{decimal-small, decimal-large, length-decimal-small, length-decimal-large}
+use Rattle.console.specs.laws.WrittenLaws.{put-then}
 use Rattle.console.proofs.decimal.put_decimal.Reads as put-decimal
 use Rattle.console.proofs.decimal.put_decimal.Kinds as put-decimal-kinds
 use Rattle.console.proofs.decimal.+put_decimal.Lts-put_decimal as put-decimal-lts

@@ -1,6 +1,6 @@
 -- `put_byte` meets its contract: one byte is stored.
 use borrow.Author.Needs.{needs}
-use Rattle.console.specs.WrittenLaws.{put-one}
+use Rattle.console.specs.laws.WrittenLaws.{put-one}
 use Rattle.console.proofs.decimal.put_byte.Statement.{statement}
 use Rattle.console.proofs.decimal.put_byte.Tie as tie
 

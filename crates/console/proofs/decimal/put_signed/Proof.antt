@@ -6,11 +6,11 @@ use native.Mathlib.Omega.{arith}
 use borrow.Author.Needs.{needs}
 use lib.IntN.{natAbs}
 use lib.ListN.{length}
-use Rattle.integer.specs.IntegerLaws.{int}
+use Rattle.integer.specs.laws.IntegerLaws.{int}
 use Rattle.integer.specs.Bits.{known}
 use Rattle.console.specs.Decimal.{decimal, minusSign, signedDecimal}
-use Rattle.console.specs.DecimalLaws.{signed-negative, signed-positive}
-use Rattle.console.specs.WrittenLaws.{put-then}
+use Rattle.console.specs.laws.DecimalLaws.{signed-negative, signed-positive}
+use Rattle.console.specs.laws.WrittenLaws.{put-then}
 use Rattle.console.proofs.decimal.put_signed.Statement.{statement}
 use Rattle.console.proofs.decimal.put_signed.Tie as tie
 

@@ -1,7 +1,7 @@
 -- `file_whole` meets its contract: each test is one of the definition's.
 use borrow.Author.Needs.{needs}
 use mathlib.Core.Path.{sym}
-use Rattle.console.specs.InputLaws.{whole-cut, whole-is}
+use Rattle.console.specs.laws.InputLaws.{whole-cut, whole-is}
 use Rattle.console.proofs.input.file_whole.Statement.{statement}
 use Rattle.console.proofs.input.file_whole.Tie as tie
 

@@ -3,7 +3,7 @@ use borrow.Author.Needs.{needs}
 use mathlib.Core.Path.{_≡_, sym, _∙_}
 use mathlib.Core.Bool.{true}
 use Rattle.console.specs.Input.{fileWhole}
-use Rattle.console.specs.InputLaws.{item-end, item-close, item-unknown, item-cut, item-submit, whole-length}
+use Rattle.console.specs.laws.InputLaws.{item-end, item-close, item-unknown, item-cut, item-submit, whole-length}
 use Rattle.console.proofs.input.item_of.Statement.{statement}
 use Rattle.console.proofs.input.item_of.Tie as tie
 

@@ -1,7 +1,7 @@
 -- `wanted` meets its contract: each test is one of the definition's.
 use borrow.Author.Needs.{needs}
 use native.Mathlib.Omega.{arith}
-use Rattle.console.specs.InputLaws.{wanted-none, wanted-command, wanted-length, wanted-long, wanted-file}
+use Rattle.console.specs.laws.InputLaws.{wanted-none, wanted-command, wanted-length, wanted-long, wanted-file}
 use Rattle.console.proofs.input.wanted.Statement.{statement}
 use Rattle.console.proofs.input.wanted.Tie as tie
 

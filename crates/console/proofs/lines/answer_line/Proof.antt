@@ -1,8 +1,8 @@
 -- `answer_line` meets its contract: the word, two parts and the line feed, one after another.
 use borrow.Author.Needs.{needs}
 use Rattle.console.specs.Lines.{answerLine}
-use Rattle.console.specs.LinesLaws.{line-two}
-use Rattle.console.specs.WrittenLaws.{put-then}
+use Rattle.console.specs.laws.LinesLaws.{line-two}
+use Rattle.console.specs.laws.WrittenLaws.{put-then}
 use Rattle.console.proofs.lines.answer_line.Statement.{statement}
 use Rattle.console.proofs.lines.answer_line.Tie as tie
 

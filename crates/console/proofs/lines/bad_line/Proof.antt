@@ -1,8 +1,8 @@
 -- `bad_line` meets its contract: the word, one part and the line feed, one after another.
 use borrow.Author.Needs.{needs}
 use Rattle.console.specs.Lines.{badLine}
-use Rattle.console.specs.LinesLaws.{line-one}
-use Rattle.console.specs.WrittenLaws.{put-then}
+use Rattle.console.specs.laws.LinesLaws.{line-one}
+use Rattle.console.specs.laws.WrittenLaws.{put-then}
 use Rattle.console.proofs.lines.bad_line.Statement.{statement}
 use Rattle.console.proofs.lines.bad_line.Tie as tie
 

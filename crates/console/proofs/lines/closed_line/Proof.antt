@@ -1,8 +1,8 @@
 -- `closed_line` meets its contract: the word, three parts, the amounts and the line feed, one after another.
 use borrow.Author.Needs.{needs}
 use Rattle.console.specs.Lines.{closedLine}
-use Rattle.console.specs.LinesLaws.{line-more}
-use Rattle.console.specs.WrittenLaws.{put-then}
+use Rattle.console.specs.laws.LinesLaws.{line-more}
+use Rattle.console.specs.laws.WrittenLaws.{put-then}
 use Rattle.console.proofs.lines.closed_line.Statement.{statement}
 use Rattle.console.proofs.lines.closed_line.Tie as tie
 

@@ -8,11 +8,11 @@ use lib.ListN.{length}
 use mir.Syntax.{w64}
 use mir.Val.{toZ, ofZ}
 use mir.ValLaws.{toZ-ofZ}
-use Rattle.integer.specs.IntegerLaws.{int}
+use Rattle.integer.specs.laws.IntegerLaws.{int}
 use Rattle.integer.specs.Bits.{known}
 use Rattle.console.specs.Decimal.{signedDecimal}
-use Rattle.console.specs.DecimalLaws.{length-signed}
-use Rattle.console.specs.WrittenLaws.{put-then}
+use Rattle.console.specs.laws.DecimalLaws.{length-signed}
+use Rattle.console.specs.laws.WrittenLaws.{put-then}
 use Rattle.console.proofs.lines.put_amount.Statement.{statement}
 use Rattle.console.proofs.lines.put_amount.Tie as tie
 

@@ -9,9 +9,9 @@ use lib.Seq.{take-length}
 use Rattle.integer.specs.Bits.{got}
 use Rattle.console.specs.Decimal.{signedDecimal}
 use Rattle.console.specs.Lines.{spaced}
-use Rattle.console.specs.LinesLaws.{spaced-take, spaced-map-none}
+use Rattle.console.specs.laws.LinesLaws.{spaced-take, spaced-map-none}
 use Rattle.console.specs.Written.{Put}
-use Rattle.console.specs.WrittenLaws.{put-none, put-then}
+use Rattle.console.specs.laws.WrittenLaws.{put-none, put-then}
 use Rattle.console.proofs.lines.put_amounts.Statement.{statement}
 use Rattle.console.proofs.lines.put_amounts.Tie as tie
 

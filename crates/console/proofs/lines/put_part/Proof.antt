@@ -1,8 +1,8 @@
 -- `put_part` meets its contract: a space, then the number's at most 20 digits.
 use borrow.Author.Needs.{needs}
 use native.Mathlib.Omega.{arith}
-use Rattle.console.specs.DecimalLaws.{length-unsigned}
-use Rattle.console.specs.WrittenLaws.{put-then}
+use Rattle.console.specs.laws.DecimalLaws.{length-unsigned}
+use Rattle.console.specs.laws.WrittenLaws.{put-then}
 use Rattle.console.proofs.lines.put_part.Statement.{statement}
 use Rattle.console.proofs.lines.put_part.Tie as tie
 

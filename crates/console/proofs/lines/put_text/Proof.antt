@@ -7,7 +7,7 @@ use borrow.Author.Needs.{needs}
 use lib.ListN.{length, take}
 use lib.Seq.{take-suc, take-length}
 use Rattle.console.specs.Written.{Put}
-use Rattle.console.specs.WrittenLaws.{put-none, put-then}
+use Rattle.console.specs.laws.WrittenLaws.{put-none, put-then}
 use Rattle.console.proofs.lines.put_text.Statement.{statement}
 use Rattle.console.proofs.lines.put_text.Tie as tie
 

@@ -1,7 +1,7 @@
 -- `field_at` meets its contract: the two tests are that the position and the bytes after it lie within the file.
 use native.Mathlib.Omega.{arith}
 use borrow.Author.Needs.{needs}
-use Rattle.files.specs.FieldsLaws.{field-whole, field-cut}
+use Rattle.files.specs.laws.FieldsLaws.{field-whole, field-cut}
 use Rattle.files.proofs.fields.field_at.Statement.{statement}
 use Rattle.files.proofs.fields.field_at.Tie as tie
 

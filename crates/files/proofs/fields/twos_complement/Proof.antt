@@ -9,9 +9,9 @@ use lib.IntN.{pos, _-ℤ_}
 use mir.Syntax.{w64}
 use mir.Val.{toZ}
 use mir.Facts.{toZ-pos, toZ-ofZ}
-use Rattle.integer.specs.BelowLaws.{lt-or-le}
+use Rattle.integer.specs.laws.BelowLaws.{lt-or-le}
 use Rattle.rulebook.specs.File.{signed32}
-use Rattle.files.specs.ValuesLaws.{signed32-range}
+use Rattle.files.specs.laws.ValuesLaws.{signed32-range}
 use Rattle.files.proofs.fields.twos_complement.Statement.{statement}
 use Rattle.files.proofs.fields.twos_complement.Tie as tie
 

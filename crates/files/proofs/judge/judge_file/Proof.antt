@@ -3,15 +3,15 @@ use mathlib.Core.Path.{_≡_, sym, _∙_}
 use native.Mathlib.Omega.{arith}
 use borrow.Author.Needs.{needs}
 use borrow.Author.Tests.{lt-leb, le-leb}
-use Rattle.rulebook.specs.PositionLaws.{section-end}
+use Rattle.rulebook.specs.laws.PositionLaws.{section-end}
 use Rattle.rulebook.specs.declared.Section.the-variants.{Vesting, Meter, Residual, Ncc}
 use Rattle.rulebook.specs.declared.Verdict.{Verdict}
 use Rattle.rulebook.specs.declared.Verdict.the-variants.{Accepted, Refused}
 use Rattle.rulebook.specs.File.{meterPos, residualPos, nccPos, endPos}
 use Rattle.rulebook.specs.Judging.{judgedSection, judged}
 use Rattle.files.specs.Fields.{outcome}
-use Rattle.files.specs.FieldsLaws.{outcome-passed, outcome-stopped}
-use Rattle.files.specs.MarksLaws.{judgeable-more}
+use Rattle.files.specs.laws.FieldsLaws.{outcome-passed, outcome-stopped}
+use Rattle.files.specs.laws.MarksLaws.{judgeable-more}
 use Rattle.files.proofs.judge.judge_file.Statement.{statement}
 use Rattle.files.proofs.judge.judge_file.Tie as tie
 

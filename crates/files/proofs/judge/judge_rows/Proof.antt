@@ -11,8 +11,8 @@ use Rattle.rulebook.specs.File.{rowEnd}
 use Rattle.rulebook.specs.Judging.{judgedRow}
 use Rattle.files.specs.Fields.{outcome}
 use Rattle.files.specs.Marks.{Before}
-use Rattle.files.specs.FieldsLaws.{outcome-passed, outcome-stopped, up-stops}
-use Rattle.files.specs.RowsLaws.{before-none, before-row, before-more}
+use Rattle.files.specs.laws.FieldsLaws.{outcome-passed, outcome-stopped, up-stops}
+use Rattle.files.specs.laws.RowsLaws.{before-none, before-row, before-more}
 use Rattle.files.proofs.judge.judge_rows.Statement.{statement}
 use Rattle.files.proofs.judge.judge_rows.Tie as tie
 

@@ -7,8 +7,8 @@ use lib.ListN.{length}
 use Rattle.rulebook.specs.File.{rowsIn}
 use Rattle.files.specs.Judgeable.{Judgeable}
 use Rattle.files.specs.Marks.{unmarked}
-use Rattle.files.specs.FieldsLaws.{whole-says, cut-says}
-use Rattle.files.specs.RowsLaws.{section-cut, section-judged, section-empty}
+use Rattle.files.specs.laws.FieldsLaws.{whole-says, cut-says}
+use Rattle.files.specs.laws.RowsLaws.{section-cut, section-judged, section-empty}
 use Rattle.files.proofs.judge.judge_section.Statement.{statement}
 use Rattle.files.proofs.judge.judge_section.Tie as tie
 

@@ -5,7 +5,7 @@ use native.Mathlib.Omega.{arith}
 use borrow.Author.Needs.{needs}
 use lib.ListN.{length, length-set}
 use Rattle.integer.specs.Words.{filled}
-use Rattle.integer.specs.WordsLaws.{filled-zero, filled-step, filled-whole}
+use Rattle.integer.specs.laws.WordsLaws.{filled-zero, filled-step, filled-whole}
 use Rattle.files.specs.Marks.{unmarked}
 use Rattle.files.proofs.marks.clear_marks.Statement.{statement}
 use Rattle.files.proofs.marks.clear_marks.Tie as tie

@@ -8,12 +8,12 @@ use Rattle.rulebook.specs.declared.Verdict.the-variants.{Accepted, Refused}
 use Rattle.rulebook.specs.declared.Why.the-variants.{OutOfRange, DayNotOpen}
 use Rattle.rulebook.specs.File.{accountBytes, dayPos, accountAt, dayAt}
 use Rattle.rulebook.specs.Judging.{openFrom, fieldIn, key}
-use Rattle.rulebook.specs.JudgingLaws.{Keyed, keyed}
+use Rattle.rulebook.specs.laws.JudgingLaws.{Keyed, keyed}
 use Rattle.files.specs.Fields.{outcome}
 use Rattle.files.specs.Marks.{markOf}
-use Rattle.files.specs.FieldsLaws.{outcome-passed, outcome-stopped}
-use Rattle.files.specs.MarksLaws.{row-mark-fits}
-use Rattle.files.specs.RowsLaws.{heading-account, heading-day}
+use Rattle.files.specs.laws.FieldsLaws.{outcome-passed, outcome-stopped}
+use Rattle.files.specs.laws.MarksLaws.{row-mark-fits}
+use Rattle.files.specs.laws.RowsLaws.{heading-account, heading-day}
 use Rattle.files.proofs.rows.judge_key.Statement.{statement}
 use Rattle.files.proofs.rows.judge_key.Tie as tie
 

@@ -7,11 +7,11 @@ use borrow.Author.Needs.{needs}
 use lib.ListN.{length}
 use Rattle.rulebook.specs.declared.Verdict.the-variants.{Accepted, Refused}
 use Rattle.rulebook.specs.Judging.{key}
-use Rattle.rulebook.specs.JudgingLaws.{Keyed, keyed}
+use Rattle.rulebook.specs.laws.JudgingLaws.{Keyed, keyed}
 use Rattle.files.specs.Marks.{markOf, marked}
-use Rattle.files.specs.FieldsLaws.{outcome-passed, outcome-stopped}
-use Rattle.files.specs.MarksLaws.{judgeable-more, row-mark-fits}
-use Rattle.files.specs.RowsLaws.{row-refused, row-again, row-rest}
+use Rattle.files.specs.laws.FieldsLaws.{outcome-passed, outcome-stopped}
+use Rattle.files.specs.laws.MarksLaws.{judgeable-more, row-mark-fits}
+use Rattle.files.specs.laws.RowsLaws.{row-refused, row-again, row-rest}
 use Rattle.files.proofs.rows.judge_row.Statement.{statement}
 use Rattle.files.proofs.rows.judge_row.Tie as tie
 

@@ -11,8 +11,8 @@ use Rattle.rulebook.specs.Sections.{kindOf}
 use Rattle.rulebook.specs.File.{valueAt}
 use Rattle.rulebook.specs.Judging.{upTo}
 use Rattle.files.specs.Values.{valueIn}
-use Rattle.files.specs.FieldsLaws.{up-none, up-more, up-stops}
-use Rattle.files.specs.ValuesLaws.{value-cut, value-off, value-fine}
+use Rattle.files.specs.laws.FieldsLaws.{up-none, up-more, up-stops}
+use Rattle.files.specs.laws.ValuesLaws.{value-cut, value-off, value-fine}
 use Rattle.files.proofs.rows.judge_values.Statement.{statement}
 use Rattle.files.proofs.rows.judge_values.Tie as tie
 

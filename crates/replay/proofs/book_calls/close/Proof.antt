@@ -1,6 +1,6 @@
 -- `close` meets its contract: the words lent come back before those beyond, and the statement is what the space had.
 use Rattle.replay.specs.Frames.{Closes}
-use Rattle.replay.specs.FrameLaws.{lent-of, closes-of}
+use Rattle.replay.specs.laws.FrameLaws.{lent-of, closes-of}
 use borrow.Author.Needs.{needs}
 use Rattle.replay.proofs.book_calls.close.Statement.{statement}
 use Rattle.replay.proofs.book_calls.close.Tie as tie

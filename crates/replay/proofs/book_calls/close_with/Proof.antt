@@ -1,5 +1,5 @@
 -- `close_with` meets its contract: the statement comes back before the words beyond.
-use Rattle.replay.specs.FrameLaws.{closed-with-of}
+use Rattle.replay.specs.laws.FrameLaws.{closed-with-of}
 use borrow.Author.Needs.{needs}
 use Rattle.replay.proofs.book_calls.close_with.Statement.{statement}
 use Rattle.replay.proofs.book_calls.close_with.Tie as tie

@@ -1,6 +1,6 @@
 -- `open` meets its contract: the words lent come back before those beyond.
 use Rattle.replay.specs.Frames.{Opens}
-use Rattle.replay.specs.FrameLaws.{lent-of}
+use Rattle.replay.specs.laws.FrameLaws.{lent-of}
 use borrow.Author.Needs.{needs}
 use Rattle.replay.proofs.book_calls.open.Statement.{statement}
 use Rattle.replay.proofs.book_calls.open.Tie as tie

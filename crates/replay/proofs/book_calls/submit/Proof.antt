@@ -1,6 +1,6 @@
 -- `submit` meets its contract: the words lent come back before those beyond.
 use Rattle.replay.specs.Frames.{Submits}
-use Rattle.replay.specs.FrameLaws.{lent-of, submits-of}
+use Rattle.replay.specs.laws.FrameLaws.{lent-of, submits-of}
 use borrow.Author.Needs.{needs}
 use Rattle.replay.proofs.book_calls.submit.Statement.{statement}
 use Rattle.replay.proofs.book_calls.submit.Tie as tie

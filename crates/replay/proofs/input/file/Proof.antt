@@ -1,6 +1,6 @@
 -- `file` meets its contract: the bytes read come back before those beyond.
 use borrow.Author.Needs.{needs}
-use Rattle.replay.specs.FrameLaws.{counts-back, beyond-back}
+use Rattle.replay.specs.laws.FrameLaws.{counts-back, beyond-back}
 use Rattle.replay.proofs.Counting.{counts}
 use Rattle.replay.proofs.input.file.Statement.{statement}
 use Rattle.replay.proofs.input.file.Tie as tie

@@ -3,7 +3,7 @@ use Prim.Native.Nat.{_*_, _≤_}
 use native.Mathlib.Omega.{arith}
 use lib.ListN.{length}
 use lib.Seq.{length-front, length-take-le}
-use Rattle.replay.specs.FrameLaws.{listed-of}
+use Rattle.replay.specs.laws.FrameLaws.{listed-of}
 use Rattle.replay.proofs.Counting.{counts}
 use borrow.Author.Needs.{needs}
 use Rattle.replay.proofs.input.list_by.Statement.{statement}

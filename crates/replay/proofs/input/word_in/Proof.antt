@@ -8,9 +8,9 @@ use mir.Val.{SFits}
 use mir.ValLaws.{toZ-ofZ}
 use mathlib.Core.Path.{_≡_, sym, ap, _∙_}
 use Rattle.replay.specs.Fields.{signed64, wordIn}
-use Rattle.replay.specs.FieldLaws.{num-eight, signed-below, signed-above}
+use Rattle.replay.specs.laws.FieldLaws.{num-eight, signed-below, signed-above}
 use Rattle.integer.specs.Integer.{positive}
-use Rattle.integer.specs.IntegerLaws.{parts, add-parts}
+use Rattle.integer.specs.laws.IntegerLaws.{parts, add-parts}
 use Rattle.integer.specs.Bits.{holds-nat}
 use Rattle.replay.proofs.input.word_in.Statement.{statement}
 use Rattle.replay.proofs.input.word_in.Tie as tie

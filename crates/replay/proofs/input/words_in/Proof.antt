@@ -8,7 +8,7 @@ use lib.IntN.{ℤ}
 use lib.ListN.{length}
 use Rattle.integer.specs.Bits.{got}
 use Rattle.integer.specs.Words.{filled}
-use Rattle.integer.specs.WordsLaws.{filled-zero, filled-step, filled-whole}
+use Rattle.integer.specs.laws.WordsLaws.{filled-zero, filled-step, filled-whole}
 use Rattle.replay.specs.Fields.{wordIn, wordsIn}
 use Rattle.replay.proofs.input.words_in.Statement.{statement}
 use Rattle.replay.proofs.input.words_in.Tie as tie

@@ -9,7 +9,7 @@ use lib.IntN.{ℤ}
 use Rattle.integer.specs.Bits.{got}
 use Rattle.integer.specs.Words.{word}
 use Rattle.integer.specs.Below.{turns}
-use Rattle.integer.specs.BelowLaws.{turns-suc}
+use Rattle.integer.specs.laws.BelowLaws.{turns-suc}
 use Rattle.replay.specs.Digests.{moreWord, digest}
 use Rattle.replay.proofs.output.digest_of.Statement.{statement}
 use Rattle.replay.proofs.output.digest_of.Tie as tie

@@ -6,7 +6,7 @@ use lib.ListN.{length, getD}
 use mathlib.Core.Path.{_≡_, refl, sym, ap, ap₂, _∙_}
 use mathlib.Core.List.{List}
 use Rattle.integer.specs.Below.{turns}
-use Rattle.integer.specs.BelowLaws.{turns-suc}
+use Rattle.integer.specs.laws.BelowLaws.{turns-suc}
 use Rattle.replay.specs.Digests.{more, fileDigest}
 use Rattle.replay.proofs.output.file_digest_of.Statement.{statement}
 use Rattle.replay.proofs.output.file_digest_of.Tie as tie

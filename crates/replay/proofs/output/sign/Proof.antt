@@ -4,7 +4,7 @@ use Prim.Native.Nat.{ℕ, _<_}
 use native.Mathlib.Omega.{arith}
 use lib.IntN.{ℤ, pos, negsuc}
 use Rattle.integer.specs.Integer.{negative}
-use Rattle.integer.specs.IntegerLaws.{int}
+use Rattle.integer.specs.laws.IntegerLaws.{int}
 use Rattle.integer.specs.Bits.{known}
 use Rattle.replay.specs.Digests.{sign}
 use Rattle.replay.proofs.output.sign.Statement.{statement}

@@ -1,7 +1,7 @@
 -- `share_from` meets its contract: the words lent come back before those beyond.
 use mir.Syntax.{w64}
 use mir.ValLaws.{toZ-ofZ}
-use Rattle.replay.specs.FrameLaws.{shared-of}
+use Rattle.replay.specs.laws.FrameLaws.{shared-of}
 use borrow.Author.Needs.{needs}
 use Rattle.replay.proofs.rules_calls.share_from.Statement.{statement}
 use Rattle.replay.proofs.rules_calls.share_from.Tie as tie

@@ -7,9 +7,9 @@ use lib.IntN.{natAbs}
 use mir.Syntax.{w64}
 use mir.Val.{SFits}
 use mir.Facts.{toZ-ofZ}
-use Rattle.integer.specs.IntegerLaws.{int, fits-abs}
+use Rattle.integer.specs.laws.IntegerLaws.{int, fits-abs}
 use Rattle.integer.specs.Bits.{known, got}
-use Rattle.integer.specs.BelowLaws.{lt-or-le}
+use Rattle.integer.specs.laws.BelowLaws.{lt-or-le}
 use Rattle.rulebook.specs.ReferencePrice.{average}
 use Rattle.rules.proofs.price.price_of.Statement.{statement}
 use Rattle.rules.proofs.price.price_of.Tie as tie

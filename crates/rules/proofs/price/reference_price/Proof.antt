@@ -6,9 +6,9 @@ use lib.ListN.{length}
 use Rattle.integer.specs.Bits.{got}
 use Rattle.integer.specs.Words.{word}
 use Rattle.rulebook.specs.declared.Kind.the-variants.{Injection, Price}
-use Rattle.rulebook.specs.UnitsLaws.{price-range, injection-range}
+use Rattle.rulebook.specs.laws.UnitsLaws.{price-range, injection-range}
 use Rattle.rulebook.specs.Calls.{priceCall}
-use Rattle.rulebook.specs.CallsLaws.{in-range-at, prices-in}
+use Rattle.rulebook.specs.laws.CallsLaws.{in-range-at, prices-in}
 use Rattle.rules.specs.PriceSums.{sums-count, sums-within, sums-price}
 use Rattle.rules.proofs.price.reference_price.Statement.{statement}
 use Rattle.rules.proofs.price.reference_price.Tie as tie

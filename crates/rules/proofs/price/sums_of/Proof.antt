@@ -6,14 +6,14 @@ use native.Mathlib.Omega.{arith}
 use borrow.Author.Needs.{needs}
 use lib.IntN.{ℤ, natAbs}
 use lib.ListN.{length}
-use Rattle.integer.specs.IntegerLaws.{int}
+use Rattle.integer.specs.laws.IntegerLaws.{int}
 use Rattle.integer.specs.Bits.{got}
 use Rattle.integer.specs.Words.{word}
 use Rattle.rulebook.specs.declared.Kind.the-variants.{Injection, Price}
 use Rattle.rulebook.specs.Units.{mostPrice, mostQuantity}
 use Rattle.rulebook.specs.Calls.{PricesIn}
-use Rattle.rulebook.specs.UnitsLaws.{price-range, injection-range}
-use Rattle.rulebook.specs.CallsLaws.{in-range-at}
+use Rattle.rulebook.specs.laws.UnitsLaws.{price-range, injection-range}
+use Rattle.rulebook.specs.laws.CallsLaws.{in-range-at}
 use Rattle.rules.specs.PriceSums.{sumsOf, added, SumsWithin, sums-zero, sums-suc, sums-count, sums-within}
 use Rattle.rules.proofs.price.sums_of.Statement.{statement}
 use Rattle.rules.proofs.price.sums_of.Tie as tie

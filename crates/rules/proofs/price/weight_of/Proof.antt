@@ -1,5 +1,5 @@
 -- `weight_of` meets its contract: the test of IEQ's sign, read by omega.
-use Rattle.integer.specs.IntegerLaws.{int}
+use Rattle.integer.specs.laws.IntegerLaws.{int}
 use Rattle.integer.specs.Bits.{known}
 use Rattle.rules.proofs.price.weight_of.Statement.{statement}
 use Rattle.rules.proofs.price.weight_of.Tie as tie

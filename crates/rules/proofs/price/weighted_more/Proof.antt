@@ -4,7 +4,7 @@ use borrow.Author.Needs.{needs}
 use lib.IntN.{pos, natAbs, _+ℤ_, _*ℤ_}
 use mir.Syntax.{w64}
 use mir.Val.{SFits, toZ, ofZ}
-use Rattle.integer.specs.IntegerLaws.{int, fits-abs, abs-mul-le}
+use Rattle.integer.specs.laws.IntegerLaws.{int, fits-abs, abs-mul-le}
 use Rattle.integer.specs.Bits.{Holds, holds, holds-ok, holds-as, fits-add, op-fits, op-holds}
 use Rattle.rulebook.specs.Units.{mostPrice, mostQuantity}
 use Rattle.rules.proofs.price.weighted_more.Statement.{statement}

@@ -6,7 +6,7 @@ use lib.IntN.{natAbs}
 use mir.Syntax.{w64}
 use mir.Val.{SFits, toZ, ofZ}
 use mir.Facts.{toZ-ofZ}
-use Rattle.integer.specs.IntegerLaws.{int, parts, fits-abs}
+use Rattle.integer.specs.laws.IntegerLaws.{int, parts, fits-abs}
 use Rattle.integer.specs.Bits.{known, got}
 use Rattle.rulebook.specs.Units.{mostQuantity}
 use Rattle.rules.specs.PriceSums.{weight-le}

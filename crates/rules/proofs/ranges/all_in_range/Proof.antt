@@ -7,7 +7,7 @@ use borrow.Author.Needs.{needs}
 use borrow.Author.Tests.{not-true, not-false}
 use lib.ListN.{length}
 use Rattle.integer.specs.Below.{fold, all}
-use Rattle.integer.specs.BelowLaws.{all-more, all-fails}
+use Rattle.integer.specs.laws.BelowLaws.{all-more, all-fails}
 use Rattle.integer.specs.Bits.{got}
 use Rattle.integer.specs.Words.{word}
 use Rattle.rulebook.specs.Units.{inRange}

@@ -1,7 +1,7 @@
 -- `as_quantity` meets its contract: a word in range is not below zero.
-use Rattle.integer.specs.IntegerLaws.{int}
+use Rattle.integer.specs.laws.IntegerLaws.{int}
 use Rattle.integer.specs.Bits.{known}
-use Rattle.rulebook.specs.UnitsLaws.{quantity-range}
+use Rattle.rulebook.specs.laws.UnitsLaws.{quantity-range}
 use Rattle.rules.proofs.ranges.as_quantity.Statement.{statement}
 use Rattle.rules.proofs.ranges.as_quantity.Tie as tie
 

@@ -9,7 +9,7 @@ use mir.Val.{toZ, ofZ}
 use Rattle.integer.specs.Below.{tabulate}
 use Rattle.integer.specs.Bits.{got}
 use Rattle.integer.specs.Words.{filled}
-use Rattle.integer.specs.WordsLaws.{filled-suc}
+use Rattle.integer.specs.laws.WordsLaws.{filled-suc}
 use Rattle.rulebook.specs.Calls.{spareGeneration, shareWord}
 use Rattle.rules.proofs.share.put_shares.Statement.{statement}
 use Rattle.rules.proofs.share.put_shares.Tie as tie

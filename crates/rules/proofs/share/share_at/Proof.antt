@@ -6,10 +6,10 @@ use mir.Syntax.{w64}
 use mir.Val.{toZ, ofZ}
 use Rattle.integer.specs.Bits.{got}
 use Rattle.rulebook.specs.Shares.{share}
-use Rattle.rulebook.specs.SharesLaws.{share-cap}
+use Rattle.rulebook.specs.laws.SharesLaws.{share-cap}
 use Rattle.rulebook.specs.declared.Kind.the-variants.{Quantity}
 use Rattle.rulebook.specs.Calls.{shareWord}
-use Rattle.rulebook.specs.CallsLaws.{in-range-at}
+use Rattle.rulebook.specs.laws.CallsLaws.{in-range-at}
 use Rattle.rules.proofs.share.share_at.Statement.{statement}
 use Rattle.rules.proofs.share.share_at.Tie as tie
 

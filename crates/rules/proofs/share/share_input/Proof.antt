@@ -10,12 +10,12 @@ use lib.Dec.{leb}
 use lib.IntN.{pos}
 use lib.ListN.{length}
 use Rattle.integer.specs.Integer.{minus}
-use Rattle.integer.specs.BelowLaws.{and-true}
+use Rattle.integer.specs.laws.BelowLaws.{and-true}
 use Rattle.rulebook.specs.declared.Kind.the-variants.{Quantity}
 use Rattle.rulebook.specs.Units.{between}
 use Rattle.rulebook.specs.Shares.{mostAccounts, leastResidual, mostResidual}
 use Rattle.rulebook.specs.Calls.{allInRange, shareInput}
-use Rattle.rules.specs.SpareToldLaws.{tests-pass, tests-fail}
+use Rattle.rules.specs.laws.SpareToldLaws.{tests-pass, tests-fail}
 use Rattle.rules.proofs.share.share_input.Statement.{statement}
 use Rattle.rules.proofs.share.share_input.Tie as tie
 

@@ -8,10 +8,10 @@ use mir.Syntax.{w64}
 use mir.Val.{toZ, ofZ}
 use native.Mathlib.Nat.{mul-le-mul}
 use Rattle.integer.specs.Integer.{positive}
-use Rattle.integer.specs.IntegerLaws.{int}
+use Rattle.integer.specs.laws.IntegerLaws.{int}
 use Rattle.integer.specs.Bits.{known}
-use Rattle.integer.specs.BelowLaws.{lt-or-le}
-use Rattle.rulebook.specs.SharesLaws.{share-none, share-full, share-part}
+use Rattle.integer.specs.laws.BelowLaws.{lt-or-le}
+use Rattle.rulebook.specs.laws.SharesLaws.{share-none, share-full, share-part}
 use Rattle.rules.proofs.share.share_of.Statement.{statement}
 use Rattle.rules.proofs.share.share_of.Tie as tie
 

@@ -9,9 +9,9 @@ use mir.Syntax.{w64}
 use mir.Val.{toZ, ofZ}
 use native.Mathlib.Omega.{arith}
 use Rattle.rulebook.specs.Calls.{spareGeneration, shareInput, shareCall}
-use Rattle.rulebook.specs.CallsLaws.{shares-in}
+use Rattle.rulebook.specs.laws.CallsLaws.{shares-in}
 use Rattle.rules.specs.SpareTold.{spareWhere}
-use Rattle.rules.specs.SpareToldLaws.{total-told, refusal-told}
+use Rattle.rules.specs.laws.SpareToldLaws.{total-told, refusal-told}
 use Rattle.rules.proofs.share.shares.Statement.{statement}
 use Rattle.rules.proofs.share.shares.Tie as tie
 

@@ -9,13 +9,13 @@ use borrow.Author.Tests.{not-true, not-false}
 use lib.IntN.{ℤ}
 use lib.ListN.{length}
 use Rattle.integer.specs.Below.{fold, all, sumℕ}
-use Rattle.integer.specs.BelowLaws.{fold-step, all-more, all-fails}
+use Rattle.integer.specs.laws.BelowLaws.{fold-step, all-more, all-fails}
 use Rattle.integer.specs.Bits.{got}
 use Rattle.integer.specs.Words.{word}
 use Rattle.rulebook.specs.declared.Kind.the-variants.{Quantity}
 use Rattle.rulebook.specs.Units.{inRange, asQuantity, mostQuantity}
 use Rattle.rulebook.specs.Calls.{allInRange}
-use Rattle.rulebook.specs.CallsLaws.{quantities-below}
+use Rattle.rulebook.specs.laws.CallsLaws.{quantities-below}
 use Rattle.rules.specs.declared.share.Spare.the-variants.{Total}
 use Rattle.rules.proofs.share.spare_generation.Statement.{statement}
 use Rattle.rules.proofs.share.spare_generation.Tie as tie

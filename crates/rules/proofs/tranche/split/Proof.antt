@@ -4,7 +4,7 @@ use native.Mathlib.Omega.{arith}
 use borrow.Author.Needs.{needs}
 use Rattle.integer.specs.Bits.{got}
 use Rattle.rulebook.specs.Tranches.{tranche2}
-use Rattle.rulebook.specs.TranchesLaws.{tranche-split}
+use Rattle.rulebook.specs.laws.TranchesLaws.{tranche-split}
 use Rattle.rules.proofs.tranche.split.Statement.{statement}
 use Rattle.rules.proofs.tranche.split.Tie as tie
 

@@ -5,7 +5,7 @@ use lib.IntN.{ℤ}
 use mir.Syntax.{w64}
 use mir.Val.{toZ, ofZ}
 use borrow.Author.Needs.{needs}
-use Rattle.integer.specs.BelowLaws.{and-true}
+use Rattle.integer.specs.laws.BelowLaws.{and-true}
 use Rattle.rulebook.specs.declared.Kind.the-variants.{Quantity}
 use Rattle.rulebook.specs.Units.{inRange}
 use Rattle.rulebook.specs.Calls.{trancheInput, trancheCall}

@@ -7,7 +7,7 @@ use lib.ListN.{length, length-set}
 use mir.Syntax.{w64}
 use mir.Val.{toZ, ofZ}
 use Rattle.integer.specs.Words.{filled}
-use Rattle.integer.specs.WordsLaws.{filled-zero, filled-suc, filled-whole}
+use Rattle.integer.specs.laws.WordsLaws.{filled-zero, filled-suc, filled-whole}
 use Rattle.submission.specs.Stored.{wordFrom}
 use Rattle.submission.proofs.store.put_entry.Statement.{statement}
 use Rattle.submission.proofs.store.put_entry.Tie as tie

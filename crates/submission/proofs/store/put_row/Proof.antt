@@ -4,7 +4,7 @@ use Prim.Native.Nat.{_+_, _*_, _-_, _≤_}
 use native.Mathlib.Omega.{arith}
 use lib.ListN.{length}
 use Rattle.integer.specs.Words.{gridRow, grid}
-use Rattle.integer.specs.WordsLaws.{row-fits, grid-zero, grid-suc}
+use Rattle.integer.specs.laws.WordsLaws.{row-fits, grid-zero, grid-suc}
 use Rattle.rulebook.specs.Units.{intervals}
 use Rattle.submission.specs.Stored.{rowFrom}
 use Rattle.submission.proofs.store.put_row.Statement.{statement}

@@ -6,7 +6,7 @@ use Rattle.rulebook.specs.declared.Section.the-variants.{Meter, Residual, Ncc}
 use Rattle.rulebook.specs.File.{meterPos, residualPos, nccPos, sectionEnd}
 use Rattle.rulebook.specs.Submit.{rowsStored}
 use Rattle.submission.specs.Stored.{SectionFits}
-use Rattle.submission.specs.StoredLaws.{rows-four}
+use Rattle.submission.specs.laws.StoredLaws.{rows-four}
 use Rattle.submission.proofs.store.store_file.Statement.{statement}
 use Rattle.submission.proofs.store.store_file.Tie as tie
 

@@ -9,9 +9,9 @@ use Rattle.rulebook.specs.ReferencePrice.{mostFacilities}
 use Rattle.rulebook.specs.Layout.{present, width, intervalSize, rowWord, size}
 use Rattle.rulebook.specs.Sections.{perInterval}
 use Rattle.submission.specs.declared.store.Form.{Form}
-use Rattle.files.specs.RowsLaws.{count-le, row-end-of}
+use Rattle.files.specs.laws.RowsLaws.{count-le, row-end-of}
 use Rattle.submission.specs.Stored.{formOf}
-use Rattle.submission.specs.StoredLaws.{flag-small, accounts-few, row-start, row-room, row-stored}
+use Rattle.submission.specs.laws.StoredLaws.{flag-small, accounts-few, row-start, row-room, row-stored}
 use Rattle.submission.proofs.store.store_row.Statement.{statement}
 use Rattle.submission.proofs.store.store_row.Tie as tie
 

@@ -6,9 +6,9 @@ use lib.ListN.{length}
 use Rattle.rulebook.specs.File.{rowAt, rowPos, rowsIn, sectionEnd}
 use Rattle.rulebook.specs.Submit.{rowStored}
 use Rattle.rulebook.specs.Units.{intervals}
-use Rattle.files.specs.RowsLaws.{pos-none, pos-more}
+use Rattle.files.specs.laws.RowsLaws.{pos-none, pos-more}
 use Rattle.submission.specs.Stored.{firstStored}
-use Rattle.submission.specs.StoredLaws.{first-none, first-more, first-all}
+use Rattle.submission.specs.laws.StoredLaws.{first-none, first-more, first-all}
 use Rattle.submission.proofs.store.store_section.Statement.{statement}
 use Rattle.submission.proofs.store.store_section.Tie as tie
 

@@ -1,8 +1,8 @@
 -- `submit` meets its contract: the promise goes by what the judge says of the book.
 use mathlib.Core.Path.{sym, _∙_}
 use borrow.Author.Needs.{needs}
-use Rattle.book.specs.JudgedLaws.{book-ill}
-use Rattle.submission.specs.SubmitLaws.{ill-formed}
+use Rattle.book.specs.laws.JudgedLaws.{book-ill}
+use Rattle.submission.specs.laws.SubmitLaws.{ill-formed}
 use Rattle.submission.proofs.submit.submit.Statement.{statement}
 use Rattle.submission.proofs.submit.submit.Tie as tie
 

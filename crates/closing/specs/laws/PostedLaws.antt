@@ -1,0 +1,80 @@
+-- The amount posted from two slots is the rule book's. Assumes nothing.
+use mathlib.Core.Path.{_≡_, refl, sym, ap, _∙_, subst}
+use mathlib.Core.Bool.{Bool, true, false, cond}
+use mathlib.Core.List.{List}
+use Prim.Native.Nat.{ℕ, _≤_, _<_}
+use lib.Dec.{T}
+use lib.IntN.{ℤ, pos}
+use Rattle.integer.specs.laws.BelowLaws.{sumℤ-cong}
+use Rattle.rulebook.specs.declared.Terms.{Terms}
+use Rattle.rulebook.specs.Units.{lastDay, nearest, intervals, thousandthsPerCent}
+use Rattle.rulebook.specs.DayAmount.{rvq, residualAmount, residualDue, residualDay, intervalAmount, exactAmount, postedAmount}
+use Rattle.rulebook.specs.BookData.{bookData, termsOf, nextDay}
+use Rattle.rulebook.specs.WellFormed.{wellFormed}
+use Rattle.rulebook.specs.Close.{posted}
+use Rattle.rulebook.specs.Bounds.{SizedDay}
+use Rattle.rulebook.specs.laws.AmountLaws.{SameFigures, vesting-same, residual-same}
+use Rattle.rulebook.specs.laws.BookSizeLaws.{close-sized}
+use Rattle.amounts.specs.declared.interval.Residual.{Residual}
+use Rattle.amounts.specs.declared.day.Residuals.{Residuals}
+use Rattle.amounts.specs.Cell.{cellData}
+use Rattle.amounts.specs.laws.CellLaws.{sum-cong}
+use Rattle.amounts.specs.Interval.{dataIn}
+use Rattle.amounts.specs.Day.{intervalOf, cellAt, residualsOf, noResiduals, residualIn, cellResidual, slotAmount, slotPosted}
+use Rattle.amounts.specs.laws.DayLaws.{cell-in-slot, residual-in}
+use Rattle.closing.specs.Slots.{slotWords, thenDay, residualsDue}
+use Rattle.closing.specs.laws.SlotDataLaws.{load-same, cell-alike}
+
+-- ---- One interval
+
+residual-cong : {c e : List ℤ} {r q : Residual} → c ≡ e → r ≡ q → cellResidual c r ≡ cellResidual e q
+residual-cong x y = cc
+
+module _ (o : Terms) (w : List ℤ) (a : ℕ) (ha : a < o .accounts) where
+  module _ (d : ℕ) (sized : SizedDay (o .accounts) (bookData o w) d) (i : ℕ) (hi : i < intervals) where
+    abbrev interval : List ℤ
+    interval = intervalOf (o .accounts) (slotWords o w d) i
+
+    alike : (b : ℕ) → b < o .accounts → SameFigures (bookData o w .account b d i) (dataIn interval b)
+    alike b hb = subst (λ (c : List ℤ). SameFigures (bookData o w .account b d i) (cellData c)) (sym (cell-in-slot (o .accounts) (slotWords o w d) b i hb))
+        (cell-alike o w d b i hb hi (sized b i hb hi .few))
+
+    -- the residual amount of the book's data is that of the slot's cell, R and S
+    slot-residual : residualAmount (bookData o w .load d i) (o .accounts) (λ b. bookData o w .account b d i) a
+        ≡ cellResidual (cellAt (o .accounts) (slotWords o w d) a i) (residualIn (residualsOf (o .accounts) (slotWords o w d)) i)
+    unfolding residualAmount rvq
+    slot-residual =
+        residual-same (bookData o w .load d i) (o .accounts) (λ b. bookData o w .account b d i) (dataIn interval) alike a ha
+        ∙ ap (λ (l : ℕ). residualAmount l (o .accounts) (dataIn interval) a) (load-same o w d i hi)
+        ∙ residual-cong (cell-in-slot (o .accounts) (slotWords o w d) a i ha) (sym (residual-in (o .accounts) (slotWords o w d) i hi))
+
+  -- ---- The day
+
+  module _ (D : ℕ) (now : SizedDay (o .accounts) (bookData o w) D) (then : T (residualDue o D) → SizedDay (o .accounts) (bookData o w) (residualDay o D)) where
+    amount-same : (i : ℕ) → i < intervals
+        → slotAmount (o .accounts) (slotWords o w D) (slotWords o w (thenDay o D)) (residualDue o D) (residualsDue o w D) a i ≡ intervalAmount o (bookData o w) a D i
+    unfolding slotAmount intervalAmount thenDay residualsDue
+    amount-same i hi = sum-cong (sym (vesting-same (bookData o w .account a D i) (cellData (cellAt (o .accounts) (slotWords o w D) a i)) alike)) (go (residualDue o D) then)
+      where
+        alike : SameFigures (bookData o w .account a D i) (cellData (cellAt (o .accounts) (slotWords o w D) a i))
+        alike = cell-alike o w D a i ha hi (now a i ha hi .few)
+
+        days : Bool → Residuals
+        days b = cond b (residualsOf (o .accounts) (slotWords o w (cond b (residualDay o D) D))) noResiduals
+
+        go : (b : Bool) → (T b → SizedDay (o .accounts) (bookData o w) (residualDay o D))
+            → cond b (cellResidual (cellAt (o .accounts) (slotWords o w (cond b (residualDay o D) D)) a i) (residualIn (days b) i)) (pos 0)
+            ≡ cond b (residualAmount (bookData o w .load (residualDay o D) i) (o .accounts) (λ b. bookData o w .account b (residualDay o D) i) a) (pos 0)
+        go true s = sym (slot-residual (residualDay o D) (s tt) i hi)
+        go false s = refl
+
+    slots-posted : slotPosted (o .accounts) (slotWords o w D) (slotWords o w (thenDay o D)) (residualDue o D) (residualsDue o w D) a ≡ posted o w D a
+    unfolding slotPosted posted postedAmount exactAmount
+    slots-posted = ap (λ (z : ℤ). nearest z thousandthsPerCent) (sumℤ-cong intervals _ _ amount-same)
+
+module _ (w : List ℤ) (t : T (wellFormed w)) (left : nextDay w ≤ lastDay) where
+  pub slot-posted-same : (a : ℕ) → a < termsOf w .accounts
+      → slotPosted (termsOf w .accounts) (slotWords (termsOf w) w (nextDay w)) (slotWords (termsOf w) w (thenDay (termsOf w) (nextDay w)))
+      (residualDue (termsOf w) (nextDay w)) (residualsDue (termsOf w) w (nextDay w)) a
+      ≡ posted (termsOf w) w (nextDay w) a
+  slot-posted-same a ha = slots-posted (termsOf w) w a ha (nextDay w) (close-sized w t left .now) (close-sized w t left .then)

@@ -1,0 +1,3 @@
+-- figures and examples
+pub mod LineExamples
+pub mod InputExamples

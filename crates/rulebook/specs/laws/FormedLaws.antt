@@ -1,0 +1,203 @@
+-- A well-formed book, any that is lent, holds the ledger that its words tell: the facts that a close's arithmetic needs. Assumes nothing.
+use mathlib.Core.Path.{_≡_, refl, sym, ap, _∙_, subst}
+use mathlib.Core.Bool.{Bool, true, false, cond, _&&_, _||_, not}
+use mathlib.Core.List.{List}
+use Prim.Native.Nat.{ℕ, zero, _+_, _-_, _*_, _≤_, _<_}
+use native.Mathlib.Nat.{one-mul, add-sub-of-le}
+use native.Mathlib.Omega.{arith}
+use native.Mathlib.Decide.{decLe}
+use lib.IntN.{ℤ, pos, negsuc, natAbs}
+use lib.Dec.{T, leb, ltb, leb→le, lt→ltb}
+use lib.ListN.{length}
+use Rattle.integer.specs.Below.{all}
+use Rattle.integer.specs.Words.{word}
+use Rattle.rulebook.specs.declared.Section.{Section}
+use Rattle.rulebook.specs.declared.Terms.{Terms}
+use Rattle.rulebook.specs.Units.{lastDay, between, positive}
+use Rattle.rulebook.specs.Terms.{InTerms}
+use Rattle.rulebook.specs.Sections.{accountsOf}
+use Rattle.rulebook.specs.Layout.{width, place, ring, size, intervalSize, slot, intervalWord, rowWord, markWord, accountsWord, lagWord, horizonWord, firstDayWord, nextDayWord, msslWord, balanceWord, balancePadding, headerPadding, headerPaddingWords, balancePaddingWords, InWindow}
+use Rattle.rulebook.specs.BookData.{termsOf, nextDay, entriesOf}
+use Rattle.rulebook.specs.WellFormed.{isZero, rowFits, isThere, intervalBlank, slotBlank, intervalFits, closedRowsThere, balanceWordsFit, balanceFits, headerFits, fits, wellFormed, dayBound, daysFit}
+use Rattle.rulebook.specs.WindowWalk.{windowSlot, windowSlotFits, windowPlace}
+use Rattle.rulebook.specs.Ledger.{Padding, HoldsLedger, ledgerOf}
+use Rattle.rulebook.specs.laws.TestLaws.{and-left, and-right, all-at}
+use Rattle.rulebook.specs.laws.RingLaws.{turned, turn-inside}
+use Rattle.rulebook.specs.laws.WalkLaws.{days-walk}
+use Rattle.rulebook.specs.laws.LedgerLaws.{padding-fits}
+use Rattle.rulebook.specs.laws.KeptLaws.{absent-fits}
+use Rattle.rulebook.specs.laws.FormLaws.{Fit, ring-pos}
+use Rattle.rulebook.specs.laws.SlotLaws.{row-in-interval, is-zero, is-number, interval-padding, undated-blank, closed-there, row-fits-at}
+
+-- ---- a well-formed book holds a ledger, and it fits
+
+is-natural : (a b : ℕ) (z : ℤ) → T (between (pos a) (pos b) z) → (z ≡ pos (positive z)) × (a ≤ positive z) × (positive z ≤ b)
+is-natural a b (pos n) t = (refl, leb→le a n (and-left (leb a n) (leb n b) t), leb→le n b (and-right (leb a n) (leb n b) t))
+is-natural a b (negsuc n) t = absurd t
+
+module _ (w : List ℤ) (t : T (wellFormed w)) where
+  pub all-fits : T (fits (termsOf w) w (nextDay w))
+  unfolding wellFormed
+  all-fits = t
+
+  header-of : T (headerFits w)
+  unfolding fits
+  header-of = let x = all-fits in search (and-left, and-right) depth 6
+
+  mark-of : word w markWord ≡ pos 395
+  unfolding headerFits
+  mark-of = let x = header-of in is-number 395 (word w markWord) (search (and-left, and-right) depth 8)
+
+  accounts-of : (word w accountsWord ≡ pos (positive (word w accountsWord))) × (1 ≤ positive (word w accountsWord)) × (positive (word w accountsWord) ≤ 32)
+  unfolding headerFits
+  accounts-of = let x = header-of in is-natural 1 32 (word w accountsWord) (search (and-left, and-right) depth 8)
+
+  lag-of : (word w lagWord ≡ pos (positive (word w lagWord))) × (1 ≤ positive (word w lagWord)) × (positive (word w lagWord) ≤ 75)
+  unfolding headerFits
+  lag-of = let x = header-of in is-natural 1 75 (word w lagWord) (search (and-left, and-right) depth 8)
+
+  horizon-of : (word w horizonWord ≡ pos (positive (word w horizonWord))) × (1 ≤ positive (word w horizonWord)) × (positive (word w horizonWord) ≤ 92)
+  unfolding headerFits
+  horizon-of = let x = header-of in is-natural 1 92 (word w horizonWord) (search (and-left, and-right) depth 8)
+
+  first-of : (word w firstDayWord ≡ pos (positive (word w firstDayWord))) × (9497 ≤ positive (word w firstDayWord)) × (positive (word w firstDayWord) ≤ 36524)
+  unfolding headerFits
+  first-of = let x = header-of in is-natural 9497 36524 (word w firstDayWord) (search (and-left, and-right) depth 8)
+
+  pub next-of : (word w nextDayWord ≡ pos (positive (word w nextDayWord))) × (positive (word w firstDayWord) ≤ positive (word w nextDayWord)) × (positive (word w nextDayWord) ≤ 36525)
+  unfolding headerFits
+  next-of =
+      let x = header-of in
+      let y : T (between (word w firstDayWord) (pos 36525) (word w nextDayWord)) = search (and-left, and-right) depth 8 in
+      is-natural (positive (word w firstDayWord)) 36525 (word w nextDayWord) (subst (λ (z : ℤ). T (between z (pos 36525) (word w nextDayWord))) (first-of .0) y)
+
+  header-zeros : T (all headerPaddingWords (λ n. isZero (word w (headerPadding n))))
+  unfolding headerFits
+  header-zeros = let x = header-of in search (and-left, and-right) depth 8
+
+  pub opened-of : InTerms (termsOf w)
+  opened-of = record {
+    accountsFrom = accounts-of .1;
+    accountsTo = accounts-of .2;
+    lagFrom = lag-of .1;
+    lagTo = lag-of .2;
+    horizonFrom = horizon-of .1;
+    horizonTo = horizon-of .2;
+    firstFrom = first-of .1;
+    firstTo = first-of .2;
+  }
+
+  long-of : size (termsOf w) ≤ length w
+  unfolding fits
+  long-of = let x = all-fits in leb→le (size (termsOf w)) (length w) (search (and-left, and-right) depth 6)
+
+  account-of : (a : ℕ) → a < termsOf w .accounts → T (balanceWordsFit w (nextDay w - termsOf w .first) a)
+  unfolding fits
+  account-of a ha = let x = all-fits in
+      all-at (termsOf w .accounts) (balanceWordsFit w (nextDay w - termsOf w .first)) (search (and-left, and-right) depth 6) a ha
+
+  balance-zeros : (a j : ℕ) → a < termsOf w .accounts → j < balancePaddingWords → word w (balancePadding a j) ≡ pos 0
+  unfolding balanceWordsFit
+  balance-zeros a j ha hj = is-zero (word w (balancePadding a j)) (all-at balancePaddingWords (λ j. isZero (word w (balancePadding a j)))
+      (and-right (balanceFits 1 (nextDay w - termsOf w .first) (word w (balanceWord a))) (all balancePaddingWords (λ j. isZero (word w (balancePadding a j)))) (account-of a ha)) j hj)
+
+  pub balance-at : (a : ℕ) → a < termsOf w .accounts → natAbs (word w (balanceWord a)) ≤ (nextDay w - termsOf w .first) * dayBound
+  unfolding balanceWordsFit balanceFits
+  balance-at a ha = let x = leb→le (natAbs (word w (balanceWord a))) (1 * ((nextDay w - termsOf w .first) * dayBound))
+      (and-left (balanceFits 1 (nextDay w - termsOf w .first) (word w (balanceWord a))) (all balancePaddingWords (λ j. isZero (word w (balancePadding a j)))) (account-of a ha)) in
+      rw one-mul at x
+
+  pub mssl-at : natAbs (word w msslWord) ≤ termsOf w .accounts * ((nextDay w - termsOf w .first) * dayBound)
+  unfolding fits balanceFits
+  mssl-at = let x = all-fits in leb→le (natAbs (word w msslWord)) (termsOf w .accounts * ((nextDay w - termsOf w .first) * dayBound)) (search (and-left, and-right) depth 6)
+
+  -- the days of the window, place by place
+  pub walk-of : T (all (ring (termsOf w)) (windowSlotFits (termsOf w) w (nextDay w - termsOf w .first)))
+  unfolding fits
+  walk-of =
+      let x = all-fits in
+      let d : T (daysFit (termsOf w) w (nextDay w)) = search (and-left, and-right) depth 6 in
+      days-walk (termsOf w) w (nextDay w - termsOf w .first) (horizon-of .1)
+      (subst (λ (C : ℕ). T (daysFit (termsOf w) w C)) (sym (add-sub-of-le (next-of .1))) d)
+
+-- the slot of each place in the window
+module _ (o : Terms) (w : List ℤ) (k : ℕ) (t : T (all (ring o) (windowSlotFits o w k))) (p : zero < ring o) where
+  slot-test : (u : ℕ) → u < ring o → T (windowSlotFits o w k u)
+  slot-test u hu = all-at (ring o) (windowSlotFits o w k) t u hu
+
+  blank-at : (v i m : ℕ) → i < 48 → m < intervalSize o → T (slotBlank o w v) → word w (intervalWord o v i m) ≡ pos 0
+  unfolding slotBlank intervalBlank
+  blank-at v i m hi hm x = is-zero (word w (intervalWord o v i m)) (all-at (intervalSize o) (λ m. isZero (word w (intervalWord o v i m))) (all-at 48 (intervalBlank o w v) x i hi) m hm)
+
+  early-at : (u i m : ℕ) → k + u < o .lag → i < 48 → m < intervalSize o → word w (intervalWord o (windowSlot o k u) i m) ≡ pos 0
+  unfolding windowSlotFits ring
+  early-at u i m h hi hm = blank-at (windowSlot o k u) i m hi hm (go (ltb (k + u) (o .lag)) (lt→ltb (k + u) (o .lag) h) (slot-test u (omega arith)))
+    where
+      go : (a : Bool) → T a → T (cond (a || ltb lastDay (o .first + (k + u - o .lag))) (slotBlank o w (windowSlot o k u))
+          (all 48 (intervalFits o w (windowSlot o k u)) && (not (ltb u (o .lag)) || all 48 (closedRowsThere o w (windowSlot o k u))))) → T (slotBlank o w (windowSlot o k u))
+      go true x y = y
+      go false x y = absurd x
+
+  padding-at : (v i m : ℕ) → v < ring o → i < 48 → Padding (o .accounts) m → word w (intervalWord o v i m) ≡ pos 0
+  unfolding windowSlotFits
+  padding-at v i m hv hi hm = subst (λ (y : ℕ). word w (intervalWord o y i m) ≡ pos 0) (turned o p k v hv)
+      (go (ltb (k + windowPlace o k v) (o .lag) || ltb lastDay (o .first + (k + windowPlace o k v - o .lag))) (slot-test (windowPlace o k v) (turn-inside o p k v)))
+    where
+      full : T (intervalFits o w (windowSlot o k (windowPlace o k v)) i) → Padding (o .accounts) m → word w (intervalWord o (windowSlot o k (windowPlace o k v)) i m) ≡ pos 0
+      full x y = is-zero (word w (intervalWord o (windowSlot o k (windowPlace o k v)) i m)) (interval-padding o w (windowSlot o k (windowPlace o k v)) i x m y)
+
+      go : (a : Bool) → T (cond a (slotBlank o w (windowSlot o k (windowPlace o k v)))
+          (all 48 (intervalFits o w (windowSlot o k (windowPlace o k v))) && (not (ltb (windowPlace o k v) (o .lag)) || all 48 (closedRowsThere o w (windowSlot o k (windowPlace o k v))))))
+          → word w (intervalWord o (windowSlot o k (windowPlace o k v)) i m) ≡ pos 0
+      go true x = blank-at (windowSlot o k (windowPlace o k v)) i m hi (padding-fits o m hm) x
+      go false x = full (all-at 48 (intervalFits o w (windowSlot o k (windowPlace o k v)))
+          (and-left (all 48 (intervalFits o w (windowSlot o k (windowPlace o k v)))) (not (ltb (windowPlace o k v) (o .lag)) || all 48 (closedRowsThere o w (windowSlot o k (windowPlace o k v)))) x) i hi) hm
+
+module _ (w : List ℤ) (t : T (wellFormed w)) where
+  -- a well-formed book holds what its words tell
+  pub formed-holds : HoldsLedger (termsOf w) (ledgerOf w) w
+  formed-holds = record {
+    long = long-of w t;
+    mark = mark-of w t;
+    accounts = accounts-of w t .0;
+    lag = lag-of w t .0;
+    horizon = horizon-of w t .0;
+    first = first-of w t .0;
+    next = next-of w t .0 ∙ ap pos (omega (arith, next-of w t .1));
+    mssl = refl;
+    headerZeros = λ n x. is-zero (word w (headerPadding n)) (all-at headerPaddingWords (λ n. isZero (word w (headerPadding n))) (header-zeros w t) n x);
+    balances = λ a x. refl;
+    balanceZeros = balance-zeros w t;
+    held = λ s a d i j x ha hi hj. refl;
+    early = early-at (termsOf w) w (nextDay w - termsOf w .first) (walk-of w t) (ring-pos (termsOf w) (opened-of w t));
+    padding = padding-at (termsOf w) w (nextDay w - termsOf w .first) (walk-of w t) (ring-pos (termsOf w) (opened-of w t));
+  }
+
+  -- and that fits
+  pub formed-fit : Fit (termsOf w) (ledgerOf w)
+  unfolding rowWord isThere
+  formed-fit = record {
+    rows = λ s a d i hd ha hi. dated-or s a d i hd ha hi (decLe d lastDay);
+    undated = λ s a d i j hd x ha hi hj. zeros s a d i j hd x ha hi hj;
+    vestings = λ a d i hd x ha hi. closed-there (termsOf w) w (nextDay w - termsOf w .first) (walk-of w t) p d hd (before d x) x a i ha hi .0;
+    meters = λ a d i hd x ha hi. closed-there (termsOf w) w (nextDay w - termsOf w .first) (walk-of w t) p d hd (before d x) x a i ha hi .1;
+    bounded = balance-at w t;
+    mssl = mssl-at w t;
+    begun = omega (arith, next-of w t .1, next-of w t .2);
+  }
+    where
+      p : zero < ring (termsOf w)
+      p = ring-pos (termsOf w) (opened-of w t)
+
+      before : (d : ℕ) → d < termsOf w .first + (nextDay w - termsOf w .first) → d ≤ lastDay
+      before d x = omega (arith, next-of w t .1, next-of w t .2)
+
+      zeros : (s : Section) (a d i j : ℕ) → InWindow (termsOf w) (nextDay w - termsOf w .first) d → lastDay < d → a < accountsOf s (termsOf w .accounts) → i < 48 → j < width s
+          → entriesOf (termsOf w) w s a d i j ≡ pos 0
+      zeros s a d i j hd x ha hi hj = blank-at (termsOf w) w (nextDay w - termsOf w .first) (walk-of w t) p (slot (termsOf w) d) i (place s a j) hi (row-in-interval (termsOf w) s a j ha hj)
+          (undated-blank (termsOf w) w (nextDay w - termsOf w .first) (walk-of w t) p d hd x)
+
+      dated-or : (s : Section) (a d i : ℕ) → InWindow (termsOf w) (nextDay w - termsOf w .first) d → a < accountsOf s (termsOf w .accounts) → i < 48 → Dec (d ≤ lastDay)
+          → T (rowFits s (entriesOf (termsOf w) w s a d i))
+      dated-or s a d i hd ha hi (yes x) = row-fits-at (termsOf w) w (nextDay w - termsOf w .first) (walk-of w t) p d hd x s a i ha hi
+      dated-or s a d i hd ha hi (no x) = absent-fits s (entriesOf (termsOf w) w s a d i) (λ j hj. zeros s a d i j hd (omega arith) ha hi hj)

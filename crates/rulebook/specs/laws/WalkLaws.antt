@@ -1,0 +1,174 @@
+-- Well formed by days is well formed place by place: each day of the window has its place, and a place of no day a slot of no day. Assumes nothing.
+use mathlib.Core.Path.{_≡_, refl, sym, _∙_, subst}
+use mathlib.Core.Bool.{Bool, true, false, cond, not, _&&_, _||_}
+use mathlib.Core.List.{List}
+use Prim.Native.Nat.{ℕ, zero, _+_, _-_, _≤_, _<_}
+use native.Mathlib.Nat.{mod-lt}
+use native.Mathlib.Omega.{arith}
+use native.Mathlib.Decide.{decLe}
+use lib.Dec.{T, leb, ltb, eqb, leb→le, le→leb, ltb→lt, nltb→le, lt→ltb, eqb→eq, eqb-refl}
+use lib.IntN.{ℤ}
+use Rattle.integer.specs.Below.{all}
+use Rattle.rulebook.specs.declared.Terms.{Terms}
+use Rattle.rulebook.specs.Units.{lastDay}
+use Rattle.rulebook.specs.Layout.{ring, slot, windowFrom, windowDays, InWindow}
+use Rattle.rulebook.specs.WellFormed.{slotBlank, intervalFits, closedRowsThere, dayFits, isDated, daysFit}
+use Rattle.rulebook.specs.WindowWalk.{windowSlot, windowSlotFits, windowPlace}
+use Rattle.rulebook.specs.laws.TestLaws.{and-left, and-right, and-both, or-left, or-right, or-cases, nor-left, nor-right, cond-yes, not-ltb, all-yes, any-yes, all-at, any-at, tests-same}
+use Rattle.rulebook.specs.laws.RingLaws.{turn-inside, turned, places-apart, place-slot, place-day, placeOf, day-place}
+
+module _ (o : Terms) (w : List ℤ) (k : ℕ) (p : 1 ≤ o .horizon) where
+  ring-some : zero < ring o
+  unfolding ring
+  ring-some = omega arith
+
+  -- day i of the window
+  window-day : (i : ℕ) → i < windowDays o (o .first + k) → InWindow o k (windowFrom o (o .first + k) + i)
+  window-day i h = omega arith
+
+  window-dated : (i : ℕ) → i < windowDays o (o .first + k) → windowFrom o (o .first + k) + i ≤ lastDay
+  window-dated i h = omega arith
+
+  -- which day of the window
+  indexOf : ℕ → ℕ
+  indexOf d = d - windowFrom o (o .first + k)
+
+  index-inside : (d : ℕ) → InWindow o k d → d ≤ lastDay → indexOf d < windowDays o (o .first + k)
+  unfolding indexOf
+  index-inside d h l = omega arith
+
+  index-day : (d : ℕ) → InWindow o k d → windowFrom o (o .first + k) + indexOf d ≡ d
+  unfolding indexOf
+  index-day d h = omega arith
+
+  -- a day that fits, at its place
+  at-place : (u d : ℕ) → windowSlot o k u ≡ slot o d → (u < o .lag → d < o .first + k) → T (dayFits o w (o .first + k) d)
+      → T (all 48 (intervalFits o w (windowSlot o k u)) && (not (ltb u (o .lag)) || all 48 (closedRowsThere o w (windowSlot o k u))))
+  unfolding dayFits
+  at-place u d e before t = subst (λ (v : ℕ). T (all 48 (intervalFits o w v) && (not (ltb u (o .lag)) || all 48 (closedRowsThere o w v)))) (sym e)
+      (and-both (all 48 (intervalFits o w (slot o d))) (not (ltb u (o .lag)) || all 48 (closedRowsThere o w (slot o d))) (and-left (all 48 (intervalFits o w (slot o d))) (leb (o .first + k) d || all 48 (closedRowsThere o w (slot o d))) t)
+      (or-cases (leb (o .first + k) d) (all 48 (closedRowsThere o w (slot o d))) (and-right (all 48 (intervalFits o w (slot o d))) (leb (o .first + k) d || all 48 (closedRowsThere o w (slot o d))) t) later (λ x. or-right (not (ltb u (o .lag))) _ x)))
+    where
+      later : T (leb (o .first + k) d) → T (not (ltb u (o .lag)) || all 48 (closedRowsThere o w (slot o d)))
+      later x = go (ltb u (o .lag)) (λ y. let h = before (ltb→lt u (o .lag) y) in let l = leb→le (o .first + k) d x in omega arith)
+        where
+          go : (b : Bool) → (T b → ⊥) → T (not b || all 48 (closedRowsThere o w (slot o d)))
+          go true f = absurd (f tt)
+          go false f = tt
+
+  -- and back
+  at-day : (u d : ℕ) → windowSlot o k u ≡ slot o d → (d < o .first + k → u < o .lag)
+      → T (all 48 (intervalFits o w (windowSlot o k u)) && (not (ltb u (o .lag)) || all 48 (closedRowsThere o w (windowSlot o k u)))) → T (dayFits o w (o .first + k) d)
+  unfolding dayFits
+  at-day u d e before t =
+      let x : T (all 48 (intervalFits o w (slot o d)) && (not (ltb u (o .lag)) || all 48 (closedRowsThere o w (slot o d)))) = subst (λ (v : ℕ). T (all 48 (intervalFits o w v) && (not (ltb u (o .lag)) || all 48 (closedRowsThere o w v)))) e t in
+      and-both (all 48 (intervalFits o w (slot o d))) (leb (o .first + k) d || all 48 (closedRowsThere o w (slot o d))) (and-left (all 48 (intervalFits o w (slot o d))) (not (ltb u (o .lag)) || all 48 (closedRowsThere o w (slot o d))) x) (later (decLe (o .first + k) d) (and-right (all 48 (intervalFits o w (slot o d))) (not (ltb u (o .lag)) || all 48 (closedRowsThere o w (slot o d))) x))
+    where
+      later : Dec (o .first + k ≤ d) → T (not (ltb u (o .lag)) || all 48 (closedRowsThere o w (slot o d))) → T (leb (o .first + k) d || all 48 (closedRowsThere o w (slot o d)))
+      later (yes h) y = or-left (leb (o .first + k) d) _ (le→leb (o .first + k) d h)
+      later (no h) y = or-right (leb (o .first + k) d) _ (go (ltb u (o .lag)) (lt→ltb u (o .lag) (before (omega arith))) y)
+        where
+          go : (b : Bool) → T b → T (not b || all 48 (closedRowsThere o w (slot o d))) → T (all 48 (closedRowsThere o w (slot o d)))
+          go true x z = z
+          go false x z = absurd x
+
+  -- ---- From days to places
+
+  module _ (t : T (daysFit o w (o .first + k))) where
+    each-day : (i : ℕ) → i < windowDays o (o .first + k) → T (dayFits o w (o .first + k) (windowFrom o (o .first + k) + i))
+    unfolding daysFit
+    each-day i h = all-at (windowDays o (o .first + k)) (λ i. dayFits o w (o .first + k) (windowFrom o (o .first + k) + i)) (and-left (all (windowDays o (o .first + k)) (λ i. dayFits o w (o .first + k) (windowFrom o (o .first + k) + i))) (all (ring o) (λ v. isDated o (o .first + k) v || slotBlank o w v)) t) i h
+
+    each-slot : (v : ℕ) → v < ring o → T (isDated o (o .first + k) v || slotBlank o w v)
+    unfolding daysFit
+    each-slot v h = all-at (ring o) (λ v. isDated o (o .first + k) v || slotBlank o w v) (and-right (all (windowDays o (o .first + k)) (λ i. dayFits o w (o .first + k) (windowFrom o (o .first + k) + i))) (all (ring o) (λ v. isDated o (o .first + k) v || slotBlank o w v)) t) v h
+
+    -- a place of no day has a slot of no day
+    undated : (u : ℕ) → u < ring o → ((d : ℕ) → InWindow o k d → d ≤ lastDay → placeOf o k d ≡ u → ⊥) → T (slotBlank o w (windowSlot o k u))
+    unfolding isDated
+    undated u h none = or-cases (isDated o (o .first + k) (windowSlot o k u)) (slotBlank o w (windowSlot o k u)) (each-slot (windowSlot o k u) slot-inside)
+        (λ x. let i = any-at (windowDays o (o .first + k)) (λ i. eqb (slot o (windowFrom o (o .first + k) + i)) (windowSlot o k u)) x in
+        absurd (shared (i .0) (i .1) (eqb→eq (slot o (windowFrom o (o .first + k) + i .0)) (windowSlot o k u) (i .2)))) (λ x. x)
+      where
+        slot-inside : windowSlot o k u < ring o
+        slot-inside = unfold windowSlot in mod-lt _ ring-some
+
+        shared : (i : ℕ) → i < windowDays o (o .first + k) → slot o (windowFrom o (o .first + k) + i) ≡ windowSlot o k u → ⊥
+        shared i hi e =
+            let d : ℕ = windowFrom o (o .first + k) + i in
+            let z = day-place o k (windowFrom o (o .first + k) + i) (window-day i hi) in
+            none d (window-day i hi) (window-dated i hi) (places-apart o ring-some k (placeOf o k d) u (z .inside) h (z .slot-is ∙ e))
+
+    place-fits : (u : ℕ) → u < ring o → T (windowSlotFits o w k u)
+    unfolding windowSlotFits placeOf
+    place-fits u h = cond-yes (ltb (k + u) (o .lag) || ltb lastDay (o .first + (k + u - o .lag))) (slotBlank o w (windowSlot o k u))
+        (all 48 (intervalFits o w (windowSlot o k u)) && (not (ltb u (o .lag)) || all 48 (closedRowsThere o w (windowSlot o k u))))
+        (λ x. or-cases (ltb (k + u) (o .lag)) (ltb lastDay (o .first + (k + u - o .lag))) x
+        (λ y. let e = ltb→lt (k + u) (o .lag) y in undated u h (λ d z l q. omega arith))
+        (λ y. let e = ltb→lt lastDay (o .first + (k + u - o .lag)) y in undated u h (λ d z l q. omega arith)))
+        (λ x. let a = nltb→le (k + u) (o .lag) (nor-left (ltb (k + u) (o .lag)) (ltb lastDay (o .first + (k + u - o .lag))) x) in
+        let b = nltb→le lastDay (o .first + (k + u - o .lag)) (nor-right (ltb (k + u) (o .lag)) (ltb lastDay (o .first + (k + u - o .lag))) x) in
+        let z = place-day o k u h a in
+        let d : ℕ = o .first + (k + u - o .lag) in
+        at-place u d (place-slot o k u h a) (λ y. omega arith)
+        (subst (λ (d : ℕ). T (dayFits o w (o .first + k) d)) (index-day d z) (each-day (indexOf d) (index-inside d z b))))
+
+  pub days-walk : T (daysFit o w (o .first + k)) → T (all (ring o) (windowSlotFits o w k))
+  days-walk t = all-yes (ring o) (windowSlotFits o w k) (place-fits t)
+
+  -- ---- From places to days
+
+  module _ (t : T (all (ring o) (windowSlotFits o w k))) where
+    by-cases : (a b c d : Bool) → T (not a) → T (not b) → T (cond (a || b) c d) → T d
+    by-cases true b c d x y z = absurd x
+    by-cases false true c d x y z = absurd y
+    by-cases false false c d x y z = z
+
+    day-fits : (d : ℕ) → InWindow o k d → d ≤ lastDay → T (dayFits o w (o .first + k) d)
+    unfolding windowSlotFits
+    day-fits d h l =
+        let z = day-place o k d h in
+        at-day (placeOf o k d) d (z .slot-is) (z .open-is .1)
+        (by-cases (ltb (k + placeOf o k d) (o .lag)) (ltb lastDay (o .first + (k + placeOf o k d - o .lag))) _ _
+        (not-ltb (k + placeOf o k d) (o .lag) (z .late)) (not-ltb lastDay (o .first + (k + placeOf o k d - o .lag)) (rw (z .back) l))
+        (all-at (ring o) (windowSlotFits o w k) t (placeOf o k d) (z .inside)))
+
+    slot-fits : (v : ℕ) → v < ring o → T (isDated o (o .first + k) v || slotBlank o w v)
+    unfolding windowSlotFits isDated
+    slot-fits v h = subst (λ (x : ℕ). T (isDated o (o .first + k) x || slotBlank o w x)) (turned o ring-some k v h)
+        (go (ltb (k + u) (o .lag) || ltb lastDay (o .first + (k + u - o .lag))) refl (all-at (ring o) (windowSlotFits o w k) t u (turn-inside o ring-some k v)))
+      where
+        u : ℕ
+        u = windowPlace o k v
+
+        inside : windowPlace o k v < ring o
+        inside = turn-inside o ring-some k v
+
+        dated : o .lag ≤ k + windowPlace o k v → o .first + (k + windowPlace o k v - o .lag) ≤ lastDay → T (isDated o (o .first + k) (windowSlot o k (windowPlace o k v)))
+        dated a b =
+            let d : ℕ = o .first + (k + windowPlace o k v - o .lag) in
+            let z = place-day o k (windowPlace o k v) inside a in
+            any-yes (windowDays o (o .first + k)) (λ i. eqb (slot o (windowFrom o (o .first + k) + i)) (windowSlot o k (windowPlace o k v))) (indexOf d) (index-inside d z b)
+            (subst (λ (y : ℕ). T (eqb (slot o y) (windowSlot o k (windowPlace o k v)))) (sym (index-day d z))
+            (subst (λ (y : ℕ). T (eqb y (windowSlot o k (windowPlace o k v)))) (place-slot o k (windowPlace o k v) inside a) (eqb-refl (windowSlot o k (windowPlace o k v)))))
+
+        go : (b : Bool) → (ltb (k + windowPlace o k v) (o .lag) || ltb lastDay (o .first + (k + windowPlace o k v - o .lag))) ≡ b
+            → T (cond b (slotBlank o w (windowSlot o k (windowPlace o k v)))
+            (all 48 (intervalFits o w (windowSlot o k (windowPlace o k v))) && (not (ltb (windowPlace o k v) (o .lag)) || all 48 (closedRowsThere o w (windowSlot o k (windowPlace o k v))))))
+            → T (isDated o (o .first + k) (windowSlot o k (windowPlace o k v)) || slotBlank o w (windowSlot o k (windowPlace o k v)))
+        go true e x = or-right (isDated o (o .first + k) (windowSlot o k (windowPlace o k v))) _ x
+        go false e x =
+            let n : T (not (ltb (k + windowPlace o k v) (o .lag) || ltb lastDay (o .first + (k + windowPlace o k v - o .lag)))) = subst (λ (b : Bool). T (not b)) (sym e) tt in
+            or-left (isDated o (o .first + k) (windowSlot o k (windowPlace o k v))) (slotBlank o w (windowSlot o k (windowPlace o k v))) (dated
+            (nltb→le (k + windowPlace o k v) (o .lag) (nor-left (ltb (k + windowPlace o k v) (o .lag)) (ltb lastDay (o .first + (k + windowPlace o k v - o .lag))) n))
+            (nltb→le lastDay (o .first + (k + windowPlace o k v - o .lag)) (nor-right (ltb (k + windowPlace o k v) (o .lag)) (ltb lastDay (o .first + (k + windowPlace o k v - o .lag))) n)))
+
+    pub walk-days : T (daysFit o w (o .first + k))
+    unfolding daysFit
+    walk-days = and-both (all (windowDays o (o .first + k)) (λ i. dayFits o w (o .first + k) (windowFrom o (o .first + k) + i))) (all (ring o) (λ v. isDated o (o .first + k) v || slotBlank o w v))
+        (all-yes (windowDays o (o .first + k)) (λ i. dayFits o w (o .first + k) (windowFrom o (o .first + k) + i)) (λ i h. day-fits (windowFrom o (o .first + k) + i) (window-day i h) (window-dated i h)))
+        (all-yes (ring o) (λ v. isDated o (o .first + k) v || slotBlank o w v) slot-fits)
+
+  -- the two are one test
+  pub days-are-places : daysFit o w (o .first + k) ≡ all (ring o) (windowSlotFits o w k)
+  days-are-places = tests-same (daysFit o w (o .first + k)) (all (ring o) (windowSlotFits o w k)) days-walk walk-days

@@ -1,0 +1,2 @@
+-- laws and proofs, in the order in which they lean on each other
+pub mod SpareToldLaws
