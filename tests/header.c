@@ -114,6 +114,7 @@ static void a_closed_book(void)
     NUMBER(ROBIJAN_ACCEPTED, robijan_book_size(longest).number);
     longest.lag = 92;
     NUMBER(ROBIJAN_OUTSIDE_RANGE, robijan_book_size(longest).number);
+    NUMBER(ROBIJAN_OUTSIDE_RANGE, robijan_book_size(terms(2, FIRST - 1)).number); /* as an opening says */
 }
 
 static void rules(void)

@@ -1,10 +1,11 @@
 -- Document 01, "Program `settle`": what it prints on some inputs. Proved in ExamplesProof. Assumes nothing.
 use mathlib.Core.Path.{_≡_}
 use mathlib.Core.List.{List, [], _∷_, _++_}
-use Prim.Native.Nat.{ℕ}
+use Prim.Native.Nat.{ℕ, _^_, _≤_}
 use lib.ListN.{length}
 use Rattle.rulebook.specs.examples.Examples.{zeros}
 use Rattle.interpreter.specs.Interpreter.{newWords, printed}
+use Rattle.interpreter.specs.Running.{farthest}
 
 -- ---- Inputs
 
@@ -67,6 +68,8 @@ pub record Prints : Type 0 where
   pub twoAccounts : printed (openingOf 2 1 1) ≡ openText []
   pub longerRing : printed (openingOf 1 2 2) ≡ openNumber 50 []
   pub threeAccounts : printed (openingOf 3 1 1) ≡ openNumber 50 []
+  -- no input is so long that the run's bound cuts it
+  pub uncut : 2 ^ 62 ≤ farthest
   -- L, which may be 75, comes before H, which may be 92
   pub lag : printed (openingOf 1 76 1) ≡ openNumber 49 []
   pub horizon : printed (openingOf 1 1 76) ≡ openNumber 50 []

@@ -193,6 +193,7 @@ prints = record {
   twoAccounts = opened-on 2 1 1 [] refl (omega arith) ∙ ap openText (printed-end 4 2 5 _ (openingOf 2 1 1) refl);
   longerRing = opened-large 1 2 2 [] refl (omega arith);
   threeAccounts = opened-large 3 1 1 [] refl (omega arith);
+  uncut = omega arith;
   lag = refl;
   horizon = opened-large 1 1 76 [] refl (omega arith);
   nothing = refl;
