@@ -2,14 +2,15 @@
 use mathlib.Core.Bool.{Bool, cond, not, _&&_, _||_}
 use mathlib.Core.List.{List}
 use Prim.Native.Nat.{ℕ, _+_, _*_}
-use lib.IntN.{ℤ}
-use lib.ListN.{length, take, drop}
+use lib.IntN.{ℤ, pos}
+use lib.ListN.{length}
+use lib.Signed.{ltZ}
 use Rattle.integer.specs.Below.{all}
 use Rattle.integer.specs.Words.{word, part}
 use Rattle.rulebook.specs.declared.Kind.{Kind}
 use Rattle.rulebook.specs.declared.Section.{Section}
 use Rattle.rulebook.specs.declared.Section.the-variants.{Vesting, Meter, Residual, Ncc}
-use Rattle.rulebook.specs.Units.{inRange, intervals}
+use Rattle.rulebook.specs.Units.{between, inRange, intervals}
 use Rattle.rulebook.specs.Layout.{intervalTable, accountTable, intervalWords, accountWords, intervalLength, tablePlace, flagIndex}
 use Rattle.rulebook.specs.WellFormed.{isZero, rowFits, paddingZero}
 
@@ -23,9 +24,21 @@ rowWords = 64
 
 -- ---- An account's words at an interval
 
--- two values of a row: in range where the row has them, else zero
-unfoldable pub pairFits : Kind → Kind → Bool → ℤ → ℤ → Bool
-pairFits k l used x y = cond used (inRange k x && inRange l y) (isZero x && isZero y)
+-- a row of a flag and four pairs has so many
+abbrev pub pairs : ℕ
+pairs = 4
+
+-- of its words f 0, f 1, ..: each pair is in range, zeros too
+unfoldable pub pairsInRange : Kind → Kind → (ℕ → ℤ) → Bool
+pairsInRange k l f = all pairs (λ p. inRange k (f (1 + 2 * p)) && inRange l (f (2 + 2 * p)))
+
+-- each that the flag does not count is zero
+unfoldable pub restZero : (ℕ → ℤ) → Bool
+restZero f = all pairs (λ p. ltZ (pos p) (f 0) || (isZero (f (1 + 2 * p)) && isZero (f (2 + 2 * p))))
+
+-- the row fits, absent or there
+unfoldable pub pairsFit : Kind → Kind → (ℕ → ℤ) → Bool
+pairsFit k l f = between (pos 0) (pos pairs) (f 0) && pairsInRange k l f && restZero f
 
 -- word j of the row of section s, of a table's words
 abbrev pub rowOf : List ℤ → Section → ℕ → ℤ

@@ -1,43 +1,88 @@
 // Document 01, "The book": an account's 24 words at an interval. Each test is left at its first word that does not fit.
 use crate::words::above_at;
 use crate::words::between_at;
-use crate::words::value_at;
+use crate::words::in_range_at;
 use crate::words::zero_at;
 use rulebook::Kind;
 use rulebook::layout::ACCOUNT_SPARE;
-use rulebook::layout::BVQ;
-use rulebook::layout::MEP;
 use rulebook::layout::METER_FLAG;
 use rulebook::layout::RESIDUAL_FLAG;
 use rulebook::layout::RVP1;
-use rulebook::layout::TVQ;
 use rulebook::layout::UEGQ;
 use rulebook::layout::VESTING_FLAG;
+ghost use mathlib.Core.Bool.{_&&_};
 ghost use mathlib.Core.Path.{_≡_};
-ghost use Prim.Native.Nat.{_+_, _<_};
+ghost use Prim.Native.Nat.{_+_, _*_, _<_};
 ghost use lib.ListN.{length};
-ghost use lib.Signed.{ltZ};
 ghost use Rattle.integer.specs.Words.{word};
 ghost use Rattle.rulebook.specs.declared.Section.the-variants.{Vesting, Meter, Residual};
 ghost use Rattle.rulebook.specs.Layout.{accountWords};
-ghost use Rattle.rulebook.specs.WellFormed.{rowFits};
-ghost use Rattle.book.specs.Parts.{pairFits, rowOf, rowsThere, accountFits};
+ghost use Rattle.rulebook.specs.Units.{inRange};
+ghost use Rattle.rulebook.specs.WellFormed.{isZero, rowFits};
+ghost use Rattle.book.specs.Parts.{pairs, pairsInRange, restZero, pairsFit, rowOf, rowsThere, accountFits};
 
-// The values at i and i + 1: in range where the row has them, its flag being above a number, else zero.
-fn pair_fits(cell: &[i64], flag: usize, above: i64, i: usize, first: Kind, second: Kind) -> bool
-    requires { ⌜ (flag < length (now cell)) × (i + 1 < length (now cell)) ⌝ }
-    ensures { λ r. ⌜ r ≡ pairFits first second (ltZ above (word (now (cell .entry)) flag)) (word (now (cell .entry)) i) (word (now (cell .entry)) (i + 1)) ⌝ }
+// Pairs of a vesting row, its base and three tenders, and of a meter row.
+const PAIRS: usize = 4;
+
+// The pair of values at i is in range.
+fn pair_in_range(cell: &[i64], i: usize, first: Kind, second: Kind) -> bool
+    requires { ⌜ i + 1 < length (now cell) ⌝ }
+    ensures { λ r. ⌜ r ≡ (inRange first (word (now (cell .entry)) i) && inRange second (word (now (cell .entry)) (i + 1))) ⌝ }
 {
-    if above_at(cell, flag, above) {
-        if !value_at(cell, i, first) {
-            return false;
-        }
-        value_at(cell, i + 1, second)
+    in_range_at(cell, i, first) & in_range_at(cell, i + 1, second)
+}
+
+// It is zero.
+fn pair_zero(cell: &[i64], i: usize) -> bool
+    requires { ⌜ i + 1 < length (now cell) ⌝ }
+    ensures { λ r. ⌜ r ≡ (isZero (word (now (cell .entry)) i) && isZero (word (now (cell .entry)) (i + 1))) ⌝ }
+{
+    zero_at(cell, i) & zero_at(cell, i + 1)
+}
+
+// Each of the four pairs after a flag is in range. Zero is, so this asks of no flag.
+fn pairs_in_range(cell: &[i64], flag: usize, first: Kind, second: Kind) -> bool
+    requires { ⌜ flag + 2 * pairs < length (now cell) ⌝ }
+    ensures { λ r. ⌜ r ≡ pairsInRange first second (λ j. word (now (cell .entry)) (flag + j)) ⌝ }
+{
+    let mut ok = true;
+    for p in 0..PAIRS {
+        ok = ok & pair_in_range(cell, flag + (1 + 2 * p), first, second);
+    }
+    ok
+}
+
+// Each that the flag does not count is zero. No branch goes by the flag: it would be mispredicted.
+fn rest_zero(cell: &[i64], flag: usize) -> bool
+    requires { ⌜ flag + 2 * pairs < length (now cell) ⌝ }
+    ensures { λ r. ⌜ r ≡ restZero (λ j. word (now (cell .entry)) (flag + j)) ⌝ }
+{
+    let mut ok = true;
+    for p in 0..PAIRS {
+        ok = ok & (above_at(cell, flag, p as i64) | pair_zero(cell, flag + (1 + 2 * p)));
+    }
+    ok
+}
+
+// A flag, then four pairs of values: as many as it says, the others zero. A row that is absent and one that has all pairs are asked less: they
+// come in runs.
+fn pairs_fit(cell: &[i64], flag: usize, first: Kind, second: Kind) -> bool
+    requires { ⌜ flag + 2 * pairs < length (now cell) ⌝ }
+    ensures { λ r. ⌜ r ≡ pairsFit first second (λ j. word (now (cell .entry)) (flag + j)) ⌝ }
+{
+    if zero_at(cell, flag) {
+        return rest_zero(cell, flag);
+    }
+    if !between_at(cell, flag, 0, 4) {
+        return false;
+    }
+    if !pairs_in_range(cell, flag, first, second) {
+        return false;
+    }
+    if above_at(cell, flag, 3) {
+        true
     } else {
-        if !zero_at(cell, i) {
-            return false;
-        }
-        zero_at(cell, i + 1)
+        rest_zero(cell, flag)
     }
 }
 
@@ -46,19 +91,7 @@ fn vesting_fits(cell: &[i64]) -> bool
     requires { ⌜ length (now cell) ≡ accountWords ⌝ }
     ensures { λ r. ⌜ r ≡ rowFits Vesting (rowOf (now (cell .entry)) Vesting) ⌝ }
 {
-    if !between_at(cell, VESTING_FLAG, 0, 4) {
-        return false;
-    }
-    if !pair_fits(cell, VESTING_FLAG, 0, BVQ, Kind::Quantity, Kind::Price) {
-        return false;
-    }
-    if !pair_fits(cell, VESTING_FLAG, 1, TVQ, Kind::Quantity, Kind::Price) {
-        return false;
-    }
-    if !pair_fits(cell, VESTING_FLAG, 2, TVQ + 2, Kind::Quantity, Kind::Price) {
-        return false;
-    }
-    pair_fits(cell, VESTING_FLAG, 3, TVQ + 4, Kind::Quantity, Kind::Price)
+    pairs_fit(cell, VESTING_FLAG, Kind::Quantity, Kind::Price)
 }
 
 // 0 absent or facility count; four MEP and IEQ pairs.
@@ -66,19 +99,7 @@ fn meter_fits(cell: &[i64]) -> bool
     requires { ⌜ length (now cell) ≡ accountWords ⌝ }
     ensures { λ r. ⌜ r ≡ rowFits Meter (rowOf (now (cell .entry)) Meter) ⌝ }
 {
-    if !between_at(cell, METER_FLAG, 0, 4) {
-        return false;
-    }
-    if !pair_fits(cell, METER_FLAG, 0, MEP, Kind::Price, Kind::Injection) {
-        return false;
-    }
-    if !pair_fits(cell, METER_FLAG, 1, MEP + 2, Kind::Price, Kind::Injection) {
-        return false;
-    }
-    if !pair_fits(cell, METER_FLAG, 2, MEP + 4, Kind::Price, Kind::Injection) {
-        return false;
-    }
-    pair_fits(cell, METER_FLAG, 3, MEP + 6, Kind::Price, Kind::Injection)
+    pairs_fit(cell, METER_FLAG, Kind::Price, Kind::Injection)
 }
 
 // Residual present; UEGQ, MQ, RVP1, RVP2.
@@ -89,10 +110,12 @@ fn residual_fits(cell: &[i64]) -> bool
     if !between_at(cell, RESIDUAL_FLAG, 0, 1) {
         return false;
     }
-    if !pair_fits(cell, RESIDUAL_FLAG, 0, UEGQ, Kind::Quantity, Kind::Quantity) {
-        return false;
+    if above_at(cell, RESIDUAL_FLAG, 0) {
+        pair_in_range(cell, UEGQ, Kind::Quantity, Kind::Quantity)
+            & pair_in_range(cell, RVP1, Kind::Price, Kind::Price)
+    } else {
+        pair_zero(cell, UEGQ) & pair_zero(cell, RVP1)
     }
-    pair_fits(cell, RESIDUAL_FLAG, 0, RVP1, Kind::Price, Kind::Price)
 }
 
 // "days max(F, C − L) to C − 1 have all vesting and meter rows"

@@ -2,7 +2,7 @@
 use crate::cell::account_fits;
 use crate::words::above_at;
 use crate::words::between_at;
-use crate::words::value_at;
+use crate::words::in_range_at;
 use crate::words::zero_at;
 use rulebook::Kind;
 use rulebook::layout;
@@ -25,7 +25,7 @@ fn ncc_fits(interval: &[i64]) -> bool
         return false;
     }
     if above_at(interval, layout::NCC_FLAG, 0) {
-        value_at(interval, layout::NCC_LOAD, Kind::Load)
+        in_range_at(interval, layout::NCC_LOAD, Kind::Load)
     } else {
         zero_at(interval, layout::NCC_LOAD)
     }

@@ -45,7 +45,7 @@ fn slot_fits(slot: &[i64], n: usize, dated: bool, closed: bool) -> bool
 }
 
 // The place of slot v in the window of L + H days from C − L on, after some closes.
-fn place_of(terms: Terms, closes: usize, v: usize) -> usize
+fn window_place(terms: Terms, closes: usize, v: usize) -> usize
     requires { ⌜ InTerms terms × (closes ≤ lastDay) × (v < ring terms) ⌝ }
     ensures { λ r. ⌜ (r ≡ windowPlace terms closes v) × (r < ring terms) ⌝ }
 {
@@ -77,7 +77,7 @@ pub fn slots_fit(slots: &[i64], terms: Terms, closes: usize) -> bool
     for v in 0..ring {
         let i = v * size;
         let e = i + size;
-        let place = place_of(terms, closes, v);
+        let place = window_place(terms, closes, v);
         ok = ok
             & slot_fits(
                 &slots[i..e],

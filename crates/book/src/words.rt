@@ -54,7 +54,7 @@ pub fn within_at(part: &[i64], i: usize, bound: usize) -> bool
 }
 
 // Document 01, "Units and ranges": the word is in the range of its kind.
-pub fn value_at(part: &[i64], i: usize, kind: Kind) -> bool
+pub fn in_range_at(part: &[i64], i: usize, kind: Kind) -> bool
     requires { ⌜ i < length (now part) ⌝ }
     ensures { λ r. ⌜ r ≡ inRange kind (word (now (part .entry)) i) ⌝ }
 {

@@ -1,117 +1,166 @@
--- A row fits exactly if its flag is in range and each pair of values is there by the flag. Assumes nothing.
-use mathlib.Core.Path.{_≡_, refl}
-use mathlib.Core.Bool.{Bool, true, false, cond, _&&_, and-assoc, and-true, and-false, or-false}
-use Prim.Native.Nat.{ℕ, zero, suc}
+-- A row fits exactly if its flag is in range, its figures are, and those that the flag does not count are zero. Assumes nothing.
+use mathlib.Core.Path.{_≡_, refl, sym, ap, ap₂, _∙_, subst}
+use mathlib.Core.Bool.{Bool, true, false, cond, _&&_, _||_, and-assoc, and-true, and-false}
+use Prim.Native.Nat.{ℕ, zero, suc, _+_, _*_, _<_}
 use native.Mathlib.Omega.{arith}
-use borrow.Author.Tests.{lt-leb}
+use borrow.Author.Tests.{lt-leb, le-ltb}
+use lib.Dec.{T, ltb, ltb→lt, lt→ltb}
 use lib.IntN.{ℤ, pos, negsuc}
 use lib.Signed.{ltZ}
-use Rattle.integer.specs.Below.{fold}
+use Rattle.integer.specs.Below.{fold, all}
 use Rattle.rulebook.specs.declared.Kind.{Kind}
 use Rattle.rulebook.specs.declared.Kind.the-variants.{Quantity, Injection, Load, Price}
 use Rattle.rulebook.specs.declared.Section.the-variants.{Vesting, Meter, Residual, Ncc}
-use Rattle.rulebook.specs.Units.{between, inRange}
-use Rattle.rulebook.specs.WellFormed.{isZero, rowBlank, rowCounts, rowFits}
-use Rattle.book.specs.Parts.{pairFits}
+use Rattle.rulebook.specs.Units.{between, inRange, positive}
+use Rattle.rulebook.specs.WellFormed.{isZero, rowFits}
+use Rattle.rulebook.specs.laws.TestLaws.{T-path, tests-same, or-left, all-same, all-yes}
+use Rattle.rulebook.specs.laws.SlotLaws.{is-zero}
+use Rattle.rulebook.specs.laws.RowFlagLaws.{rowFlagged, row-by-flag}
+use Rattle.book.specs.Parts.{pairs, pairsInRange, restZero, pairsFit}
 
--- z, then the words of g
-flagged : ℤ → (ℕ → ℤ) → ℕ → ℤ
-flagged z g zero = z
-flagged z g (suc j) = g j
+-- ---- Two tests at once
 
--- ---- Pairs, and their values one by one
+middle : (a b c d : Bool) → (a && b && (c && d)) ≡ (a && c && (b && d))
+middle true true c d = refl
+middle true false true d = refl
+middle true false false d = refl
+middle false b c d = refl
+
+all-and : (n : ℕ) (p q : ℕ → Bool) → all n (λ i. p i && q i) ≡ (all n p && all n q)
+unfolding fold
+all-and zero p q = refl
+all-and (suc n) p q = rw (all-and n p q) (middle (all n p) (all n q) (p n) (q n))
+
+-- ---- A figure by its flag
 
 abbrev fitsAs : Kind → Bool → ℤ → Bool
 fitsAs k used z = cond used (inRange k z) (isZero z)
 
-one-pair : (k l : Kind) (u : Bool) (x y : ℤ) → pairFits k l u x y ≡ (fitsAs k u x && fitsAs l u y)
-unfolding pairFits
-one-pair k l true x y = refl
-one-pair k l false x y = refl
+-- zero is in every range
+zero-in : (k : Kind) → inRange k (pos 0) ≡ true
+zero-in Quantity = refl
+zero-in Injection = refl
+zero-in Load = refl
+zero-in Price = refl
 
-two-pairs : (k l : Kind) (u : Bool) (g : ℕ → ℤ)
-    → (fitsAs k u (g 0) && fitsAs k u (g 1) && fitsAs l u (g 2) && fitsAs l u (g 3)) ≡ (pairFits k k u (g 0) (g 1) && pairFits l l u (g 2) (g 3))
-two-pairs k l u g = rw (one-pair k k u (g 0) (g 1), one-pair l l u (g 2) (g 3)) (and-assoc (fitsAs k u (g 0) && fitsAs k u (g 1)) (fitsAs l u (g 2)) (fitsAs l u (g 3)))
+unused : (k : Kind) (z : ℤ) → isZero z ≡ (inRange k z && isZero z)
+unused k (pos zero) = rw (zero-in k)
+unused k (pos (suc n)) = simp (lt-leb (suc n) 0 (omega arith), and-false)
+unused k (negsuc n) = simp and-false
+
+range-first : (k : Kind) (used : Bool) (z : ℤ) → fitsAs k used z ≡ (inRange k z && (used || isZero z))
+range-first k true z = sym (and-true (inRange k z))
+range-first k false z = unused k z
+
+either-zero : (used : Bool) (a b : Bool) → ((used || a) && (used || b)) ≡ (used || (a && b))
+either-zero true a b = refl
+either-zero false a b = refl
+
+-- ---- Four pairs
+
+-- as many as the flag says
+half : (p v : ℕ) → ltb (2 * p) (2 * v) ≡ ltb p v
+half p v = tests-same (ltb (2 * p) (2 * v)) (ltb p v) (λ t. lt→ltb p v (omega (arith, ltb→lt (2 * p) (2 * v) t))) (λ t. lt→ltb (2 * p) (2 * v) (omega (arith, ltb→lt p v t)))
+
+half-and : (p v : ℕ) → ltb (1 + 2 * p) (2 * v) ≡ ltb p v
+half-and p v = tests-same (ltb (1 + 2 * p) (2 * v)) (ltb p v) (λ t. lt→ltb p v (omega (arith, ltb→lt (1 + 2 * p) (2 * v) t))) (λ t. lt→ltb (1 + 2 * p) (2 * v) (omega (arith, ltb→lt p v t)))
+
+abbrev pairAs : Kind → Kind → ℕ → (ℕ → ℤ) → ℕ → Bool
+pairAs k l v f p = fitsAs k (ltb (2 * p) (2 * v)) (f (1 + 2 * p)) && fitsAs l (ltb (1 + 2 * p) (2 * v)) (f (2 + 2 * p))
+
+one-pair : (k l : Kind) (v : ℕ) (f : ℕ → ℤ) (p : ℕ)
+    → pairAs k l v f p ≡ ((inRange k (f (1 + 2 * p)) && inRange l (f (2 + 2 * p))) && (ltb p v || (isZero (f (1 + 2 * p)) && isZero (f (2 + 2 * p)))))
+one-pair k l v f p =
+    let x = f (1 + 2 * p) in
+    let y = f (2 + 2 * p) in
+    ap₂ _&&_ (ap (λ (u : Bool). fitsAs k u x) (half p v) ∙ range-first k (ltb p v) x) (ap (λ (u : Bool). fitsAs l u y) (half-and p v) ∙ range-first l (ltb p v) y)
+    ∙ middle (inRange k x) (ltb p v || isZero x) (inRange l y) (ltb p v || isZero y)
+    ∙ ap (λ (b : Bool). (inRange k x && inRange l y) && b) (either-zero (ltb p v) (isZero x) (isZero y))
+
+four-pairs : (k l : Kind) (v : ℕ) (f : ℕ → ℤ) → all pairs (pairAs k l v f)
+    ≡ (pairsInRange k l f && all pairs (λ p. ltb p v || (isZero (f (1 + 2 * p)) && isZero (f (2 + 2 * p)))))
+unfolding pairsInRange
+four-pairs k l v f =
+    all-same pairs _ _ (λ p h. one-pair k l v f p)
+    ∙ all-and pairs (λ p. inRange k (f (1 + 2 * p)) && inRange l (f (2 + 2 * p))) (λ p. ltb p v || (isZero (f (1 + 2 * p)) && isZero (f (2 + 2 * p))))
 
 flat : (a b c d e f g h : Bool) → (a && b && c && d && e && f && g && h) ≡ ((a && b) && (c && d) && (e && f) && (g && h))
 flat a b c d e f g h = rw (← and-assoc (a && b) c d, ← and-assoc (a && b && c && d) e f, ← and-assoc (a && b && c && d && e && f) g h)
 
-four-pairs : (k l : Kind) (t u v w : Bool) (g : ℕ → ℤ)
-    → (fitsAs k t (g 0) && fitsAs l t (g 1) && fitsAs k u (g 2) && fitsAs l u (g 3) && fitsAs k v (g 4) && fitsAs l v (g 5) && fitsAs k w (g 6) && fitsAs l w (g 7))
-    ≡ (pairFits k l t (g 0) (g 1) && pairFits k l u (g 2) (g 3) && pairFits k l v (g 4) (g 5) && pairFits k l w (g 6) (g 7))
-four-pairs k l t u v w g = rw (one-pair k l t (g 0) (g 1), one-pair k l u (g 2) (g 3), one-pair k l v (g 4) (g 5), one-pair k l w (g 6) (g 7))
-    (flat (fitsAs k t (g 0)) (fitsAs l t (g 1)) (fitsAs k u (g 2)) (fitsAs l u (g 3)) (fitsAs k v (g 4)) (fitsAs l v (g 5)) (fitsAs k w (g 6)) (fitsAs l w (g 7)))
+-- the figures one by one, after a flag z
+abbrev figuresAs : Kind → Kind → ℕ → (ℕ → ℤ) → Bool
+figuresAs k l v f = fitsAs k (ltb 0 (2 * v)) (f 1) && fitsAs l (ltb 1 (2 * v)) (f 2) && fitsAs k (ltb 2 (2 * v)) (f 3) && fitsAs l (ltb 3 (2 * v)) (f 4)
+    && fitsAs k (ltb 4 (2 * v)) (f 5) && fitsAs l (ltb 5 (2 * v)) (f 6) && fitsAs k (ltb 6 (2 * v)) (f 7) && fitsAs l (ltb 7 (2 * v)) (f 8)
 
--- ---- By the flag
+pairs-of : (k l : Kind) (v : ℕ) (f : ℕ → ℤ) → figuresAs k l v f ≡ all pairs (pairAs k l v f)
+unfolding fold
+pairs-of k l v f = flat (fitsAs k (ltb 0 (2 * v)) (f 1)) (fitsAs l (ltb 1 (2 * v)) (f 2)) (fitsAs k (ltb 2 (2 * v)) (f 3)) (fitsAs l (ltb 3 (2 * v)) (f 4))
+    (fitsAs k (ltb 4 (2 * v)) (f 5)) (fitsAs l (ltb 5 (2 * v)) (f 6)) (fitsAs k (ltb 6 (2 * v)) (f 7)) (fitsAs l (ltb 7 (2 * v)) (f 8))
 
--- four pairs, of which the flag says how many are there
-abbrev counted : Kind → Kind → ℤ → (ℕ → ℤ) → Bool
-counted k l z g = between (pos 0) (pos 4) z && pairFits k l (ltZ (pos 0) z) (g 0) (g 1) && pairFits k l (ltZ (pos 1) z) (g 2) (g 3)
-    && pairFits k l (ltZ (pos 2) z) (g 4) (g 5) && pairFits k l (ltZ (pos 3) z) (g 6) (g 7)
+by-pairs : (k l : Kind) (f : ℕ → ℤ) (z : ℤ) → f 0 ≡ z → (between (pos 0) (pos pairs) (f 0) && figuresAs k l (positive (f 0)) f) ≡ pairsFit k l f
+unfolding pairsFit restZero
+by-pairs k l f (pos n) e = rw e (ap (λ (b : Bool). between (pos 0) (pos pairs) (pos n) && b) (pairs-of k l n f ∙ four-pairs k l n f)
+    ∙ sym (and-assoc (between (pos 0) (pos pairs) (pos n)) (pairsInRange k l f) (all pairs (λ p. ltb p n || (isZero (f (1 + 2 * p)) && isZero (f (2 + 2 * p)))))))
+by-pairs k l f (negsuc n) e = rw e refl
 
-vesting-by : (z : ℤ) (g : ℕ → ℤ) → rowFits Vesting (flagged z g) ≡ counted Quantity Price z g
-unfolding rowFits rowBlank rowCounts fold flagged
-vesting-by (negsuc n) g = refl
-vesting-by (pos zero) g = simp or-false (four-pairs Quantity Price false false false false g)
-vesting-by (pos (suc zero)) g = simp or-false (four-pairs Quantity Price true false false false g)
-vesting-by (pos (suc (suc zero))) g = simp or-false (four-pairs Quantity Price true true false false g)
-vesting-by (pos (suc (suc (suc zero)))) g = simp or-false (four-pairs Quantity Price true true true false g)
-vesting-by (pos (suc (suc (suc (suc zero))))) g = four-pairs Quantity Price true true true true g
-vesting-by (pos (suc (suc (suc (suc (suc n)))))) g =
-    let m : ℕ = suc (suc (suc (suc (suc n)))) in
-    simp (lt-leb m 0 (omega arith), lt-leb m 1 (omega arith), lt-leb m 2 (omega arith), lt-leb m 3 (omega arith), lt-leb m 4 (omega arith), and-false)
+-- a flag of 0 leaves every pair to be zero, and zero is in range
+pub absent-is : (k l : Kind) (f : ℕ → ℤ) → isZero (f 0) ≡ true → pairsFit k l f ≡ restZero f
+unfolding pairsFit restZero
+absent-is k l f e =
+    let z : f 0 ≡ pos 0 = is-zero (f 0) (subst T (sym e) tt) in
+    rw z (sym (four-pairs k l 0 f) ∙ all-same pairs (pairAs k l 0 f) (λ p. ltb p 0 || (isZero (f (1 + 2 * p)) && isZero (f (2 + 2 * p))))
+    (λ p h. rw (le-ltb (2 * p) 0 (omega arith), le-ltb (1 + 2 * p) 0 (omega arith), le-ltb p 0 (omega arith)) refl))
 
-meter-by : (z : ℤ) (g : ℕ → ℤ) → rowFits Meter (flagged z g) ≡ counted Price Injection z g
-unfolding rowFits rowBlank rowCounts fold flagged
-meter-by (negsuc n) g = refl
-meter-by (pos zero) g = simp or-false (four-pairs Price Injection false false false false g)
-meter-by (pos (suc zero)) g = simp or-false (four-pairs Price Injection true false false false g)
-meter-by (pos (suc (suc zero))) g = simp or-false (four-pairs Price Injection true true false false g)
-meter-by (pos (suc (suc (suc zero)))) g = simp or-false (four-pairs Price Injection true true true false g)
-meter-by (pos (suc (suc (suc (suc zero))))) g = four-pairs Price Injection true true true true g
-meter-by (pos (suc (suc (suc (suc (suc n)))))) g =
-    let m : ℕ = suc (suc (suc (suc (suc n)))) in
-    simp (lt-leb m 0 (omega arith), lt-leb m 1 (omega arith), lt-leb m 2 (omega arith), lt-leb m 3 (omega arith), lt-leb m 4 (omega arith), and-false)
+-- one above 3 leaves none
+counts-all : (p : ℕ) (z : ℤ) → p < pairs → T (ltZ (pos 3) z) → T (ltZ (pos p) z)
+counts-all p (pos n) h t = lt→ltb p n (omega (arith, ltb→lt 3 n t))
+counts-all p (negsuc n) h t = absurd t
 
-residual-by : (z : ℤ) (g : ℕ → ℤ) → rowFits Residual (flagged z g)
-    ≡ (between (pos 0) (pos 1) z && pairFits Quantity Quantity (ltZ (pos 0) z) (g 0) (g 1) && pairFits Price Price (ltZ (pos 0) z) (g 2) (g 3))
-unfolding rowFits rowBlank rowCounts fold flagged
-residual-by (negsuc n) g = refl
-residual-by (pos zero) g = simp or-false (two-pairs Quantity Price false g)
-residual-by (pos (suc zero)) g = two-pairs Quantity Price true g
-residual-by (pos (suc (suc n))) g = simp (lt-leb (suc (suc n)) 0 (omega arith), lt-leb (suc (suc n)) 1 (omega arith), and-false)
+pub no-rest : (f : ℕ → ℤ) → ltZ (pos 3) (f 0) ≡ true → restZero f ≡ true
+unfolding restZero
+no-rest f e = T-path (all pairs rest) (all-yes pairs rest (λ p h. or-left (ltZ (pos p) (f 0)) (isZero (f (1 + 2 * p)) && isZero (f (2 + 2 * p))) (counts-all p (f 0) h (subst T (sym e) tt))))
+  where
+    rest : ℕ → Bool
+    rest p = ltZ (pos p) (f 0) || (isZero (f (1 + 2 * p)) && isZero (f (2 + 2 * p)))
 
-ncc-by : (load z : ℤ) (f : ℕ → ℤ) → f 0 ≡ load → f 1 ≡ z → rowFits Ncc f ≡ (between (pos 0) (pos 1) z && fitsAs Load (ltZ (pos 0) z) load)
-unfolding rowFits rowBlank rowCounts fold
-ncc-by load (negsuc n) f d e = rw (d, e) (simp and-false)
-ncc-by load (pos zero) f d e = rw (d, e) (simp (and-true, and-false, or-false))
-ncc-by load (pos (suc zero)) f d e = rw (d, e) (simp (and-true, and-false))
-ncc-by load (pos (suc (suc n))) f d e = rw (d, e) (simp (lt-leb (suc (suc n)) 0 (omega arith), lt-leb (suc (suc n)) 1 (omega arith), and-false))
+-- ---- A flag of 0 or 1
+
+residual-by : (f : ℕ → ℤ) (z : ℤ) → f 0 ≡ z → rowFits Residual f
+    ≡ (between (pos 0) (pos 1) (f 0) && cond (ltZ (pos 0) (f 0)) ((inRange Quantity (f 1) && inRange Quantity (f 2)) && (inRange Price (f 3) && inRange Price (f 4)))
+    ((isZero (f 1) && isZero (f 2)) && (isZero (f 3) && isZero (f 4))))
+unfolding rowFlagged fold
+residual-by f (negsuc n) e = row-by-flag Residual f ∙ rw e refl
+residual-by f (pos zero) e = row-by-flag Residual f ∙ rw e (and-assoc (isZero (f 1) && isZero (f 2)) (isZero (f 3)) (isZero (f 4)))
+residual-by f (pos (suc zero)) e = row-by-flag Residual f ∙ rw e (and-assoc (inRange Quantity (f 1) && inRange Quantity (f 2)) (inRange Price (f 3)) (inRange Price (f 4)))
+residual-by f (pos (suc (suc n))) e = row-by-flag Residual f ∙ rw e (simp (lt-leb (suc (suc n)) 1 (omega arith), and-false))
+
+ncc-by : (f : ℕ → ℤ) (z : ℤ) → f 1 ≡ z → rowFits Ncc f ≡ (between (pos 0) (pos 1) (f 1) && fitsAs Load (ltZ (pos 0) (f 1)) (f 0))
+unfolding rowFlagged fold
+ncc-by f (negsuc n) e = row-by-flag Ncc f ∙ rw e refl
+ncc-by f (pos zero) e = row-by-flag Ncc f ∙ rw e (simp and-true)
+ncc-by f (pos (suc zero)) e = row-by-flag Ncc f ∙ rw e (simp and-true)
+ncc-by f (pos (suc (suc n))) e = row-by-flag Ncc f ∙ rw e (simp (lt-leb (suc (suc n)) 1 (omega arith), and-false))
 
 -- ---- The four sections
 
 -- of a row's words f 0, f 1, ..
 module _ (f : ℕ → ℤ) where
   -- the flag is 0 or 1 + tranche count: BVQ and BVP, then a TVQ and TVP for each tranche
-  pub vesting-is : rowFits Vesting f
-      ≡ (between (pos 0) (pos 4) (f 0) && pairFits Quantity Price (ltZ (pos 0) (f 0)) (f 1) (f 2) && pairFits Quantity Price (ltZ (pos 1) (f 0)) (f 3) (f 4)
-      && pairFits Quantity Price (ltZ (pos 2) (f 0)) (f 5) (f 6) && pairFits Quantity Price (ltZ (pos 3) (f 0)) (f 7) (f 8))
-  unfolding rowFits rowBlank rowCounts fold flagged
-  vesting-is = vesting-by (f 0) (λ j. f (suc j))
+  pub vesting-is : rowFits Vesting f ≡ pairsFit Quantity Price f
+  unfolding rowFlagged fold
+  vesting-is = row-by-flag Vesting f ∙ by-pairs Quantity Price f (f 0) refl
 
   -- the flag is 0 or the facility count: an MEP and IEQ for each
-  pub meter-is : rowFits Meter f
-      ≡ (between (pos 0) (pos 4) (f 0) && pairFits Price Injection (ltZ (pos 0) (f 0)) (f 1) (f 2) && pairFits Price Injection (ltZ (pos 1) (f 0)) (f 3) (f 4)
-      && pairFits Price Injection (ltZ (pos 2) (f 0)) (f 5) (f 6) && pairFits Price Injection (ltZ (pos 3) (f 0)) (f 7) (f 8))
-  unfolding rowFits rowBlank rowCounts fold flagged
-  meter-is = meter-by (f 0) (λ j. f (suc j))
+  pub meter-is : rowFits Meter f ≡ pairsFit Price Injection f
+  unfolding rowFlagged fold
+  meter-is = row-by-flag Meter f ∙ by-pairs Price Injection f (f 0) refl
 
   -- the flag is 0 or 1: UEGQ, MQ, RVP1, RVP2
   pub residual-is : rowFits Residual f
-      ≡ (between (pos 0) (pos 1) (f 0) && pairFits Quantity Quantity (ltZ (pos 0) (f 0)) (f 1) (f 2) && pairFits Price Price (ltZ (pos 0) (f 0)) (f 3) (f 4))
-  unfolding rowFits rowBlank rowCounts fold flagged
-  residual-is = residual-by (f 0) (λ j. f (suc j))
+      ≡ (between (pos 0) (pos 1) (f 0) && cond (ltZ (pos 0) (f 0)) ((inRange Quantity (f 1) && inRange Quantity (f 2)) && (inRange Price (f 3) && inRange Price (f 4)))
+      ((isZero (f 1) && isZero (f 2)) && (isZero (f 3) && isZero (f 4))))
+  residual-is = residual-by f (f 0) refl
 
   -- the NCC load, then its flag, 0 or 1
   pub ncc-is : rowFits Ncc f ≡ (between (pos 0) (pos 1) (f 1) && cond (ltZ (pos 0) (f 1)) (inRange Load (f 0)) (isZero (f 0)))
-  ncc-is = ncc-by (f 0) (f 1) f refl refl
+  ncc-is = ncc-by f (f 1) refl

@@ -1,7 +1,7 @@
 -- `residual_fits` meets its contract: by `residual-is` the row fits exactly if its flag and its two pairs do.
-use borrow.Author.Needs.{needs}
 use Rattle.book.specs.laws.LoopLaws.{passed, left}
 use Rattle.book.specs.laws.RowLaws.{residual-is}
+use borrow.Author.Needs.{needs}
 use Rattle.book.proofs.cell.residual_fits.Statement.{statement}
 use Rattle.book.proofs.cell.residual_fits.Tie as tie
 
@@ -11,17 +11,26 @@ between-at-requires c κs = search needs
 returns : tie.Need-returns
 returns c = rw (residual-is _, left (c .before .between-at .ensures) (c .if1 .taken))
 
-pair-fits-requires : tie.Need-pair-fits-requires
-pair-fits-requires c κs = search needs
+above-at-requires : tie.Need-above-at-requires
+above-at-requires c κs = search needs
+
+pair-in-range-requires : tie.Need-pair-in-range-requires
+pair-in-range-requires c κs = search needs
+
+pair-in-range-requires-2 : tie.Need-pair-in-range-requires-2
+pair-in-range-requires-2 c κs = search needs
+
+pair-zero-requires : tie.Need-pair-zero-requires
+pair-zero-requires c κs = search needs
+
+pair-zero-requires-2 : tie.Need-pair-zero-requires-2
+pair-zero-requires-2 c κs = search needs
 
 returns-2 : tie.Need-returns-2
-returns-2 c = rw (residual-is _, passed (c .before .before .before .between-at .ensures) (c .before .before .if1 .left), left (c .before .pair-fits .ensures) (c .if2 .taken))
-
-pair-fits-requires-2 : tie.Need-pair-fits-requires-2
-pair-fits-requires-2 c κs = search needs
+returns-2 c = rw (residual-is _, passed (c .before .before .before .before .before .between-at .ensures) (c .before .before .before .before .if1 .left), ← c .before .before .before .above-at .ensures, c .before .before .if2 .taken) cc
 
 returns-3 : tie.Need-returns-3
-returns-3 c = rw (residual-is _, passed (c .before .before .before .before .between-at .ensures) (c .before .before .before .if1 .left), passed (c .before .before .pair-fits .ensures) (c .before .if2 .left)) (c .pair-fits2 .ensures)
+returns-3 c = rw (residual-is _, passed (c .before .before .before .before .before .between-at .ensures) (c .before .before .before .before .if1 .left), ← c .before .before .before .above-at .ensures, c .before .before .if2 .left) cc
 
 pub residual-fits-spec : {M : Type 1} → statement M
 residual-fits-spec =
@@ -29,7 +38,10 @@ residual-fits-spec =
     (tie.spec
     between-at-requires
     returns
-    pair-fits-requires
+    above-at-requires
+    pair-in-range-requires
+    pair-in-range-requires-2
+    pair-zero-requires
+    pair-zero-requires-2
     returns-2
-    pair-fits-requires-2
     returns-3)

@@ -35,15 +35,15 @@ returns-2 c = rw (ncc-is _, passed (padding-read (c .before .before .before)) (c
 above-at-requires : tie.Need-above-at-requires
 above-at-requires c κs = search needs
 
-value-at-requires : tie.Need-value-at-requires
-value-at-requires c κs = search needs
+in-range-at-requires : tie.Need-in-range-at-requires
+in-range-at-requires c κs = search needs
 
 zero-at-requires-3 : tie.Need-zero-at-requires-3
 zero-at-requires-3 c κs = search needs
 
 returns-3 : tie.Need-returns-3
 unfolding nccFits paddingZero fold
-returns-3 c = rw (ncc-is _, passed (padding-read (c .before .before .before .before .before .before)) (c .before .before .before .before .before .if1 .left), passed (c .before .before .before .before .between-at .ensures) (c .before .before .before .if2 .left), ← c .before .before .above-at .ensures, c .before .if3 .taken) (c .value-at .ensures)
+returns-3 c = rw (ncc-is _, passed (padding-read (c .before .before .before .before .before .before)) (c .before .before .before .before .before .if1 .left), passed (c .before .before .before .before .between-at .ensures) (c .before .before .before .if2 .left), ← c .before .before .above-at .ensures, c .before .if3 .taken) (c .in-range-at .ensures)
 
 returns-4 : tie.Need-returns-4
 unfolding nccFits paddingZero fold
@@ -59,7 +59,7 @@ ncc-fits-spec =
     between-at-requires
     returns-2
     above-at-requires
-    value-at-requires
+    in-range-at-requires
     zero-at-requires-3
     returns-3
     returns-4)

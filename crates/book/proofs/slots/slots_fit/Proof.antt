@@ -58,8 +58,8 @@ mul-i c = omega (arith, room (c .before .before) (c .before .loop .v) (omega ari
 add-e : tie.Need-add-e Inv-loop μ-loop
 add-e c = omega (arith, room (c .before .before) (c .before .loop .v) (omega arith))
 
-place-of-requires : tie.Need-place-of-requires Inv-loop μ-loop
-place-of-requires c κs = search needs
+window-place-requires : tie.Need-window-place-requires Inv-loop μ-loop
+window-place-requires c κs = search needs
 
 mul-slot-fits : tie.Need-mul-slot-fits Inv-loop μ-loop
 mul-slot-fits c = omega (arith, room (c .before .before .before) (c .before .before .loop .v) (omega arith))
@@ -98,7 +98,7 @@ loop-again c =
     let a = s .before .before .args in
     let size = s .slot-length .result in
     let e = lent (a .slots .now) (l .v * size) size ∙ ap (λ (n : ℕ). part (a .slots .now) (l .v * n) n) (s .slot-length .ensures) in
-    (refl, refl, s .slot-length .ensures, omega arith, all-step (l .v) _ (l .inv .4) (slot-told (a .terms) (a .closes) (l .v) _ _ _ (c .slot-fits .ensures) (c .before .before .is-day .ensures) (c .before .before .before .before .place-of .ensures .0) e))
+    (refl, refl, s .slot-length .ensures, omega arith, all-step (l .v) _ (l .inv .4) (slot-told (a .terms) (a .closes) (l .v) _ _ _ (c .slot-fits .ensures) (c .before .before .is-day .ensures) (c .before .before .before .before .window-place .ensures .0) e))
 
 returns : tie.Need-returns Inv-loop μ-loop
 unfolding slotsFit
@@ -115,7 +115,7 @@ slots-fit-spec =
     loop-holds
     mul-i
     add-e
-    place-of-requires
+    window-place-requires
     mul-slot-fits
     sub-slot-fits
     part-slot-fits-start

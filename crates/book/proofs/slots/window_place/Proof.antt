@@ -1,4 +1,4 @@
--- `place_of` meets its contract: its arithmetic is that of `windowPlace`.
+-- `window_place` meets its contract: its arithmetic is that of `windowPlace`.
 use mathlib.Core.Path.{refl}
 use Prim.Native.Nat.{_+_}
 use native.Mathlib.Nat.{mod-lt}
@@ -6,8 +6,8 @@ use native.Mathlib.Omega.{arith}
 use borrow.Author.Needs.{needs}
 use Rattle.rulebook.specs.Layout.{ring}
 use Rattle.rulebook.specs.WindowWalk.{windowPlace}
-use Rattle.book.proofs.slots.place_of.Statement.{statement}
-use Rattle.book.proofs.slots.place_of.Tie as tie
+use Rattle.book.proofs.slots.window_place.Statement.{statement}
+use Rattle.book.proofs.slots.window_place.Tie as tie
 
 add-ring : tie.Need-add-ring
 add-ring c = search needs
@@ -34,7 +34,7 @@ returns : tie.Need-returns
 unfolding ring windowPlace
 returns c = (refl, mod-lt _ (omega arith))
 
-pub place-of-spec : {M : Type 1} → statement M
-place-of-spec =
+pub window-place-spec : {M : Type 1} → statement M
+window-place-spec =
     tie.close
     (tie.spec add-ring add-result rem-result sub-result add-result-2 rem-result-2 returns)

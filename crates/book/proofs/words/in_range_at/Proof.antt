@@ -1,10 +1,10 @@
--- `value_at` meets its contract: the word is read, then judged by its kind.
+-- `in_range_at` meets its contract: the word is read, then judged by its kind.
 use mathlib.Core.Path.{ap, _∙_}
 use borrow.Author.Needs.{needs}
 use Rattle.integer.specs.Bits.{got}
 use Rattle.rulebook.specs.Units.{inRange}
-use Rattle.book.proofs.words.value_at.Statement.{statement}
-use Rattle.book.proofs.words.value_at.Tie as tie
+use Rattle.book.proofs.words.in_range_at.Statement.{statement}
+use Rattle.book.proofs.words.in_range_at.Tie as tie
 
 word-at-requires : tie.Need-word-at-requires
 word-at-requires c κs = search needs
@@ -17,5 +17,5 @@ returns c =
     let r = c .before .word-at in
     c .in-range .ensures ∙ ap (inRange (c .before .before .args .kind)) (got (r .result) (r .ok) ∙ r .ensures)
 
-pub value-at-spec : {M : Type 1} → statement M
-value-at-spec = tie.close (tie.spec word-at-requires in-range-requires returns)
+pub in-range-at-spec : {M : Type 1} → statement M
+in-range-at-spec = tie.close (tie.spec word-at-requires in-range-requires returns)
