@@ -18,8 +18,8 @@ ghost use Rattle.integer.specs.Words.{word};
 ghost use Rattle.rulebook.specs.declared.Section.the-variants.{Vesting, Meter, Residual};
 ghost use Rattle.rulebook.specs.Layout.{accountWords};
 ghost use Rattle.rulebook.specs.Units.{inRange};
-ghost use Rattle.rulebook.specs.WellFormed.{isZero, rowFits};
-ghost use Rattle.book.specs.Parts.{pairs, pairsInRange, restZero, pairsFit, rowOf, rowsThere, accountFits};
+ghost use Rattle.rulebook.specs.WellFormed.{isZero, rowFits, rowOf, rowsThere, accountFits};
+ghost use Rattle.book.specs.Parts.{rowPairs, pairsInRange, restZero, pairsFit};
 
 // Pairs of a vesting row, its base and three tenders, and of a meter row.
 const PAIRS: usize = 4;
@@ -42,7 +42,7 @@ fn pair_zero(cell: &[i64], i: usize) -> bool
 
 // Each of the four pairs after a flag is in range. Zero is, so this asks of no flag.
 fn pairs_in_range(cell: &[i64], flag: usize, first: Kind, second: Kind) -> bool
-    requires { ⌜ flag + 2 * pairs < length (now cell) ⌝ }
+    requires { ⌜ flag + 2 * rowPairs < length (now cell) ⌝ }
     ensures { λ r. ⌜ r ≡ pairsInRange first second (λ j. word (now (cell .entry)) (flag + j)) ⌝ }
 {
     let mut ok = true;
@@ -54,7 +54,7 @@ fn pairs_in_range(cell: &[i64], flag: usize, first: Kind, second: Kind) -> bool
 
 // Each that the flag does not count is zero. No branch goes by the flag: it would be mispredicted.
 fn rest_zero(cell: &[i64], flag: usize) -> bool
-    requires { ⌜ flag + 2 * pairs < length (now cell) ⌝ }
+    requires { ⌜ flag + 2 * rowPairs < length (now cell) ⌝ }
     ensures { λ r. ⌜ r ≡ restZero (λ j. word (now (cell .entry)) (flag + j)) ⌝ }
 {
     let mut ok = true;
@@ -67,7 +67,7 @@ fn rest_zero(cell: &[i64], flag: usize) -> bool
 // A flag, then four pairs of values: as many as it says, the others zero. A row that is absent and one that has all pairs are asked less: they
 // come in runs.
 fn pairs_fit(cell: &[i64], flag: usize, first: Kind, second: Kind) -> bool
-    requires { ⌜ flag + 2 * pairs < length (now cell) ⌝ }
+    requires { ⌜ flag + 2 * rowPairs < length (now cell) ⌝ }
     ensures { λ r. ⌜ r ≡ pairsFit first second (λ j. word (now (cell .entry)) (flag + j)) ⌝ }
 {
     if zero_at(cell, flag) {
@@ -89,7 +89,7 @@ fn pairs_fit(cell: &[i64], flag: usize, first: Kind, second: Kind) -> bool
 // 0 absent or 1 + tranche count; BVQ, BVP; three TVQ and TVP pairs.
 fn vesting_fits(cell: &[i64]) -> bool
     requires { ⌜ length (now cell) ≡ accountWords ⌝ }
-    ensures { λ r. ⌜ r ≡ rowFits Vesting (rowOf (now (cell .entry)) Vesting) ⌝ }
+    ensures { λ r. ⌜ r ≡ rowFits Vesting (rowOf (word (now (cell .entry))) Vesting) ⌝ }
 {
     pairs_fit(cell, VESTING_FLAG, Kind::Quantity, Kind::Price)
 }
@@ -97,7 +97,7 @@ fn vesting_fits(cell: &[i64]) -> bool
 // 0 absent or facility count; four MEP and IEQ pairs.
 fn meter_fits(cell: &[i64]) -> bool
     requires { ⌜ length (now cell) ≡ accountWords ⌝ }
-    ensures { λ r. ⌜ r ≡ rowFits Meter (rowOf (now (cell .entry)) Meter) ⌝ }
+    ensures { λ r. ⌜ r ≡ rowFits Meter (rowOf (word (now (cell .entry))) Meter) ⌝ }
 {
     pairs_fit(cell, METER_FLAG, Kind::Price, Kind::Injection)
 }
@@ -105,7 +105,7 @@ fn meter_fits(cell: &[i64]) -> bool
 // Residual present; UEGQ, MQ, RVP1, RVP2.
 fn residual_fits(cell: &[i64]) -> bool
     requires { ⌜ length (now cell) ≡ accountWords ⌝ }
-    ensures { λ r. ⌜ r ≡ rowFits Residual (rowOf (now (cell .entry)) Residual) ⌝ }
+    ensures { λ r. ⌜ r ≡ rowFits Residual (rowOf (word (now (cell .entry))) Residual) ⌝ }
 {
     if !between_at(cell, RESIDUAL_FLAG, 0, 1) {
         return false;
@@ -121,7 +121,7 @@ fn residual_fits(cell: &[i64]) -> bool
 // "days max(F, C − L) to C − 1 have all vesting and meter rows"
 fn rows_there(cell: &[i64]) -> bool
     requires { ⌜ length (now cell) ≡ accountWords ⌝ }
-    ensures { λ r. ⌜ r ≡ rowsThere (now (cell .entry)) ⌝ }
+    ensures { λ r. ⌜ r ≡ rowsThere (word (now (cell .entry))) ⌝ }
 {
     !zero_at(cell, VESTING_FLAG) & !zero_at(cell, METER_FLAG)
 }
@@ -129,7 +129,7 @@ fn rows_there(cell: &[i64]) -> bool
 // "The book": an account's 24 words at an interval, of a closed day or an open one.
 pub fn account_fits(cell: &[i64], closed: bool) -> bool
     requires { ⌜ length (now cell) ≡ accountWords ⌝ }
-    ensures { λ r. ⌜ r ≡ accountFits closed (now (cell .entry)) ⌝ }
+    ensures { λ r. ⌜ r ≡ accountFits closed (word (now (cell .entry))) ⌝ }
 {
     if !zero_at(cell, ACCOUNT_SPARE) {
         return false;

@@ -7,16 +7,18 @@ use crate::words::zero_at;
 use rulebook::Kind;
 use rulebook::layout;
 ghost use mathlib.Core.Path.{_≡_};
-ghost use Prim.Native.Nat.{_+_, _*_, _≤_};
+ghost use Prim.Native.Nat.{_≤_};
 ghost use lib.ListN.{length};
-ghost use Rattle.rulebook.specs.Layout.{intervalWords, intervalLength};
+ghost use Rattle.integer.specs.Below.{all};
+ghost use Rattle.integer.specs.Words.{word};
+ghost use Rattle.rulebook.specs.Layout.{intervalWords, accountPlace, intervalLength};
 ghost use Rattle.rulebook.specs.Shares.{mostAccounts};
-ghost use Rattle.book.specs.Parts.{nccFits, accountsFit, intervalFits};
+ghost use Rattle.rulebook.specs.WellFormed.{accountFits, nccFits, intervalFits};
 
 // NCC load, NCC present, two zeros.
 fn ncc_fits(interval: &[i64]) -> bool
     requires { ⌜ intervalWords ≤ length (now interval) ⌝ }
-    ensures { λ r. ⌜ r ≡ nccFits (now (interval .entry)) ⌝ }
+    ensures { λ r. ⌜ r ≡ nccFits (word (now (interval .entry))) ⌝ }
 {
     if !(zero_at(interval, layout::FIRST_NCC_SPARE) & zero_at(interval, layout::SECOND_NCC_SPARE)) {
         return false;
@@ -34,7 +36,7 @@ fn ncc_fits(interval: &[i64]) -> bool
 // "then 24 words an account"
 fn accounts_fit(interval: &[i64], n: usize, closed: bool) -> bool
     requires { ⌜ (intervalLength n ≤ length (now interval)) × (n ≤ mostAccounts) ⌝ }
-    ensures { λ r. ⌜ r ≡ accountsFit n closed (now (interval .entry)) ⌝ }
+    ensures { λ r. ⌜ r ≡ all n (λ a. accountFits closed (λ q. word (now (interval .entry)) (accountPlace a q))) ⌝ }
 {
     let mut ok = true;
     for a in 0..n {
@@ -48,7 +50,7 @@ fn accounts_fit(interval: &[i64], n: usize, closed: bool) -> bool
 // "The book": an interval's words, of n accounts, of a closed day or an open one.
 pub fn interval_fits(interval: &[i64], n: usize, closed: bool) -> bool
     requires { ⌜ (intervalLength n ≤ length (now interval)) × (n ≤ mostAccounts) ⌝ }
-    ensures { λ r. ⌜ r ≡ intervalFits n closed (now (interval .entry)) ⌝ }
+    ensures { λ r. ⌜ r ≡ intervalFits n closed (word (now (interval .entry))) ⌝ }
 {
     ncc_fits(interval) & accounts_fit(interval, n, closed)
 }

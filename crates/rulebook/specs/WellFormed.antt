@@ -14,7 +14,7 @@ use Rattle.rulebook.specs.Units.{lastDay, intervals, between}
 use Rattle.rulebook.specs.Shares.{mostAccounts}
 use Rattle.rulebook.specs.Terms.{mostLag, mostHorizon, earliestFirstDay}
 use Rattle.rulebook.specs.Sections.{valueInRange, perInterval, leastCount, mostCount, figurePlace}
-use Rattle.rulebook.specs.Layout.{bookMark, markWord, accountsWord, lagWord, horizonWord, firstDayWord, nextDayWord, msslWord, balanceWord, headerPaddingWords, headerPadding, balancePaddingWords, balancePadding, Word, flag, figure, padding, isPadding, intervalTable, accountTable, accountPlace, present, width, wordName, flagIndex, place, intervalSize, ring, size, intervalWord, slot, windowFrom, windowDays}
+use Rattle.rulebook.specs.Layout.{bookMark, markWord, accountsWord, lagWord, horizonWord, firstDayWord, nextDayWord, msslWord, balanceWord, headerPaddingWords, headerPadding, balancePaddingWords, balancePadding, Word, flag, figure, padding, isPadding, intervalTable, accountTable, accountPlace, present, width, wordName, tablePlace, flagAt, intervalLength, ring, size, intervalWord, slot, windowFrom, windowDays}
 use Rattle.rulebook.specs.BookData.{termsOf, nextDay}
 
 -- a day's amount is at most so many cents, either way, and can be (`BoundReached`)
@@ -45,45 +45,53 @@ rowFits s f = rowBlank s f || any (suc (mostCount s)) (rowCounts s f)
 unfoldable pub paddingZero : List Word → (ℕ → ℤ) → Bool
 paddingZero table f = all (length table) (λ q. not (isPadding (getD table q padding)) || isZero (f q))
 
+-- ---- The words f 0, f 1, .. of an account at an interval, and of an interval of n accounts
+
+-- word j of the row of section s, among the words of its table
+abbrev pub rowOf : (ℕ → ℤ) → Section → ℕ → ℤ
+rowOf f s j = f (tablePlace s j)
+
+-- vesting and meter rows are there
+unfoldable pub rowsThere : (ℕ → ℤ) → Bool
+rowsThere f = not (isZero (f (flagAt Vesting))) && not (isZero (f (flagAt Meter)))
+
+-- an account's: padding zero, each row absent or fitting; of a closed day, vesting and meter rows there
+unfoldable pub accountFits : Bool → (ℕ → ℤ) → Bool
+accountFits closed f = paddingZero accountTable f && rowFits Vesting (rowOf f Vesting) && rowFits Meter (rowOf f Meter) && rowFits Residual (rowOf f Residual)
+    && (not closed || rowsThere f)
+
+-- the interval's own: padding zero, the NCC row absent or fitting
+unfoldable pub nccFits : (ℕ → ℤ) → Bool
+nccFits f = paddingZero intervalTable f && rowFits Ncc (rowOf f Ncc)
+
+-- its own, then those of each account
+unfoldable pub intervalFits : ℕ → Bool → (ℕ → ℤ) → Bool
+intervalFits n closed f = nccFits f && all n (λ a. accountFits closed (λ q. f (accountPlace a q)))
+
+unfoldable pub intervalBlank : ℕ → (ℕ → ℤ) → Bool
+intervalBlank n f = all (intervalLength n) (λ m. isZero (f m))
+
+-- ---- Slots
+
 -- slot t is of a day of the window
 unfoldable pub isDated : Terms → ℕ → ℕ → Bool
 isDated o C t = any (windowDays o C) (λ i. eqb (slot o (windowFrom o C + i)) t)
 
 module _ (o : Terms) (w : List ℤ) where
-  -- ---- Slots
-
-  -- a row is there at interval i of slot t
-  unfoldable pub isThere : Section → ℕ → ℕ → ℕ → Bool
-  isThere s a t i = not (isZero (word w (intervalWord o t i (place s a (flagIndex s)))))
-
-  unfoldable pub intervalBlank : ℕ → ℕ → Bool
-  intervalBlank t i = all (intervalSize o) (λ m. isZero (word w (intervalWord o t i m)))
+  -- word m of interval i of slot t
+  abbrev pub intervalAt : ℕ → ℕ → ℕ → ℤ
+  intervalAt t i m = word w (intervalWord o t i m)
 
   unfoldable pub slotBlank : ℕ → Bool
-  slotBlank t = all intervals (intervalBlank t)
+  slotBlank t = all intervals (λ i. intervalBlank (o .accounts) (intervalAt t i))
 
-  -- word j of section s and account a at interval i of slot t
-  abbrev pub slotRow : ℕ → ℕ → Section → ℕ → ℕ → ℤ
-  slotRow t i s a j = word w (intervalWord o t i (place s a j))
+  -- a slot of a day, closed or open: each interval fits
+  unfoldable pub datedFits : Bool → ℕ → Bool
+  datedFits closed t = all intervals (λ i. intervalFits (o .accounts) closed (intervalAt t i))
 
-  -- interval i of slot t: padding words zero, each row absent or fitting
-  unfoldable pub accountWordsFit : ℕ → ℕ → ℕ → Bool
-  accountWordsFit t i a = paddingZero accountTable (λ q. word w (intervalWord o t i (accountPlace a q)))
-      && rowFits Vesting (slotRow t i Vesting a) && rowFits Meter (slotRow t i Meter a) && rowFits Residual (slotRow t i Residual a)
-
-  unfoldable pub intervalFits : ℕ → ℕ → Bool
-  intervalFits t i = paddingZero intervalTable (λ q. word w (intervalWord o t i q)) && rowFits Ncc (slotRow t i Ncc 0) && all (o .accounts) (accountWordsFit t i)
-
-  unfoldable pub bothThere : ℕ → ℕ → ℕ → Bool
-  bothThere t i a = isThere Vesting a t i && isThere Meter a t i
-
-  -- a closed day's vesting and meter rows are all there at interval i of slot t
-  unfoldable pub closedRowsThere : ℕ → ℕ → Bool
-  closedRowsThere t i = all (o .accounts) (bothThere t i)
-
-  -- day d's slot: each interval fits, and before C all vesting and meter rows are there
+  -- day d's slot: the days before C are closed
   unfoldable pub dayFits : ℕ → ℕ → Bool
-  dayFits C d = all intervals (intervalFits (slot o d)) && (leb C d || all intervals (closedRowsThere (slot o d)))
+  dayFits C d = datedFits (ltb d C) (slot o d)
 
   -- each day of the window has a fitting slot, and every other slot is blank
   unfoldable pub daysFit : ℕ → Bool

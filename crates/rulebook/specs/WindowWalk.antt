@@ -1,14 +1,13 @@
 -- The window place by place, which proofs walk: place u, below L + H, is day C + u − L, where k days are closed, C = F + k. Assumes nothing.
-use mathlib.Core.Bool.{Bool, cond, not, _&&_, _||_}
+use mathlib.Core.Bool.{Bool, cond, _||_}
 use mathlib.Core.List.{List}
 use Prim.Native.Nat.{ℕ, _+_, _-_, _%_}
 use lib.IntN.{ℤ}
 use lib.Dec.{ltb}
-use Rattle.integer.specs.Below.{all}
 use Rattle.rulebook.specs.declared.Terms.{Terms}
-use Rattle.rulebook.specs.Units.{lastDay, intervals}
+use Rattle.rulebook.specs.Units.{lastDay}
 use Rattle.rulebook.specs.Layout.{ring}
-use Rattle.rulebook.specs.WellFormed.{slotBlank, intervalFits, closedRowsThere}
+use Rattle.rulebook.specs.WellFormed.{slotBlank, datedFits}
 
 -- its slot, and the place of slot v
 unfoldable pub windowSlot : Terms → ℕ → ℕ → ℕ
@@ -20,5 +19,4 @@ windowPlace o k v = (v + (ring o - (k + o .horizon) % ring o)) % ring o
 -- blank where it is of no day, before F or past the last; of a closed day, or of an open one
 unfoldable pub windowSlotFits : Terms → List ℤ → ℕ → ℕ → Bool
 windowSlotFits o w k u =
-    cond (ltb (k + u) (o .lag) || ltb lastDay (o .first + (k + u - o .lag))) (slotBlank o w (windowSlot o k u))
-    (all intervals (intervalFits o w (windowSlot o k u)) && (not (ltb u (o .lag)) || all intervals (closedRowsThere o w (windowSlot o k u))))
+    cond (ltb (k + u) (o .lag) || ltb lastDay (o .first + (k + u - o .lag))) (slotBlank o w (windowSlot o k u)) (datedFits o w (ltb u (o .lag)) (windowSlot o k u))

@@ -41,6 +41,7 @@ pub mod AdjoinLaws
 pub mod KeptLaws
 pub mod RangeLaws
 pub mod FigureLaws
+pub mod FitsLaws
 pub mod FormLaws
 pub mod SlotLaws
 pub mod RowFlagLaws

@@ -16,7 +16,7 @@ use Rattle.rulebook.specs.WellFormed.{isZero, rowFits}
 use Rattle.rulebook.specs.laws.TestLaws.{T-path, tests-same, or-left, all-same, all-yes}
 use Rattle.rulebook.specs.laws.SlotLaws.{is-zero}
 use Rattle.rulebook.specs.laws.RowFlagLaws.{rowFlagged, row-by-flag}
-use Rattle.book.specs.Parts.{pairs, pairsInRange, restZero, pairsFit}
+use Rattle.book.specs.Parts.{rowPairs, pairsInRange, restZero, pairsFit}
 
 -- ---- Two tests at once
 
@@ -77,12 +77,12 @@ one-pair k l v f p =
     ∙ middle (inRange k x) (ltb p v || isZero x) (inRange l y) (ltb p v || isZero y)
     ∙ ap (λ (b : Bool). (inRange k x && inRange l y) && b) (either-zero (ltb p v) (isZero x) (isZero y))
 
-four-pairs : (k l : Kind) (v : ℕ) (f : ℕ → ℤ) → all pairs (pairAs k l v f)
-    ≡ (pairsInRange k l f && all pairs (λ p. ltb p v || (isZero (f (1 + 2 * p)) && isZero (f (2 + 2 * p)))))
+four-pairs : (k l : Kind) (v : ℕ) (f : ℕ → ℤ) → all rowPairs (pairAs k l v f)
+    ≡ (pairsInRange k l f && all rowPairs (λ p. ltb p v || (isZero (f (1 + 2 * p)) && isZero (f (2 + 2 * p)))))
 unfolding pairsInRange
 four-pairs k l v f =
-    all-same pairs _ _ (λ p h. one-pair k l v f p)
-    ∙ all-and pairs (λ p. inRange k (f (1 + 2 * p)) && inRange l (f (2 + 2 * p))) (λ p. ltb p v || (isZero (f (1 + 2 * p)) && isZero (f (2 + 2 * p))))
+    all-same rowPairs _ _ (λ p h. one-pair k l v f p)
+    ∙ all-and rowPairs (λ p. inRange k (f (1 + 2 * p)) && inRange l (f (2 + 2 * p))) (λ p. ltb p v || (isZero (f (1 + 2 * p)) && isZero (f (2 + 2 * p))))
 
 flat : (a b c d e f g h : Bool) → (a && b && c && d && e && f && g && h) ≡ ((a && b) && (c && d) && (e && f) && (g && h))
 flat a b c d e f g h = rw (← and-assoc (a && b) c d, ← and-assoc (a && b && c && d) e f, ← and-assoc (a && b && c && d && e && f) g h)
@@ -92,15 +92,15 @@ abbrev figuresAs : Kind → Kind → ℕ → (ℕ → ℤ) → Bool
 figuresAs k l v f = fitsAs k (ltb 0 (2 * v)) (f 1) && fitsAs l (ltb 1 (2 * v)) (f 2) && fitsAs k (ltb 2 (2 * v)) (f 3) && fitsAs l (ltb 3 (2 * v)) (f 4)
     && fitsAs k (ltb 4 (2 * v)) (f 5) && fitsAs l (ltb 5 (2 * v)) (f 6) && fitsAs k (ltb 6 (2 * v)) (f 7) && fitsAs l (ltb 7 (2 * v)) (f 8)
 
-pairs-of : (k l : Kind) (v : ℕ) (f : ℕ → ℤ) → figuresAs k l v f ≡ all pairs (pairAs k l v f)
+pairs-of : (k l : Kind) (v : ℕ) (f : ℕ → ℤ) → figuresAs k l v f ≡ all rowPairs (pairAs k l v f)
 unfolding fold
 pairs-of k l v f = flat (fitsAs k (ltb 0 (2 * v)) (f 1)) (fitsAs l (ltb 1 (2 * v)) (f 2)) (fitsAs k (ltb 2 (2 * v)) (f 3)) (fitsAs l (ltb 3 (2 * v)) (f 4))
     (fitsAs k (ltb 4 (2 * v)) (f 5)) (fitsAs l (ltb 5 (2 * v)) (f 6)) (fitsAs k (ltb 6 (2 * v)) (f 7)) (fitsAs l (ltb 7 (2 * v)) (f 8))
 
-by-pairs : (k l : Kind) (f : ℕ → ℤ) (z : ℤ) → f 0 ≡ z → (between (pos 0) (pos pairs) (f 0) && figuresAs k l (positive (f 0)) f) ≡ pairsFit k l f
+by-pairs : (k l : Kind) (f : ℕ → ℤ) (z : ℤ) → f 0 ≡ z → (between (pos 0) (pos rowPairs) (f 0) && figuresAs k l (positive (f 0)) f) ≡ pairsFit k l f
 unfolding pairsFit restZero
-by-pairs k l f (pos n) e = rw e (ap (λ (b : Bool). between (pos 0) (pos pairs) (pos n) && b) (pairs-of k l n f ∙ four-pairs k l n f)
-    ∙ sym (and-assoc (between (pos 0) (pos pairs) (pos n)) (pairsInRange k l f) (all pairs (λ p. ltb p n || (isZero (f (1 + 2 * p)) && isZero (f (2 + 2 * p)))))))
+by-pairs k l f (pos n) e = rw e (ap (λ (b : Bool). between (pos 0) (pos rowPairs) (pos n) && b) (pairs-of k l n f ∙ four-pairs k l n f)
+    ∙ sym (and-assoc (between (pos 0) (pos rowPairs) (pos n)) (pairsInRange k l f) (all rowPairs (λ p. ltb p n || (isZero (f (1 + 2 * p)) && isZero (f (2 + 2 * p)))))))
 by-pairs k l f (negsuc n) e = rw e refl
 
 -- a flag of 0 leaves every pair to be zero, and zero is in range
@@ -108,17 +108,17 @@ pub absent-is : (k l : Kind) (f : ℕ → ℤ) → isZero (f 0) ≡ true → pai
 unfolding pairsFit restZero
 absent-is k l f e =
     let z : f 0 ≡ pos 0 = is-zero (f 0) (subst T (sym e) tt) in
-    rw z (sym (four-pairs k l 0 f) ∙ all-same pairs (pairAs k l 0 f) (λ p. ltb p 0 || (isZero (f (1 + 2 * p)) && isZero (f (2 + 2 * p))))
+    rw z (sym (four-pairs k l 0 f) ∙ all-same rowPairs (pairAs k l 0 f) (λ p. ltb p 0 || (isZero (f (1 + 2 * p)) && isZero (f (2 + 2 * p))))
     (λ p h. rw (le-ltb (2 * p) 0 (omega arith), le-ltb (1 + 2 * p) 0 (omega arith), le-ltb p 0 (omega arith)) refl))
 
 -- one above 3 leaves none
-counts-all : (p : ℕ) (z : ℤ) → p < pairs → T (ltZ (pos 3) z) → T (ltZ (pos p) z)
+counts-all : (p : ℕ) (z : ℤ) → p < rowPairs → T (ltZ (pos 3) z) → T (ltZ (pos p) z)
 counts-all p (pos n) h t = lt→ltb p n (omega (arith, ltb→lt 3 n t))
 counts-all p (negsuc n) h t = absurd t
 
 pub no-rest : (f : ℕ → ℤ) → ltZ (pos 3) (f 0) ≡ true → restZero f ≡ true
 unfolding restZero
-no-rest f e = T-path (all pairs rest) (all-yes pairs rest (λ p h. or-left (ltZ (pos p) (f 0)) (isZero (f (1 + 2 * p)) && isZero (f (2 + 2 * p))) (counts-all p (f 0) h (subst T (sym e) tt))))
+no-rest f e = T-path (all rowPairs rest) (all-yes rowPairs rest (λ p h. or-left (ltZ (pos p) (f 0)) (isZero (f (1 + 2 * p)) && isZero (f (2 + 2 * p))) (counts-all p (f 0) h (subst T (sym e) tt))))
   where
     rest : ℕ → Bool
     rest p = ltZ (pos p) (f 0) || (isZero (f (1 + 2 * p)) && isZero (f (2 + 2 * p)))

@@ -1,6 +1,6 @@
 -- The slots as they lie are the days of the window: each slot has one place in the window, and each place one slot. Assumes nothing.
 use mathlib.Core.Path.{_≡_, refl, sym, _∙_, subst}
-use mathlib.Core.Bool.{Bool, true, false, cond, not, _&&_, _||_}
+use mathlib.Core.Bool.{Bool, true, false, cond, not, _||_}
 use mathlib.Core.List.{List}
 use Prim.Native.Nat.{ℕ, zero, _+_, _-_, _*_, _≤_, _<_}
 use native.Mathlib.Nat.{mod-lt, mul-assoc, mul-comm}
@@ -18,8 +18,7 @@ use Rattle.rulebook.specs.laws.TestLaws.{all-same, all-yes, all-at, tests-same}
 use Rattle.rulebook.specs.WindowWalk.{windowSlot, windowSlotFits, windowPlace}
 use Rattle.rulebook.specs.laws.RingLaws.{turn-inside, turned, places-apart}
 use Rattle.rulebook.specs.laws.WalkLaws.{days-are-places}
-use Rattle.rulebook.specs.WellFormed as rule
-use Rattle.rulebook.specs.WellFormed.{closedRowsThere, slotBlank, daysFit}
+use Rattle.rulebook.specs.WellFormed.{slotBlank, datedFits, daysFit}
 use Rattle.book.specs.Parts.{slotFits}
 use Rattle.book.specs.Slots.{isDay, slotsFit}
 use Rattle.book.specs.laws.LoopLaws.{word-part}
@@ -78,7 +77,7 @@ module _ (o : Terms) (w : List ℤ) (k : ℕ) (p : 1 ≤ o .horizon) where
     slot-at v hv = rw (turned o ring-some k v hv)
         (slot-is o w v (part slots (v * slotLength (o .accounts)) (slotLength (o .accounts))) (slot-words v hv) (slot-long v hv) (isDay o k (windowPlace o k v)) (ltb (windowPlace o k v) (o .lag))
         ∙ cond-not (ltb (k + windowPlace o k v) (o .lag) || ltb lastDay (o .first + (k + windowPlace o k v - o .lag)))
-        (all intervals (rule.intervalFits o w v) && (not (ltb (windowPlace o k v) (o .lag)) || all intervals (closedRowsThere o w v))) (slotBlank o w v))
+        (datedFits o w (ltb (windowPlace o k v) (o .lag)) v) (slotBlank o w v))
 
     -- the slots of the book fit exactly if its days do
     pub slots-are-days : slotsFit o k slots ≡ daysFit o w (o .first + k)

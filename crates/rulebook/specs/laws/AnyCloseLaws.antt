@@ -28,7 +28,8 @@ use Rattle.rulebook.specs.Close.{closed, settled, closeRefused, firstMis
 use Rattle.rulebook.specs.Ledger.{Ledger, HoldsLedger}
 use Rattle.rulebook.specs.laws.TestLaws.{below-suc, T-path}
 use Rattle.rulebook.specs.laws.KeptLaws.{absent-fits}
-use Rattle.rulebook.specs.laws.FormLaws.{Fit, ring-pos, fits-same, well-formed}
+use Rattle.rulebook.specs.laws.FitsLaws.{row-same}
+use Rattle.rulebook.specs.laws.FormLaws.{Fit, ring-pos, well-formed}
 use Rattle.rulebook.specs.laws.FormedLaws.{formed-holds, formed-fit, opened-of, next-of}
 use Rattle.rulebook.specs.laws.BookSizeLaws.{close-amount}
 use Rattle.rulebook.specs.laws.CloseLaws.{day-held}
@@ -132,7 +133,7 @@ module _ (w : List ℤ) (t : T (wellFormed w)) (k : ℕ) (day : termsOf w .first
   new-fit : Fit o new
   new-fit = record {
     rows = λ s a d i x ha hi. by-day (T (rowFits s (before o w last s a d i))) d x
-        (λ l y. fits-same s (before o w last s a d i) (entriesOf o w s a d i) (λ j hj. within s a d i j l) (formed .rows s a d i y ha hi))
+        (λ l y. rw (row-same s (before o w last s a d i) (entriesOf o w s a d i) (λ j hj. within s a d i j l)) (formed .rows s a d i y ha hi))
         (λ l. absent-fits s (before o w last s a d i) (λ j hj. beyond s a d i j l));
     undated = λ s a d i j x late ha hi hj. by-day (before o w last s a d i j ≡ pos 0) d x (λ l y. within s a d i j l ∙ formed .undated s a d i j y late ha hi hj) (λ l. beyond s a d i j l);
     vestings = λ a d i x l ha hi. flags-there Vesting a d i ha x l (opened-of w t .horizonFrom) (λ y z. formed .vestings a d i z y ha hi) (vested-there o w (nextDay w) complete a i ha hi .0);

@@ -26,7 +26,8 @@ use Rattle.rulebook.specs.laws.TestLaws.{T-path}
 use Rattle.rulebook.specs.laws.LedgerLaws.{IsFor, rows-held}
 use Rattle.rulebook.specs.laws.SoundLaws.{Sound, file-sound}
 use Rattle.rulebook.specs.laws.KeptLaws.{there-fits, flag-more, nonzero}
-use Rattle.rulebook.specs.laws.FormLaws.{Fit, ring-pos, fits-same, well-formed}
+use Rattle.rulebook.specs.laws.FitsLaws.{row-same}
+use Rattle.rulebook.specs.laws.FormLaws.{Fit, ring-pos, well-formed}
 use Rattle.rulebook.specs.laws.FormedLaws.{formed-holds, formed-fit, opened-of, next-of}
 use Rattle.rulebook.specs.laws.StepLaws.{last-one, sound-day, storable, overlaid-last}
 
@@ -46,7 +47,7 @@ module _ (o : Terms) (b : Ledger) (q : Fit o b) (h : 1 ≤ o .horizon) (rs : Lis
 
   pub file-fit : Fit o (submittedTo rs b)
   file-fit = record {
-    rows = λ s a d i hd ha hi. fits-same s (overlaid rs (b .entries) s a d i) (entryOr (lastFor rs s a d) (b .entries s a d) i) (λ j hj. overlaid-last rs (b .entries) s a d i j)
+    rows = λ s a d i hd ha hi. rw (row-same s (overlaid rs (b .entries) s a d i) (entryOr (lastFor rs s a d) (b .entries s a d) i) (λ j hj. overlaid-last rs (b .entries) s a d i j))
         (by-row (λ f. T (rowFits s f)) s a d i (q .rows s a d i hd ha hi) (λ r y z. subst (λ (c : Section). T (rowFits c (entry r i))) (z .section) (there-fits r (y .ranged) (entry r i) i hi (λ j hj. refl))));
     undated = λ s a d i j hd l ha hi hj. overlaid-last rs (b .entries) s a d i j ∙ by-row (λ f. f j ≡ pos 0) s a d i (q .undated s a d i j hd l ha hi hj)
         (λ r y z. absurd (omega (arith, sound-day o (b .closed) h r y .dated, z .day)));

@@ -13,7 +13,6 @@ use Rattle.rulebook.specs.Layout.{balanceWord, msslWord, InWindow}
 use Rattle.rulebook.specs.BookData.{entriesOf, bookData, termsOf, nextDay}
 use Rattle.rulebook.specs.WellFormed.{wellFormed, dayBound}
 use Rattle.rulebook.specs.Bounds.{SizedDay, CloseSized}
-use Rattle.rulebook.specs.laws.FormLaws.{ring-pos}
 use Rattle.rulebook.specs.laws.SizeLaws.{posted-size, posted-sum-size}
 use Rattle.rulebook.specs.laws.RangeLaws.{RangedEntries, data-sized, load-sized}
 use Rattle.rulebook.specs.laws.SlotLaws.{entries-ranged}
@@ -22,7 +21,7 @@ use Rattle.rulebook.specs.laws.FormedLaws.{opened-of, next-of, walk-of, 
 module _ (w : List ℤ) (t : T (wellFormed w)) where
   -- every figure of every day of the window is in its range
   pub book-ranged : (d : ℕ) → InWindow (termsOf w) (nextDay w - termsOf w .first) d → d ≤ lastDay → RangedEntries (termsOf w .accounts) (entriesOf (termsOf w) w) d
-  book-ranged d h l = entries-ranged (termsOf w) w (nextDay w - termsOf w .first) (walk-of w t) (ring-pos (termsOf w) (opened-of w t)) d h l
+  book-ranged d h l = entries-ranged (termsOf w) w (nextDay w - termsOf w .first) (walk-of w t) d h l
 
   module _ (left : nextDay w ≤ lastDay) where
     pub D-inside : InWindow (termsOf w) (nextDay w - termsOf w .first) (nextDay w)

@@ -1,26 +1,27 @@
 -- A slot passes its test exactly if its words are well formed in document 01's figures. Assumes nothing.
-use mathlib.Core.Path.{_≡_, sym, ap, _∙_}
-use mathlib.Core.Logic.{_≢_, ⊎-elim}
-use mathlib.Core.Bool.{Bool, true, false, not, _||_}
+use mathlib.Core.Path.{_≡_, sym, ap, _∙_, subst}
+use mathlib.Core.Logic.{_≢_}
+use mathlib.Core.Bool.{Bool, true, false, not}
 use mathlib.Core.List.{List}
-use Prim.Native.Nat.{ℕ, _+_, _*_, _≤_, _<_}
+use Prim.Native.Nat.{ℕ, _+_, _*_, _<_}
 use native.Mathlib.Omega.{arith}
-use lib.Dec.{T, leb, leb→le, le→leb}
+use lib.Dec.{T, ltb, ltb→lt, lt→ltb}
 use lib.IntN.{ℤ, pos}
-use Rattle.integer.specs.Below.{fold, all}
-use Rattle.integer.specs.laws.BelowLaws.{lt-or-le}
-use Rattle.integer.specs.Words.{word}
+use lib.ListN.{length, getD}
+use Rattle.integer.specs.Below.{fold}
 use Rattle.rulebook.specs.declared.Section.{Section}
 use Rattle.rulebook.specs.declared.Section.the-variants.{Vesting, Meter, Residual, Ncc}
 use Rattle.rulebook.specs.declared.Terms.{Terms}
-use Rattle.rulebook.specs.Layout.{width, accountTable, intervalTable, accountPlace, place, base, intervalSize, slot, intervalWord}
-use Rattle.rulebook.specs.WellFormed.{isZero, rowFits, paddingZero, isThere, intervalBlank, slotBlank, slotRow, accountWordsFit, intervalFits, bothThere, closedRowsThere, dayFits}
-use Rattle.rulebook.specs.FormedBook.{IsQuantity, IsPrice, IsInjection, PairsFormed, ResidualFormed, IntervalFormed, slotWord, DayFormed, DaysFormed}
-use Rattle.rulebook.specs.laws.TestLaws.{and-left, and-right, and-both, or-left, or-right, or-cases, all-yes, all-at}
+use Rattle.rulebook.specs.Sections.{accountsOf}
+use Rattle.rulebook.specs.Layout.{padding, isPadding, accountTable, intervalTable, accountPlace, place, base, intervalSize, slot, intervalWord}
+use Rattle.rulebook.specs.WellFormed.{isZero, rowFits, paddingZero, rowOf, rowsThere, accountFits, nccFits, intervalFits, intervalBlank, slotBlank, datedFits, dayFits}
+use Rattle.rulebook.specs.FormedBook.{IntervalFormed, slotWord, DayFormed, DaysFormed}
+use Rattle.rulebook.specs.laws.TestLaws.{and-both, all-yes, all-at}
 use Rattle.rulebook.specs.laws.WindowLaws.{DaysFit}
 use Rattle.rulebook.specs.laws.IndexLaws.{place-run}
-use Rattle.rulebook.specs.laws.SlotLaws.{is-zero, padding-zero, interval-accounts, interval-ncc, account-padding, own-padding, account-rows}
-use Rattle.rulebook.specs.laws.FormLaws.{zero-yes, fits-same}
+use Rattle.rulebook.specs.laws.FitsLaws.{row-same, padding-zero, account-padding, account-yes, interval-yes, interval-own, interval-account, interval-row, interval-there}
+use Rattle.rulebook.specs.laws.SlotLaws.{is-zero}
+use Rattle.rulebook.specs.laws.FormLaws.{zero-yes}
 use Rattle.rulebook.specs.laws.RowFormedLaws.{vesting-says, meter-says, says-vesting, says-meter, residual-says, says-residual, ncc-says, says-ncc}
 
 not-not : (b : Bool) → T (not b) → T b → ⊥
@@ -34,130 +35,101 @@ no-zero z h = go (isZero z) (λ x. h (is-zero z x))
     go true f = f tt
     go false f = tt
 
--- ---- Intervals
+-- an account's two flags
+vesting-flag : (a : ℕ) → place Vesting a 0 ≡ 4 + 24 * a
+vesting-flag a = omega arith
 
-module _ (o : Terms) (w : List ℤ) (t i : ℕ) where
+meter-flag : (a : ℕ) → place Meter a 0 ≡ 13 + 24 * a
+meter-flag a = omega arith
+
+-- ---- An interval's words
+
+module _ (n : ℕ) (closed : Bool) (f : ℕ → ℤ) where
   -- a row's words, by the index of its first
-  row-words : (s : Section) (a first j : ℕ) → place s a 0 ≡ first → j < width s → slotRow o w t i s a j ≡ slotWord o w t i (first + j)
-  unfolding intervalWord base intervalSize
-  row-words s a first j e h = ap (λ (m : ℕ). slotWord o w t i m) (omega (arith, place-run s a j h))
+  row-words : (s : Section) (a first : ℕ) → place s a 0 ≡ first → rowFits s (λ j. f (place s a j)) ≡ rowFits s (λ j. f (first + j))
+  row-words s a first e = row-same s (λ j. f (place s a j)) (λ j. f (first + j)) (λ j h. ap f (omega (arith, place-run s a j h)))
 
-  row-to : (s : Section) (a first : ℕ) → place s a 0 ≡ first → T (rowFits s (slotRow o w t i s a)) → T (rowFits s (λ j. slotWord o w t i (first + j)))
-  row-to s a first e x = fits-same s (λ j. slotWord o w t i (first + j)) (slotRow o w t i s a) (λ j h. sym (row-words s a first j e h)) x
-
-  row-from : (s : Section) (a first : ℕ) → place s a 0 ≡ first → T (rowFits s (λ j. slotWord o w t i (first + j))) → T (rowFits s (slotRow o w t i s a))
-  row-from s a first e x = fits-same s (slotRow o w t i s a) (λ j. slotWord o w t i (first + j)) (λ j h. row-words s a first j e h) x
-
-  ncc-words : (j : ℕ) → j < 2 → slotRow o w t i Ncc 0 j ≡ slotWord o w t i j
-  unfolding intervalWord base intervalSize
-  ncc-words j h = ap (λ (m : ℕ). slotWord o w t i m) (omega (arith, place-run Ncc 0 j h))
+  ncc-words : rowFits Ncc (rowOf f Ncc) ≡ rowFits Ncc f
+  ncc-words = row-same Ncc (rowOf f Ncc) f (λ j h. ap f (omega (arith, place-run Ncc 0 j h)))
 
   -- an account's last word
-  last-word : (a : ℕ) → word w (intervalWord o t i (accountPlace a 23)) ≡ slotWord o w t i (27 + 24 * a)
-  unfolding intervalWord base intervalSize
-  last-word a = ap (λ (m : ℕ). slotWord o w t i m) (omega arith)
+  last-word : (a : ℕ) → f (accountPlace a 23) ≡ f (27 + 24 * a)
+  last-word a = ap f (omega arith)
 
-  account-says : (a : ℕ) → T (accountWordsFit o w t i a)
-      → PairsFormed IsQuantity IsPrice (λ j. slotWord o w t i (4 + 24 * a + j)) × PairsFormed IsPrice IsInjection (λ j. slotWord o w t i (13 + 24 * a + j))
-      × ResidualFormed (λ j. slotWord o w t i (22 + 24 * a + j)) × (slotWord o w t i (27 + 24 * a) ≡ pos 0)
-  account-says a x =
-      let p = padding-zero accountTable (λ q. word w (intervalWord o t i (accountPlace a q))) (account-padding o w t i a x) 23 (omega arith) tt in
-      let r = account-rows o w t i a x in (
-        vesting-says (λ j. slotWord o w t i (4 + 24 * a + j)) (row-to Vesting a (4 + 24 * a) (omega arith) (r .0)),
-        meter-says (λ j. slotWord o w t i (13 + 24 * a + j)) (row-to Meter a (13 + 24 * a) (omega arith) (r .1)),
-        residual-says (λ j. slotWord o w t i (22 + 24 * a + j)) (row-to Residual a (22 + 24 * a) (omega arith) (r .2)),
-        sym (last-word a) ∙ is-zero (word w (intervalWord o t i (accountPlace a 23))) p,
-      )
+  module _ (t : T (intervalFits n closed f)) where
+    row-at : (s : Section) (a first : ℕ) → place s a 0 ≡ first → a < accountsOf s n → T (rowFits s (λ j. f (first + j)))
+    row-at s a first e h = subst T (row-words s a first e) (interval-row n closed f t s a h)
 
-  says-account : (a : ℕ) → PairsFormed IsQuantity IsPrice (λ j. slotWord o w t i (4 + 24 * a + j)) → PairsFormed IsPrice IsInjection (λ j. slotWord o w t i (13 + 24 * a + j))
-      → ResidualFormed (λ j. slotWord o w t i (22 + 24 * a + j)) → slotWord o w t i (27 + 24 * a) ≡ pos 0 → T (accountWordsFit o w t i a)
-  unfolding accountWordsFit
-  says-account a v m r e =
-      let p : T (paddingZero accountTable (λ q. word w (intervalWord o t i (accountPlace a q)))) = unfold paddingZero fold in zero-yes (last-word a ∙ e) in
-      let x = row-from Vesting a (4 + 24 * a) (omega arith) (says-vesting (λ j. slotWord o w t i (4 + 24 * a + j)) v) in
-      let y = row-from Meter a (13 + 24 * a) (omega arith) (says-meter (λ j. slotWord o w t i (13 + 24 * a + j)) m) in
-      let z = row-from Residual a (22 + 24 * a) (omega arith) (says-residual (λ j. slotWord o w t i (22 + 24 * a + j)) r) in
-      search and-both depth 5
+    interval-says : IntervalFormed n f
+    interval-says = record {
+      ncc = ncc-says f (subst T ncc-words (interval-own n closed f t .1));
+      padding = (is-zero (f 2) (zeros 2 (omega arith) tt), is-zero (f 3) (zeros 3 (omega arith) tt));
+      vesting = λ a h. vesting-says (λ j. f (4 + 24 * a + j)) (row-at Vesting a (4 + 24 * a) (omega arith) h);
+      meter = λ a h. meter-says (λ j. f (13 + 24 * a + j)) (row-at Meter a (13 + 24 * a) (omega arith) h);
+      residual = λ a h. residual-says (λ j. f (22 + 24 * a + j)) (row-at Residual a (22 + 24 * a) (omega arith) h);
+      last = λ a h. sym (last-word a) ∙ is-zero (f (accountPlace a 23)) (padding-zero accountTable (λ q. f (accountPlace a q)) (account-padding closed (λ q. f (accountPlace a q)) (interval-account n closed f t a h)) 23 (omega arith) tt);
+    }
+      where
+        zeros : (q : ℕ) → q < length intervalTable → T (isPadding (getD intervalTable q padding)) → T (isZero (f q))
+        zeros = padding-zero intervalTable f (interval-own n closed f t .0)
 
-  interval-says : T (intervalFits o w t i) → IntervalFormed (o .accounts) (slotWord o w t i)
-  unfolding intervalWord base intervalSize
-  interval-says x =
-      let each : (a : ℕ) → a < o .accounts → T (accountWordsFit o w t i a) = all-at (o .accounts) (accountWordsFit o w t i) (interval-accounts o w t i x) in
-      let own = padding-zero intervalTable (λ q. word w (intervalWord o t i q)) (own-padding o w t i x) in
-      record {
-        ncc = ncc-says (slotWord o w t i) (fits-same Ncc (slotWord o w t i) (slotRow o w t i Ncc 0) (λ j h. sym (ncc-words j h)) (interval-ncc o w t i x));
-        padding = (is-zero (slotWord o w t i 2) (own 2 (omega arith) tt), is-zero (slotWord o w t i 3) (own 3 (omega arith) tt));
-        vesting = λ a h. account-says a (each a h) .0;
-        meter = λ a h. account-says a (each a h) .1;
-        residual = λ a h. account-says a (each a h) .2;
-        last = λ a h. account-says a (each a h) .3;
-      }
+    closed-says : T closed → (a : ℕ) → a < n → (f (4 + 24 * a) ≢ pos 0) × (f (13 + 24 * a) ≢ pos 0)
+    closed-says c a h =
+        let x = interval-there n closed f t c a h in
+        ((λ e. not-not (isZero (f (place Vesting a 0))) (x .0) (zero-yes (ap f (vesting-flag a) ∙ e))), (λ e. not-not (isZero (f (place Meter a 0))) (x .1) (zero-yes (ap f (meter-flag a) ∙ e))))
 
-  own-zeros : slotWord o w t i 2 ≡ pos 0 → slotWord o w t i 3 ≡ pos 0 → T (paddingZero intervalTable (λ q. word w (intervalWord o t i q)))
-  unfolding paddingZero fold intervalWord base intervalSize
-  own-zeros x y = and-both (isZero (slotWord o w t i 2)) (isZero (slotWord o w t i 3)) (zero-yes x) (zero-yes y)
+  module _ (h : IntervalFormed n f) (there : T closed → (a : ℕ) → a < n → (f (4 + 24 * a) ≢ pos 0) × (f (13 + 24 * a) ≢ pos 0)) where
+    row-from : (s : Section) (a first : ℕ) → place s a 0 ≡ first → T (rowFits s (λ j. f (first + j))) → T (rowFits s (λ j. f (place s a j)))
+    row-from s a first e x = subst T (sym (row-words s a first e)) x
 
-  says-interval : IntervalFormed (o .accounts) (slotWord o w t i) → T (intervalFits o w t i)
-  unfolding intervalFits
-  says-interval h =
-      let p = own-zeros (h .padding .0) (h .padding .1) in
-      let n = fits-same Ncc (slotRow o w t i Ncc 0) (slotWord o w t i) ncc-words (says-ncc (slotWord o w t i) (h .ncc)) in
-      let each = all-yes (o .accounts) (accountWordsFit o w t i) (λ a l. says-account a (h .vesting a l) (h .meter a l) (h .residual a l) (h .last a l)) in
-      search and-both depth 4
+    says-there : (a : ℕ) → a < n → T closed → T (rowsThere (λ q. f (accountPlace a q)))
+    unfolding rowsThere
+    says-there a l c = and-both (not (isZero (f (place Vesting a 0)))) (not (isZero (f (place Meter a 0))))
+        (no-zero (f (place Vesting a 0)) (λ e. there c a l .0 (ap f (sym (vesting-flag a)) ∙ e))) (no-zero (f (place Meter a 0)) (λ e. there c a l .1 (ap f (sym (meter-flag a)) ∙ e)))
 
-  -- ---- A closed day's flags
+    says-account : (a : ℕ) → a < n → T (accountFits closed (λ q. f (accountPlace a q)))
+    says-account a l =
+        let p : T (paddingZero accountTable (λ q. f (accountPlace a q))) = unfold paddingZero fold in zero-yes (last-word a ∙ h .last a l) in
+        account-yes closed (λ q. f (accountPlace a q)) p
+        (row-from Vesting a (4 + 24 * a) (omega arith) (says-vesting (λ j. f (4 + 24 * a + j)) (h .vesting a l)))
+        (row-from Meter a (13 + 24 * a) (omega arith) (says-meter (λ j. f (13 + 24 * a + j)) (h .meter a l)))
+        (row-from Residual a (22 + 24 * a) (omega arith) (says-residual (λ j. f (22 + 24 * a + j)) (h .residual a l)))
+        (says-there a l)
 
-  flag-words : (a : ℕ) → (word w (intervalWord o t i (place Vesting a 0)) ≡ slotWord o w t i (4 + 24 * a)) × (word w (intervalWord o t i (place Meter a 0)) ≡ slotWord o w t i (13 + 24 * a))
-  unfolding intervalWord base intervalSize
-  flag-words a = (ap (λ (m : ℕ). slotWord o w t i m) (omega arith), ap (λ (m : ℕ). slotWord o w t i m) (omega arith))
+    says-own : T (nccFits f)
+    unfolding nccFits
+    says-own = and-both (paddingZero intervalTable f) (rowFits Ncc (rowOf f Ncc))
+        (unfold paddingZero fold in and-both (isZero (f 2)) (isZero (f 3)) (zero-yes (h .padding .0)) (zero-yes (h .padding .1)))
+        (subst T (sym ncc-words) (says-ncc f (h .ncc)))
 
-  closed-says : T (closedRowsThere o w t i) → (a : ℕ) → a < o .accounts → (slotWord o w t i (4 + 24 * a) ≢ pos 0) × (slotWord o w t i (13 + 24 * a) ≢ pos 0)
-  unfolding closedRowsThere bothThere isThere
-  closed-says x a h =
-      let y = all-at (o .accounts) (bothThere o w t i) x a h in
-      let v : T (not (isZero (word w (intervalWord o t i (place Vesting a 0))))) = and-left (isThere o w Vesting a t i) (isThere o w Meter a t i) y in
-      let m : T (not (isZero (word w (intervalWord o t i (place Meter a 0))))) = and-right (isThere o w Vesting a t i) (isThere o w Meter a t i) y in
-      ((λ e. not-not (isZero (word w (intervalWord o t i (place Vesting a 0)))) v (zero-yes (flag-words a .0 ∙ e))), (λ e. not-not (isZero (word w (intervalWord o t i (place Meter a 0)))) m (zero-yes (flag-words a .1 ∙ e))))
-
-  says-closed : ((a : ℕ) → a < o .accounts → (slotWord o w t i (4 + 24 * a) ≢ pos 0) × (slotWord o w t i (13 + 24 * a) ≢ pos 0)) → T (closedRowsThere o w t i)
-  unfolding closedRowsThere bothThere isThere
-  says-closed h = all-yes (o .accounts) (bothThere o w t i) (λ a l. and-both (isThere o w Vesting a t i) (isThere o w Meter a t i)
-      (no-zero (word w (intervalWord o t i (place Vesting a 0))) (λ e. h a l .0 (sym (flag-words a .0) ∙ e)))
-      (no-zero (word w (intervalWord o t i (place Meter a 0))) (λ e. h a l .1 (sym (flag-words a .1) ∙ e))))
+    says-interval : T (intervalFits n closed f)
+    says-interval = interval-yes n closed f says-own says-account
 
 -- ---- Days
 
 module _ (o : Terms) (w : List ℤ) where
+  -- the words by document 01's figures are those of the layout
   pub day-says : (C d : ℕ) → T (dayFits o w C d) → DayFormed o w C d
-  unfolding dayFits
+  unfolding dayFits datedFits intervalWord base intervalSize
   day-says C d x =
-      let e = and-left (all 48 (intervalFits o w (slot o d))) (leb C d || all 48 (closedRowsThere o w (slot o d))) x in
-      let c = and-right (all 48 (intervalFits o w (slot o d))) (leb C d || all 48 (closedRowsThere o w (slot o d))) x in
+      let each : (i : ℕ) → i < 48 → T (intervalFits (o .accounts) (ltb d C) (slotWord o w (slot o d) i)) = all-at 48 (λ i. intervalFits (o .accounts) (ltb d C) (slotWord o w (slot o d) i)) x in
       record {
-        each = λ i h. interval-says o w (slot o d) i (all-at 48 (intervalFits o w (slot o d)) e i h);
-        closed = λ l i a h. closed-says o w (slot o d) i (all-at 48 (closedRowsThere o w (slot o d))
-            (or-cases (leb C d) (all 48 (closedRowsThere o w (slot o d))) c (λ y. absurd (late l (leb→le C d y))) (λ y. y)) i h) a;
+        each = λ i h. interval-says (o .accounts) (ltb d C) (slotWord o w (slot o d) i) (each i h);
+        closed = λ l i a h. closed-says (o .accounts) (ltb d C) (slotWord o w (slot o d) i) (each i h) (lt→ltb d C l) a;
       }
-    where
-      late : d < C → C ≤ d → ⊥
-      late l m = omega arith
 
   pub says-day : (C d : ℕ) → DayFormed o w C d → T (dayFits o w C d)
-  unfolding dayFits
-  says-day C d h = and-both (all 48 (intervalFits o w (slot o d))) (leb C d || all 48 (closedRowsThere o w (slot o d)))
-      (all-yes 48 (intervalFits o w (slot o d)) (λ i l. says-interval o w (slot o d) i (h .each i l)))
-      (⊎-elim
-      (λ l. or-right (leb C d) (all 48 (closedRowsThere o w (slot o d))) (all-yes 48 (closedRowsThere o w (slot o d)) (λ i m. says-closed o w (slot o d) i (λ a k. h .closed l i a m k))))
-      (λ l. or-left (leb C d) (all 48 (closedRowsThere o w (slot o d))) (le→leb C d l))
-      (lt-or-le d C))
+  unfolding dayFits datedFits intervalWord base intervalSize
+  says-day C d h = all-yes 48 (λ i. intervalFits (o .accounts) (ltb d C) (slotWord o w (slot o d) i))
+      (λ i l. says-interval (o .accounts) (ltb d C) (slotWord o w (slot o d) i) (h .each i l) (λ c a k. h .closed (ltb→lt d C c) i a l k))
 
   blank-says : (v : ℕ) → T (slotBlank o w v) → (i m : ℕ) → i < 48 → m < 4 + 24 * o .accounts → slotWord o w v i m ≡ pos 0
   unfolding slotBlank intervalBlank intervalWord base intervalSize
-  blank-says v x i m h k = is-zero (slotWord o w v i m) (all-at (4 + 24 * o .accounts) (λ n. isZero (slotWord o w v i n)) (all-at 48 (intervalBlank o w v) x i h) m k)
+  blank-says v x i m h k = is-zero (slotWord o w v i m) (all-at (4 + 24 * o .accounts) (λ n. isZero (slotWord o w v i n)) (all-at 48 (λ i. intervalBlank (o .accounts) (slotWord o w v i)) x i h) m k)
 
   says-blank : (v : ℕ) → ((i m : ℕ) → i < 48 → m < 4 + 24 * o .accounts → slotWord o w v i m ≡ pos 0) → T (slotBlank o w v)
   unfolding slotBlank intervalBlank intervalWord base intervalSize
-  says-blank v f = all-yes 48 (intervalBlank o w v) (λ i h. all-yes (4 + 24 * o .accounts) (λ n. isZero (slotWord o w v i n)) (λ m k. zero-yes (f i m h k)))
+  says-blank v f = all-yes 48 (λ i. intervalBlank (o .accounts) (slotWord o w v i)) (λ i h. all-yes (4 + 24 * o .accounts) (λ n. isZero (slotWord o w v i n)) (λ m k. zero-yes (f i m h k)))
 
   pub days-say : (C : ℕ) → DaysFit o w C → DaysFormed o w C
   days-say C h = record { each = λ d x. day-says C d (h .each d x); others = λ v l none. blank-says v (h .others v l none) }

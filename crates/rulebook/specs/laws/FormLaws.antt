@@ -1,6 +1,6 @@
 -- A book that holds a fitting ledger is well formed. Assumes nothing.
 use mathlib.Core.Path.{_≡_, refl, ap, _∙_}
-use mathlib.Core.Bool.{Bool, true, false, _&&_, _||_, not}
+use mathlib.Core.Bool.{_||_, not}
 use mathlib.Core.List.{List}
 use Prim.Native.Nat.{ℕ, zero, suc, _+_, _-_, _*_, _≤_, _<_}
 use native.Mathlib.Nat.{mod-lt, add-sub-cancel-left, one-mul}
@@ -8,25 +8,26 @@ use native.Mathlib.Omega.{arith}
 use native.Mathlib.Decide.{decLe}
 use lib.IntN.{ℤ, pos, natAbs}
 use lib.Dec.{T, ltb, le→leb, ltb→lt, nltb→le}
-use lib.ListN.{length, getD}
-use Rattle.integer.specs.Below.{all, any}
+use lib.ListN.{length}
+use Rattle.integer.specs.Below.{all}
 use Rattle.integer.specs.Words.{word}
 use Rattle.rulebook.specs.declared.Section.{Section}
 use Rattle.rulebook.specs.declared.Section.the-variants.{Vesting, Meter, Residual, Ncc}
 use Rattle.rulebook.specs.declared.Terms.{Terms}
 use Rattle.rulebook.specs.Units.{lastDay, between, positive}
 use Rattle.rulebook.specs.Terms.{InTerms}
-use Rattle.rulebook.specs.Sections.{accountsOf, mostCount}
-use Rattle.rulebook.specs.Layout.{width, intervalSize, ring, size, slot, intervalWord, rowWord, Word, padding, isPadding, intervalTable, accountTable, intervalWords, accountWords, accountPlace, wordName, flagIndex, msslWord, markWord, accountsWord, lagWord, horizonWord, firstDayWord, nextDayWord, balanceWord, balancePadding, headerPadding, headerPaddingWords, balancePaddingWords, InWindow}
+use Rattle.rulebook.specs.Sections.{accountsOf}
+use Rattle.rulebook.specs.Layout.{width, place, intervalLength, intervalSize, ring, size, slot, intervalWord, rowWord, intervalTable, accountTable, intervalWords, accountWords, accountPlace, flagIndex, msslWord, markWord, accountsWord, lagWord, horizonWord, firstDayWord, nextDayWord, balanceWord, balancePadding, headerPadding, headerPaddingWords, balancePaddingWords, InWindow}
 use Rattle.rulebook.specs.BookData.{termsOf, nextDay}
-use Rattle.rulebook.specs.WellFormed.{isZero, rowFits, rowBlank, rowCounts, wordFits, paddingZero, isThere, intervalBlank, slotBlank, slotRow, accountWordsFit, intervalFits, bothThere, closedRowsThere, balanceWordsFit, balanceFits, headerFits, fits, wellFormed, dayBound}
+use Rattle.rulebook.specs.WellFormed.{isZero, rowFits, paddingZero, rowsThere, accountFits, nccFits, intervalFits, intervalBlank, intervalAt, slotBlank, datedFits, balanceWordsFit, balanceFits, headerFits, fits, wellFormed, dayBound}
 use Rattle.rulebook.specs.WindowWalk.{windowSlot, windowSlotFits}
 use Rattle.rulebook.specs.Ledger.{Ledger, HoldsLedger, Padding, ofInterval, ofAccount}
-use Rattle.rulebook.specs.laws.TestLaws.{all-same, any-same, all-yes, between-yes, cond-yes, and-both, or-cases, nor-left}
+use Rattle.rulebook.specs.laws.TestLaws.{all-yes, between-yes, cond-yes, and-both, or-cases, nor-left}
 use Rattle.rulebook.specs.laws.RowWordLaws.{flag-inside}
 use Rattle.rulebook.specs.laws.RingLaws.{place-slot, place-day}
 use Rattle.rulebook.specs.laws.WalkLaws.{walk-days}
 use Rattle.rulebook.specs.laws.CoverLaws.{Cover, ofRow, ofPadding, cover}
+use Rattle.rulebook.specs.laws.FitsLaws.{row-same, padding-yes, account-yes, interval-yes}
 
 pub ring-pos : (o : Terms) → InTerms o → zero < ring o
 unfolding ring
@@ -34,10 +35,6 @@ ring-pos o t = omega arith
 
 pub zero-yes : {z : ℤ} → z ≡ pos 0 → T (isZero z)
 zero-yes e = rw e tt
-
-not-or : (a b : Bool) → (T a → T b) → T (not a || b)
-not-or true b f = f tt
-not-or false b f = tt
 
 -- a ledger whose figures and balances may stand in a well-formed book
 pub record Fit (o : Terms) (b : Ledger) : Type 0 where
@@ -48,22 +45,6 @@ pub record Fit (o : Terms) (b : Ledger) : Type 0 where
   pub bounded : (a : ℕ) → a < o .accounts → natAbs (b .balance a) ≤ b .closed * dayBound
   pub mssl : natAbs (b .mssl) ≤ o .accounts * (b .closed * dayBound)
   pub begun : o .first + b .closed ≤ suc lastDay
-
--- rows with the same words fit alike
-pub fits-same : (s : Section) (f g : ℕ → ℤ) → ((j : ℕ) → j < width s → f j ≡ g j) → T (rowFits s g) → T (rowFits s f)
-unfolding rowFits rowBlank rowCounts
-fits-same s f g e t =
-    let blank : rowBlank s f ≡ rowBlank s g = all-same (width s) (λ j. isZero (f j)) (λ j. isZero (g j)) (λ j hj. ap isZero (e j hj)) in
-    let words : (c : ℕ) → all (width s) (λ j. wordFits s c (wordName s j) (f j)) ≡ all (width s) (λ j. wordFits s c (wordName s j) (g j))
-    = λ c. all-same (width s) (λ j. wordFits s c (wordName s j) (f j)) (λ j. wordFits s c (wordName s j) (g j)) (λ j hj. ap (wordFits s c (wordName s j)) (e j hj)) in
-    let counts : any (suc (mostCount s)) (rowCounts s f) ≡ any (suc (mostCount s)) (rowCounts s g)
-    = any-same (suc (mostCount s)) (rowCounts s f) (rowCounts s g) (λ c hc. rw (words c)) in
-    rw (blank, counts) t
-
--- a table's padding words
-padding-zeros : (table : List Word) (f : ℕ → ℤ) → ((q : ℕ) → q < length table → T (isPadding (getD table q padding)) → T (isZero (f q))) → T (paddingZero table f)
-unfolding paddingZero
-padding-zeros table f h = all-yes (length table) (λ q. not (isPadding (getD table q padding)) || isZero (f q)) (λ q hq. not-or (isPadding (getD table q padding)) (isZero (f q)) (h q hq))
 
 module _ (o : Terms) (t : InTerms o) (b : Ledger) (w : List ℤ) (h : HoldsLedger o b w) (q : Fit o b) where
   abbrev k : ℕ
@@ -86,40 +67,41 @@ module _ (o : Terms) (t : InTerms o) (b : Ledger) (w : List ℤ) (h : HoldsLedge
     day-window = place-day o k u hu late
 
     slot-row : (s : Section) (a i j : ℕ) → a < accountsOf s (o .accounts) → i < 48 → j < width s
-        → slotRow o w (windowSlot o k u) i s a j ≡ b .entries s a day i j
+        → intervalAt o w (windowSlot o k u) i (place s a j) ≡ b .entries s a day i j
     unfolding rowWord
     slot-row s a i j ha hi hj = rw day-slot (h .held s a day i j day-window ha hi hj)
 
-    slot-padding : (i m : ℕ) → i < 48 → Padding (o .accounts) m → T (isZero (word w (intervalWord o (windowSlot o k u) i m)))
+    slot-padding : (i m : ℕ) → i < 48 → Padding (o .accounts) m → T (isZero (intervalAt o w (windowSlot o k u) i m))
     unfolding windowSlot
     slot-padding i m hi hm = zero-yes (h .padding (windowSlot o k u) i m (mod-lt _ ring-more) hi hm)
 
-    section-fits : (s : Section) (a i : ℕ) → a < accountsOf s (o .accounts) → i < 48 → T (rowFits s (slotRow o w (windowSlot o k u) i s a))
-    section-fits s a i ha hi = fits-same s (slotRow o w (windowSlot o k u) i s a) (b .entries s a day i) (λ j hj. slot-row s a i j ha hi hj) (q .rows s a day i day-window ha hi)
+    section-fits : (s : Section) (a i : ℕ) → a < accountsOf s (o .accounts) → i < 48 → T (rowFits s (λ j. intervalAt o w (windowSlot o k u) i (place s a j)))
+    section-fits s a i ha hi = rw (row-same s (λ j. intervalAt o w (windowSlot o k u) i (place s a j)) (b .entries s a day i) (λ j hj. slot-row s a i j ha hi hj)) (q .rows s a day i day-window ha hi)
 
-    cell-fits : (a i : ℕ) → a < o .accounts → i < 48 → T (accountWordsFit o w (windowSlot o k u) i a)
-    unfolding accountWordsFit
-    cell-fits a i ha hi =
-        let x = padding-zeros accountTable (λ q. word w (intervalWord o (windowSlot o k u) i (accountPlace a q))) (λ q hq t. slot-padding i (accountPlace a q) hi (ofAccount a q ha hq t)) in
-        let v = section-fits Vesting a i ha hi in
-        let m = section-fits Meter a i ha hi in
-        let r = section-fits Residual a i ha hi in
+    rows-there : (a i : ℕ) → a < o .accounts → i < 48 → T (ltb u (o .lag)) → T (rowsThere (λ q. intervalAt o w (windowSlot o k u) i (accountPlace a q)))
+    unfolding rowsThere day
+    rows-there a i ha hi x =
+        let l = ltb→lt u (o .lag) x in
+        let v : T (not (isZero (intervalAt o w (windowSlot o k u) i (place Vesting a (flagIndex Vesting)))))
+        = rw (slot-row Vesting a i (flagIndex Vesting) ha hi (flag-inside Vesting)) (q .vestings a day i day-window (omega arith) ha hi) in
+        let m : T (not (isZero (intervalAt o w (windowSlot o k u) i (place Meter a (flagIndex Meter)))))
+        = rw (slot-row Meter a i (flagIndex Meter) ha hi (flag-inside Meter)) (q .meters a day i day-window (omega arith) ha hi) in
         search and-both
 
-    interval-fits : (i : ℕ) → i < 48 → T (intervalFits o w (windowSlot o k u) i)
-    unfolding intervalFits
-    interval-fits i hi =
-        let x = padding-zeros intervalTable (λ q. word w (intervalWord o (windowSlot o k u) i q)) (λ q hq t. slot-padding i q hi (ofInterval q hq t)) in
-        let n = section-fits Ncc 0 i (omega arith) hi in
-        let c = all-yes (o .accounts) (accountWordsFit o w (windowSlot o k u) i) (λ a ha. cell-fits a i ha hi) in
-        search and-both
+    cell-fits : (a i : ℕ) → a < o .accounts → i < 48 → T (accountFits (ltb u (o .lag)) (λ q. intervalAt o w (windowSlot o k u) i (accountPlace a q)))
+    cell-fits a i ha hi = account-yes (ltb u (o .lag)) (λ q. intervalAt o w (windowSlot o k u) i (accountPlace a q))
+        (padding-yes accountTable (λ q. intervalAt o w (windowSlot o k u) i (accountPlace a q)) (λ q hq t. slot-padding i (accountPlace a q) hi (ofAccount a q ha hq t)))
+        (section-fits Vesting a i ha hi) (section-fits Meter a i ha hi) (section-fits Residual a i ha hi) (rows-there a i ha hi)
 
-    closed-there : u < o .lag → (i : ℕ) → i < 48 → T (closedRowsThere o w (windowSlot o k u) i)
-    unfolding closedRowsThere bothThere isThere day
-    closed-there x i hi = all-yes (o .accounts) (bothThere o w (windowSlot o k u) i) (λ a ha. and-both
-        (isThere o w Vesting a (windowSlot o k u) i) (isThere o w Meter a (windowSlot o k u) i)
-        (rw (slot-row Vesting a i (flagIndex Vesting) ha hi (flag-inside Vesting)) (q .vestings a day i day-window (omega arith) ha hi))
-        (rw (slot-row Meter a i (flagIndex Meter) ha hi (flag-inside Meter)) (q .meters a day i day-window (omega arith) ha hi)))
+    own-fits : (i : ℕ) → i < 48 → T (nccFits (intervalAt o w (windowSlot o k u) i))
+    unfolding nccFits
+    own-fits i hi = and-both (paddingZero intervalTable (intervalAt o w (windowSlot o k u) i)) (rowFits Ncc (λ j. intervalAt o w (windowSlot o k u) i (place Ncc 0 j)))
+        (padding-yes intervalTable (intervalAt o w (windowSlot o k u) i) (λ q hq t. slot-padding i q hi (ofInterval q hq t))) (section-fits Ncc 0 i (omega arith) hi)
+
+    dated-fits : T (datedFits o w (ltb u (o .lag)) (windowSlot o k u))
+    unfolding datedFits
+    dated-fits = all-yes 48 (λ i. intervalFits (o .accounts) (ltb u (o .lag)) (intervalAt o w (windowSlot o k u) i))
+        (λ i hi. interval-yes (o .accounts) (ltb u (o .lag)) (intervalAt o w (windowSlot o k u) i) (own-fits i hi) (λ a ha. cell-fits a i ha hi))
 
     past-blank : lastDay < day → (i m : ℕ) → i < 48 → m < intervalWords + accountWords * o .accounts → word w (intervalWord o (windowSlot o k u) i m) ≡ pos 0
     unfolding windowSlot
@@ -130,13 +112,13 @@ module _ (o : Terms) (t : InTerms o) (b : Ledger) (w : List ℤ) (h : HoldsLedge
         go (ofPadding m′ c e) = rw e (h .padding (windowSlot o k u) i m′ (mod-lt _ ring-more) hi c)
 
   blank-yes : (u : ℕ) → ((i m : ℕ) → i < 48 → m < intervalSize o → word w (intervalWord o (windowSlot o k u) i m) ≡ pos 0) → T (slotBlank o w (windowSlot o k u))
-  unfolding slotBlank intervalBlank
-  blank-yes u f = all-yes 48 (intervalBlank o w (windowSlot o k u)) (λ i hi. all-yes (intervalSize o) _ (λ m hm. zero-yes (f i m hi hm)))
+  unfolding slotBlank intervalBlank intervalSize
+  blank-yes u f = all-yes 48 _ (λ i hi. all-yes (intervalLength (o .accounts)) _ (λ m hm. zero-yes (f i m hi hm)))
 
   window-fits : (u : ℕ) → u < ring o → T (windowSlotFits o w k u)
   unfolding windowSlotFits intervalSize day
-  window-fits u hu = cond-yes (ltb (k + u) (o .lag) || ltb lastDay (o .first + (k + u - o .lag))) (slotBlank o w (windowSlot o k u))
-      (all 48 (intervalFits o w (windowSlot o k u)) && (not (ltb u (o .lag)) || all 48 (closedRowsThere o w (windowSlot o k u)))) blank full
+  window-fits u hu = cond-yes (ltb (k + u) (o .lag) || ltb lastDay (o .first + (k + u - o .lag))) (slotBlank o w (windowSlot o k u)) (datedFits o w (ltb u (o .lag)) (windowSlot o k u)) blank
+      (λ x. dated-fits u hu (nltb→le (k + u) (o .lag) (nor-left (ltb (k + u) (o .lag)) (ltb lastDay (o .first + (k + u - o .lag))) x)))
     where
       outside : T (ltb lastDay (o .first + (k + u - o .lag))) → Dec (o .lag ≤ k + u) → T (slotBlank o w (windowSlot o k u))
       outside x (yes y) = blank-yes u (λ i m hi hm. past-blank u hu y (ltb→lt _ _ x) i m hi hm)
@@ -144,15 +126,6 @@ module _ (o : Terms) (t : InTerms o) (b : Ledger) (w : List ℤ) (h : HoldsLedge
 
       blank : T (ltb (k + u) (o .lag) || ltb lastDay (o .first + (k + u - o .lag))) → T (slotBlank o w (windowSlot o k u))
       blank x = or-cases (ltb (k + u) (o .lag)) (ltb lastDay (o .first + (k + u - o .lag))) x (λ y. blank-yes u (λ i m hi hm. h .early u i m (ltb→lt (k + u) (o .lag) y) hi hm)) (λ y. outside y (decLe (o .lag) (k + u)))
-
-      full : T (not (ltb (k + u) (o .lag) || ltb lastDay (o .first + (k + u - o .lag))))
-          → T (all 48 (intervalFits o w (windowSlot o k u)) && (not (ltb u (o .lag)) || all 48 (closedRowsThere o w (windowSlot o k u))))
-      full x =
-          let y : o .lag ≤ k + u = nltb→le (k + u) (o .lag) (nor-left (ltb (k + u) (o .lag)) (ltb lastDay (o .first + (k + u - o .lag))) x) in
-          and-both (all 48 (intervalFits o w (windowSlot o k u))) (not (ltb u (o .lag)) || all 48 (closedRowsThere o w (windowSlot o k u)))
-          (all-yes 48 (intervalFits o w (windowSlot o k u)) (interval-fits u hu y))
-          (not-or (ltb u (o .lag)) (all 48 (closedRowsThere o w (windowSlot o k u)))
-          (λ z. all-yes 48 (closedRowsThere o w (windowSlot o k u)) (closed-there u hu y (ltb→lt u (o .lag) z))))
 
   header-fits : T (headerFits w)
   unfolding headerFits

@@ -1,13 +1,13 @@
 -- A well-formed book, any that is lent, holds the ledger that its words tell: the facts that a close's arithmetic needs. Assumes nothing.
 use mathlib.Core.Path.{_≡_, refl, sym, ap, _∙_, subst}
-use mathlib.Core.Bool.{Bool, true, false, cond, _&&_, _||_, not}
+use mathlib.Core.Bool.{Bool, true, false, cond, _||_}
 use mathlib.Core.List.{List}
 use Prim.Native.Nat.{ℕ, zero, _+_, _-_, _*_, _≤_, _<_}
 use native.Mathlib.Nat.{one-mul, add-sub-of-le}
 use native.Mathlib.Omega.{arith}
 use native.Mathlib.Decide.{decLe}
 use lib.IntN.{ℤ, pos, negsuc, natAbs}
-use lib.Dec.{T, leb, ltb, leb→le, lt→ltb}
+use lib.Dec.{T, leb, ltb, leb→le}
 use lib.ListN.{length}
 use Rattle.integer.specs.Below.{all}
 use Rattle.integer.specs.Words.{word}
@@ -16,18 +16,19 @@ use Rattle.rulebook.specs.declared.Terms.{Terms}
 use Rattle.rulebook.specs.Units.{lastDay, between, positive}
 use Rattle.rulebook.specs.Terms.{InTerms}
 use Rattle.rulebook.specs.Sections.{accountsOf}
-use Rattle.rulebook.specs.Layout.{width, place, ring, size, intervalSize, slot, intervalWord, rowWord, markWord, accountsWord, lagWord, horizonWord, firstDayWord, nextDayWord, msslWord, balanceWord, balancePadding, headerPadding, headerPaddingWords, balancePaddingWords, InWindow}
+use Rattle.rulebook.specs.Layout.{width, place, ring, size, intervalLength, intervalSize, slot, intervalWord, rowWord, markWord, accountsWord, lagWord, horizonWord, firstDayWord, nextDayWord, msslWord, balanceWord, balancePadding, headerPadding, headerPaddingWords, balancePaddingWords, InWindow}
 use Rattle.rulebook.specs.BookData.{termsOf, nextDay, entriesOf}
-use Rattle.rulebook.specs.WellFormed.{isZero, rowFits, isThere, intervalBlank, slotBlank, intervalFits, closedRowsThere, balanceWordsFit, balanceFits, headerFits, fits, wellFormed, dayBound, daysFit}
+use Rattle.rulebook.specs.WellFormed.{isZero, rowFits, intervalFits, intervalBlank, intervalAt, slotBlank, datedFits, balanceWordsFit, balanceFits, headerFits, fits, wellFormed, dayBound, daysFit}
 use Rattle.rulebook.specs.WindowWalk.{windowSlot, windowSlotFits, windowPlace}
 use Rattle.rulebook.specs.Ledger.{Padding, HoldsLedger, ledgerOf}
 use Rattle.rulebook.specs.laws.TestLaws.{and-left, and-right, all-at}
 use Rattle.rulebook.specs.laws.RingLaws.{turned, turn-inside}
-use Rattle.rulebook.specs.laws.WalkLaws.{days-walk}
+use Rattle.rulebook.specs.laws.WalkLaws.{early-place, walk-undated, days-walk}
 use Rattle.rulebook.specs.laws.LedgerLaws.{padding-fits}
 use Rattle.rulebook.specs.laws.KeptLaws.{absent-fits}
+use Rattle.rulebook.specs.laws.FitsLaws.{interval-padding}
 use Rattle.rulebook.specs.laws.FormLaws.{Fit, ring-pos}
-use Rattle.rulebook.specs.laws.SlotLaws.{row-in-interval, is-zero, is-number, interval-padding, undated-blank, closed-there, row-fits-at}
+use Rattle.rulebook.specs.laws.SlotLaws.{row-in-interval, is-zero, is-number, closed-there, row-fits-at}
 
 -- ---- a well-formed book holds a ledger, and it fits
 
@@ -120,38 +121,30 @@ module _ (w : List ℤ) (t : T (wellFormed w)) where
       days-walk (termsOf w) w (nextDay w - termsOf w .first) (horizon-of .1)
       (subst (λ (C : ℕ). T (daysFit (termsOf w) w C)) (sym (add-sub-of-le (next-of .1))) d)
 
+-- a blank slot's words
+blank-at : (o : Terms) (w : List ℤ) (v i m : ℕ) → i < 48 → m < intervalSize o → T (slotBlank o w v) → word w (intervalWord o v i m) ≡ pos 0
+unfolding slotBlank intervalBlank intervalSize
+blank-at o w v i m hi hm x = is-zero (intervalAt o w v i m) (all-at (intervalLength (o .accounts)) (λ m. isZero (intervalAt o w v i m)) (all-at 48 (λ i. intervalBlank (o .accounts) (intervalAt o w v i)) x i hi) m hm)
+
 -- the slot of each place in the window
 module _ (o : Terms) (w : List ℤ) (k : ℕ) (t : T (all (ring o) (windowSlotFits o w k))) (p : zero < ring o) where
   slot-test : (u : ℕ) → u < ring o → T (windowSlotFits o w k u)
   slot-test u hu = all-at (ring o) (windowSlotFits o w k) t u hu
 
-  blank-at : (v i m : ℕ) → i < 48 → m < intervalSize o → T (slotBlank o w v) → word w (intervalWord o v i m) ≡ pos 0
-  unfolding slotBlank intervalBlank
-  blank-at v i m hi hm x = is-zero (word w (intervalWord o v i m)) (all-at (intervalSize o) (λ m. isZero (word w (intervalWord o v i m))) (all-at 48 (intervalBlank o w v) x i hi) m hm)
-
   early-at : (u i m : ℕ) → k + u < o .lag → i < 48 → m < intervalSize o → word w (intervalWord o (windowSlot o k u) i m) ≡ pos 0
-  unfolding windowSlotFits ring
-  early-at u i m h hi hm = blank-at (windowSlot o k u) i m hi hm (go (ltb (k + u) (o .lag)) (lt→ltb (k + u) (o .lag) h) (slot-test u (omega arith)))
-    where
-      go : (a : Bool) → T a → T (cond (a || ltb lastDay (o .first + (k + u - o .lag))) (slotBlank o w (windowSlot o k u))
-          (all 48 (intervalFits o w (windowSlot o k u)) && (not (ltb u (o .lag)) || all 48 (closedRowsThere o w (windowSlot o k u))))) → T (slotBlank o w (windowSlot o k u))
-      go true x y = y
-      go false x y = absurd x
+  unfolding ring
+  early-at u i m h hi hm = blank-at o w (windowSlot o k u) i m hi hm (early-place o w k u h (slot-test u (omega arith)))
 
   padding-at : (v i m : ℕ) → v < ring o → i < 48 → Padding (o .accounts) m → word w (intervalWord o v i m) ≡ pos 0
-  unfolding windowSlotFits
+  unfolding windowSlotFits datedFits
   padding-at v i m hv hi hm = subst (λ (y : ℕ). word w (intervalWord o y i m) ≡ pos 0) (turned o p k v hv)
       (go (ltb (k + windowPlace o k v) (o .lag) || ltb lastDay (o .first + (k + windowPlace o k v - o .lag))) (slot-test (windowPlace o k v) (turn-inside o p k v)))
     where
-      full : T (intervalFits o w (windowSlot o k (windowPlace o k v)) i) → Padding (o .accounts) m → word w (intervalWord o (windowSlot o k (windowPlace o k v)) i m) ≡ pos 0
-      full x y = is-zero (word w (intervalWord o (windowSlot o k (windowPlace o k v)) i m)) (interval-padding o w (windowSlot o k (windowPlace o k v)) i x m y)
-
-      go : (a : Bool) → T (cond a (slotBlank o w (windowSlot o k (windowPlace o k v)))
-          (all 48 (intervalFits o w (windowSlot o k (windowPlace o k v))) && (not (ltb (windowPlace o k v) (o .lag)) || all 48 (closedRowsThere o w (windowSlot o k (windowPlace o k v))))))
+      go : (a : Bool) → T (cond a (slotBlank o w (windowSlot o k (windowPlace o k v))) (datedFits o w (ltb (windowPlace o k v) (o .lag)) (windowSlot o k (windowPlace o k v))))
           → word w (intervalWord o (windowSlot o k (windowPlace o k v)) i m) ≡ pos 0
-      go true x = blank-at (windowSlot o k (windowPlace o k v)) i m hi (padding-fits o m hm) x
-      go false x = full (all-at 48 (intervalFits o w (windowSlot o k (windowPlace o k v)))
-          (and-left (all 48 (intervalFits o w (windowSlot o k (windowPlace o k v)))) (not (ltb (windowPlace o k v) (o .lag)) || all 48 (closedRowsThere o w (windowSlot o k (windowPlace o k v)))) x) i hi) hm
+      go true x = blank-at o w (windowSlot o k (windowPlace o k v)) i m hi (padding-fits o m hm) x
+      go false x = is-zero (intervalAt o w (windowSlot o k (windowPlace o k v)) i m) (interval-padding (o .accounts) (ltb (windowPlace o k v) (o .lag)) (intervalAt o w (windowSlot o k (windowPlace o k v)) i)
+          (all-at 48 (λ i. intervalFits (o .accounts) (ltb (windowPlace o k v) (o .lag)) (intervalAt o w (windowSlot o k (windowPlace o k v)) i)) x i hi) m hm)
 
 module _ (w : List ℤ) (t : T (wellFormed w)) where
   -- a well-formed book holds what its words tell
@@ -175,29 +168,26 @@ module _ (w : List ℤ) (t : T (wellFormed w)) where
 
   -- and that fits
   pub formed-fit : Fit (termsOf w) (ledgerOf w)
-  unfolding rowWord isThere
+  unfolding rowWord
   formed-fit = record {
     rows = λ s a d i hd ha hi. dated-or s a d i hd ha hi (decLe d lastDay);
     undated = λ s a d i j hd x ha hi hj. zeros s a d i j hd x ha hi hj;
-    vestings = λ a d i hd x ha hi. closed-there (termsOf w) w (nextDay w - termsOf w .first) (walk-of w t) p d hd (before d x) x a i ha hi .0;
-    meters = λ a d i hd x ha hi. closed-there (termsOf w) w (nextDay w - termsOf w .first) (walk-of w t) p d hd (before d x) x a i ha hi .1;
+    vestings = λ a d i hd x ha hi. closed-there (termsOf w) w (nextDay w - termsOf w .first) (walk-of w t) d hd (before d x) x a i ha hi .0;
+    meters = λ a d i hd x ha hi. closed-there (termsOf w) w (nextDay w - termsOf w .first) (walk-of w t) d hd (before d x) x a i ha hi .1;
     bounded = balance-at w t;
     mssl = mssl-at w t;
     begun = omega (arith, next-of w t .1, next-of w t .2);
   }
     where
-      p : zero < ring (termsOf w)
-      p = ring-pos (termsOf w) (opened-of w t)
-
       before : (d : ℕ) → d < termsOf w .first + (nextDay w - termsOf w .first) → d ≤ lastDay
       before d x = omega (arith, next-of w t .1, next-of w t .2)
 
       zeros : (s : Section) (a d i j : ℕ) → InWindow (termsOf w) (nextDay w - termsOf w .first) d → lastDay < d → a < accountsOf s (termsOf w .accounts) → i < 48 → j < width s
           → entriesOf (termsOf w) w s a d i j ≡ pos 0
-      zeros s a d i j hd x ha hi hj = blank-at (termsOf w) w (nextDay w - termsOf w .first) (walk-of w t) p (slot (termsOf w) d) i (place s a j) hi (row-in-interval (termsOf w) s a j ha hj)
-          (undated-blank (termsOf w) w (nextDay w - termsOf w .first) (walk-of w t) p d hd x)
+      zeros s a d i j hd x ha hi hj = blank-at (termsOf w) w (slot (termsOf w) d) i (place s a j) hi (row-in-interval (termsOf w) s a j ha hj)
+          (walk-undated (termsOf w) w (nextDay w - termsOf w .first) (walk-of w t) d hd x)
 
       dated-or : (s : Section) (a d i : ℕ) → InWindow (termsOf w) (nextDay w - termsOf w .first) d → a < accountsOf s (termsOf w .accounts) → i < 48 → Dec (d ≤ lastDay)
           → T (rowFits s (entriesOf (termsOf w) w s a d i))
-      dated-or s a d i hd ha hi (yes x) = row-fits-at (termsOf w) w (nextDay w - termsOf w .first) (walk-of w t) p d hd x s a i ha hi
+      dated-or s a d i hd ha hi (yes x) = row-fits-at (termsOf w) w (nextDay w - termsOf w .first) (walk-of w t) d hd x s a i ha hi
       dated-or s a d i hd ha hi (no x) = absent-fits s (entriesOf (termsOf w) w s a d i) (λ j hj. zeros s a d i j hd (omega arith) ha hi hj)

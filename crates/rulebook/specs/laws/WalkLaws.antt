@@ -1,21 +1,63 @@
 -- Well formed by days is well formed place by place: each day of the window has its place, and a place of no day a slot of no day. Assumes nothing.
 use mathlib.Core.Path.{_≡_, refl, sym, _∙_, subst}
-use mathlib.Core.Bool.{Bool, true, false, cond, not, _&&_, _||_}
+use mathlib.Core.Bool.{Bool, true, false, cond, not, _||_}
 use mathlib.Core.List.{List}
 use Prim.Native.Nat.{ℕ, zero, _+_, _-_, _≤_, _<_}
 use native.Mathlib.Nat.{mod-lt}
 use native.Mathlib.Omega.{arith}
-use native.Mathlib.Decide.{decLe}
-use lib.Dec.{T, leb, ltb, eqb, leb→le, le→leb, ltb→lt, nltb→le, lt→ltb, eqb→eq, eqb-refl}
+use borrow.Author.Tests.{lt-ltb, le-ltb}
+use lib.Dec.{T, ltb, eqb, ltb→lt, nltb→le, lt→ltb, eqb→eq, eqb-refl}
 use lib.IntN.{ℤ}
 use Rattle.integer.specs.Below.{all}
 use Rattle.rulebook.specs.declared.Terms.{Terms}
 use Rattle.rulebook.specs.Units.{lastDay}
 use Rattle.rulebook.specs.Layout.{ring, slot, windowFrom, windowDays, InWindow}
-use Rattle.rulebook.specs.WellFormed.{slotBlank, intervalFits, closedRowsThere, dayFits, isDated, daysFit}
+use Rattle.rulebook.specs.WellFormed.{slotBlank, datedFits, dayFits, isDated, daysFit}
 use Rattle.rulebook.specs.WindowWalk.{windowSlot, windowSlotFits, windowPlace}
-use Rattle.rulebook.specs.laws.TestLaws.{and-left, and-right, and-both, or-left, or-right, or-cases, nor-left, nor-right, cond-yes, not-ltb, all-yes, any-yes, all-at, any-at, tests-same}
+use Rattle.rulebook.specs.laws.TestLaws.{and-left, and-right, and-both, or-left, or-right, or-cases, nor-left, nor-right, cond-yes, all-yes, any-yes, all-at, any-at, tests-same}
 use Rattle.rulebook.specs.laws.RingLaws.{turn-inside, turned, places-apart, place-slot, place-day, placeOf, day-place}
+
+-- ---- One place
+
+module _ (o : Terms) (w : List ℤ) (k u : ℕ) where
+  -- of no day: before F, past the last; of a day
+  pub early-place : k + u < o .lag → T (windowSlotFits o w k u) → T (slotBlank o w (windowSlot o k u))
+  unfolding windowSlotFits
+  early-place h t = rw (lt-ltb (k + u) (o .lag) h) at t
+
+  late-place : lastDay < o .first + (k + u - o .lag) → T (windowSlotFits o w k u) → T (slotBlank o w (windowSlot o k u))
+  unfolding windowSlotFits
+  late-place h t = go (ltb (k + u) (o .lag)) (rw (lt-ltb lastDay (o .first + (k + u - o .lag)) h) at t)
+    where
+      go : (b : Bool) → T (cond (b || true) (slotBlank o w (windowSlot o k u)) (datedFits o w (ltb u (o .lag)) (windowSlot o k u))) → T (slotBlank o w (windowSlot o k u))
+      go true x = x
+      go false x = x
+
+  dated-place : o .lag ≤ k + u → o .first + (k + u - o .lag) ≤ lastDay → T (windowSlotFits o w k u) → T (datedFits o w (ltb u (o .lag)) (windowSlot o k u))
+  unfolding windowSlotFits
+  dated-place h l t = rw (le-ltb (k + u) (o .lag) h, le-ltb lastDay (o .first + (k + u - o .lag)) l) at t
+
+  -- a day fits exactly if its place does
+  day-is-place : (d : ℕ) → windowSlot o k u ≡ slot o d → (u < o .lag → d < o .first + k) → (d < o .first + k → u < o .lag)
+      → dayFits o w (o .first + k) d ≡ datedFits o w (ltb u (o .lag)) (windowSlot o k u)
+  unfolding dayFits
+  day-is-place d e f g =
+      let c : ltb d (o .first + k) ≡ ltb u (o .lag)
+      = tests-same (ltb d (o .first + k)) (ltb u (o .lag)) (λ x. lt→ltb u (o .lag) (g (ltb→lt d (o .first + k) x))) (λ x. lt→ltb d (o .first + k) (f (ltb→lt u (o .lag) x))) in
+      rw (c, e)
+
+-- a day of the window, by the walk over its places
+module _ (o : Terms) (w : List ℤ) (k : ℕ) (t : T (all (ring o) (windowSlotFits o w k))) (d : ℕ) (hd : InWindow o k d) where
+  place-test : T (windowSlotFits o w k (placeOf o k d))
+  place-test = all-at (ring o) (windowSlotFits o w k) t (placeOf o k d) (day-place o k d hd .inside)
+
+  pub walk-day : d ≤ lastDay → T (dayFits o w (o .first + k) d)
+  walk-day l =
+      let z = day-place o k d hd in
+      rw (day-is-place o w k (placeOf o k d) d (z .slot-is) (z .open-is .0) (z .open-is .1)) (dated-place o w k (placeOf o k d) (z .late) (rw (z .back) l) place-test)
+
+  pub walk-undated : lastDay < d → T (slotBlank o w (slot o d))
+  walk-undated l = let z = day-place o k d hd in subst (λ (v : ℕ). T (slotBlank o w v)) (z .slot-is) (late-place o w k (placeOf o k d) (rw (z .back) l) place-test)
 
 module _ (o : Terms) (w : List ℤ) (k : ℕ) (p : 1 ≤ o .horizon) where
   ring-some : zero < ring o
@@ -40,37 +82,6 @@ module _ (o : Terms) (w : List ℤ) (k : ℕ) (p : 1 ≤ o .horizon) where
   index-day : (d : ℕ) → InWindow o k d → windowFrom o (o .first + k) + indexOf d ≡ d
   unfolding indexOf
   index-day d h = omega arith
-
-  -- a day that fits, at its place
-  at-place : (u d : ℕ) → windowSlot o k u ≡ slot o d → (u < o .lag → d < o .first + k) → T (dayFits o w (o .first + k) d)
-      → T (all 48 (intervalFits o w (windowSlot o k u)) && (not (ltb u (o .lag)) || all 48 (closedRowsThere o w (windowSlot o k u))))
-  unfolding dayFits
-  at-place u d e before t = subst (λ (v : ℕ). T (all 48 (intervalFits o w v) && (not (ltb u (o .lag)) || all 48 (closedRowsThere o w v)))) (sym e)
-      (and-both (all 48 (intervalFits o w (slot o d))) (not (ltb u (o .lag)) || all 48 (closedRowsThere o w (slot o d))) (and-left (all 48 (intervalFits o w (slot o d))) (leb (o .first + k) d || all 48 (closedRowsThere o w (slot o d))) t)
-      (or-cases (leb (o .first + k) d) (all 48 (closedRowsThere o w (slot o d))) (and-right (all 48 (intervalFits o w (slot o d))) (leb (o .first + k) d || all 48 (closedRowsThere o w (slot o d))) t) later (λ x. or-right (not (ltb u (o .lag))) _ x)))
-    where
-      later : T (leb (o .first + k) d) → T (not (ltb u (o .lag)) || all 48 (closedRowsThere o w (slot o d)))
-      later x = go (ltb u (o .lag)) (λ y. let h = before (ltb→lt u (o .lag) y) in let l = leb→le (o .first + k) d x in omega arith)
-        where
-          go : (b : Bool) → (T b → ⊥) → T (not b || all 48 (closedRowsThere o w (slot o d)))
-          go true f = absurd (f tt)
-          go false f = tt
-
-  -- and back
-  at-day : (u d : ℕ) → windowSlot o k u ≡ slot o d → (d < o .first + k → u < o .lag)
-      → T (all 48 (intervalFits o w (windowSlot o k u)) && (not (ltb u (o .lag)) || all 48 (closedRowsThere o w (windowSlot o k u)))) → T (dayFits o w (o .first + k) d)
-  unfolding dayFits
-  at-day u d e before t =
-      let x : T (all 48 (intervalFits o w (slot o d)) && (not (ltb u (o .lag)) || all 48 (closedRowsThere o w (slot o d)))) = subst (λ (v : ℕ). T (all 48 (intervalFits o w v) && (not (ltb u (o .lag)) || all 48 (closedRowsThere o w v)))) e t in
-      and-both (all 48 (intervalFits o w (slot o d))) (leb (o .first + k) d || all 48 (closedRowsThere o w (slot o d))) (and-left (all 48 (intervalFits o w (slot o d))) (not (ltb u (o .lag)) || all 48 (closedRowsThere o w (slot o d))) x) (later (decLe (o .first + k) d) (and-right (all 48 (intervalFits o w (slot o d))) (not (ltb u (o .lag)) || all 48 (closedRowsThere o w (slot o d))) x))
-    where
-      later : Dec (o .first + k ≤ d) → T (not (ltb u (o .lag)) || all 48 (closedRowsThere o w (slot o d))) → T (leb (o .first + k) d || all 48 (closedRowsThere o w (slot o d)))
-      later (yes h) y = or-left (leb (o .first + k) d) _ (le→leb (o .first + k) d h)
-      later (no h) y = or-right (leb (o .first + k) d) _ (go (ltb u (o .lag)) (lt→ltb u (o .lag) (before (omega arith))) y)
-        where
-          go : (b : Bool) → T b → T (not b || all 48 (closedRowsThere o w (slot o d))) → T (all 48 (closedRowsThere o w (slot o d)))
-          go true x z = z
-          go false x z = absurd x
 
   -- ---- From days to places
 
@@ -101,8 +112,7 @@ module _ (o : Terms) (w : List ℤ) (k : ℕ) (p : 1 ≤ o .horizon) where
 
     place-fits : (u : ℕ) → u < ring o → T (windowSlotFits o w k u)
     unfolding windowSlotFits placeOf
-    place-fits u h = cond-yes (ltb (k + u) (o .lag) || ltb lastDay (o .first + (k + u - o .lag))) (slotBlank o w (windowSlot o k u))
-        (all 48 (intervalFits o w (windowSlot o k u)) && (not (ltb u (o .lag)) || all 48 (closedRowsThere o w (windowSlot o k u))))
+    place-fits u h = cond-yes (ltb (k + u) (o .lag) || ltb lastDay (o .first + (k + u - o .lag))) (slotBlank o w (windowSlot o k u)) (datedFits o w (ltb u (o .lag)) (windowSlot o k u))
         (λ x. or-cases (ltb (k + u) (o .lag)) (ltb lastDay (o .first + (k + u - o .lag))) x
         (λ y. let e = ltb→lt (k + u) (o .lag) y in undated u h (λ d z l q. omega arith))
         (λ y. let e = ltb→lt lastDay (o .first + (k + u - o .lag)) y in undated u h (λ d z l q. omega arith)))
@@ -110,7 +120,7 @@ module _ (o : Terms) (w : List ℤ) (k : ℕ) (p : 1 ≤ o .horizon) where
         let b = nltb→le lastDay (o .first + (k + u - o .lag)) (nor-right (ltb (k + u) (o .lag)) (ltb lastDay (o .first + (k + u - o .lag))) x) in
         let z = place-day o k u h a in
         let d : ℕ = o .first + (k + u - o .lag) in
-        at-place u d (place-slot o k u h a) (λ y. omega arith)
+        subst T (day-is-place o w k u d (place-slot o k u h a) (λ y. omega arith) (λ y. omega arith))
         (subst (λ (d : ℕ). T (dayFits o w (o .first + k) d)) (index-day d z) (each-day (indexOf d) (index-inside d z b))))
 
   pub days-walk : T (daysFit o w (o .first + k)) → T (all (ring o) (windowSlotFits o w k))
@@ -119,20 +129,6 @@ module _ (o : Terms) (w : List ℤ) (k : ℕ) (p : 1 ≤ o .horizon) where
   -- ---- From places to days
 
   module _ (t : T (all (ring o) (windowSlotFits o w k))) where
-    by-cases : (a b c d : Bool) → T (not a) → T (not b) → T (cond (a || b) c d) → T d
-    by-cases true b c d x y z = absurd x
-    by-cases false true c d x y z = absurd y
-    by-cases false false c d x y z = z
-
-    day-fits : (d : ℕ) → InWindow o k d → d ≤ lastDay → T (dayFits o w (o .first + k) d)
-    unfolding windowSlotFits
-    day-fits d h l =
-        let z = day-place o k d h in
-        at-day (placeOf o k d) d (z .slot-is) (z .open-is .1)
-        (by-cases (ltb (k + placeOf o k d) (o .lag)) (ltb lastDay (o .first + (k + placeOf o k d - o .lag))) _ _
-        (not-ltb (k + placeOf o k d) (o .lag) (z .late)) (not-ltb lastDay (o .first + (k + placeOf o k d - o .lag)) (rw (z .back) l))
-        (all-at (ring o) (windowSlotFits o w k) t (placeOf o k d) (z .inside)))
-
     slot-fits : (v : ℕ) → v < ring o → T (isDated o (o .first + k) v || slotBlank o w v)
     unfolding windowSlotFits isDated
     slot-fits v h = subst (λ (x : ℕ). T (isDated o (o .first + k) x || slotBlank o w x)) (turned o ring-some k v h)
@@ -153,8 +149,7 @@ module _ (o : Terms) (w : List ℤ) (k : ℕ) (p : 1 ≤ o .horizon) where
             (subst (λ (y : ℕ). T (eqb y (windowSlot o k (windowPlace o k v)))) (place-slot o k (windowPlace o k v) inside a) (eqb-refl (windowSlot o k (windowPlace o k v)))))
 
         go : (b : Bool) → (ltb (k + windowPlace o k v) (o .lag) || ltb lastDay (o .first + (k + windowPlace o k v - o .lag))) ≡ b
-            → T (cond b (slotBlank o w (windowSlot o k (windowPlace o k v)))
-            (all 48 (intervalFits o w (windowSlot o k (windowPlace o k v))) && (not (ltb (windowPlace o k v) (o .lag)) || all 48 (closedRowsThere o w (windowSlot o k (windowPlace o k v))))))
+            → T (cond b (slotBlank o w (windowSlot o k (windowPlace o k v))) (datedFits o w (ltb (windowPlace o k v) (o .lag)) (windowSlot o k (windowPlace o k v))))
             → T (isDated o (o .first + k) (windowSlot o k (windowPlace o k v)) || slotBlank o w (windowSlot o k (windowPlace o k v)))
         go true e x = or-right (isDated o (o .first + k) (windowSlot o k (windowPlace o k v))) _ x
         go false e x =
@@ -166,7 +161,7 @@ module _ (o : Terms) (w : List ℤ) (k : ℕ) (p : 1 ≤ o .horizon) where
     pub walk-days : T (daysFit o w (o .first + k))
     unfolding daysFit
     walk-days = and-both (all (windowDays o (o .first + k)) (λ i. dayFits o w (o .first + k) (windowFrom o (o .first + k) + i))) (all (ring o) (λ v. isDated o (o .first + k) v || slotBlank o w v))
-        (all-yes (windowDays o (o .first + k)) (λ i. dayFits o w (o .first + k) (windowFrom o (o .first + k) + i)) (λ i h. day-fits (windowFrom o (o .first + k) + i) (window-day i h) (window-dated i h)))
+        (all-yes (windowDays o (o .first + k)) (λ i. dayFits o w (o .first + k) (windowFrom o (o .first + k) + i)) (λ i h. walk-day o w k t (windowFrom o (o .first + k) + i) (window-day i h) (window-dated i h)))
         (all-yes (ring o) (λ v. isDated o (o .first + k) v || slotBlank o w v) slot-fits)
 
   -- the two are one test

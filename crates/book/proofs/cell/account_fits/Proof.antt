@@ -1,9 +1,8 @@
 -- `account_fits` meets its contract: each return is the first test that fails, or the last one.
 use borrow.Author.Needs.{needs}
 use Rattle.integer.specs.Below.{fold}
-use Rattle.rulebook.specs.WellFormed.{paddingZero}
+use Rattle.rulebook.specs.WellFormed.{paddingZero, accountFits}
 use Rattle.book.specs.laws.LoopLaws.{passed, left}
-use Rattle.book.specs.Parts.{accountFits}
 use Rattle.book.proofs.cell.account_fits.Statement.{statement}
 use Rattle.book.proofs.cell.account_fits.Tie as tie
 

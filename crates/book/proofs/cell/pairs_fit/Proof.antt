@@ -7,7 +7,7 @@ use lib.Signed.{ltZ}
 use Rattle.integer.specs.Words.{word}
 use Rattle.rulebook.specs.Units.{between}
 use Rattle.rulebook.specs.WellFormed.{isZero}
-use Rattle.book.specs.Parts.{pairs, pairsFit}
+use Rattle.book.specs.Parts.{rowPairs, pairsFit}
 use Rattle.book.specs.laws.LoopLaws.{passed, left}
 use Rattle.book.specs.laws.RowLaws.{absent-is, no-rest}
 use borrow.Author.Needs.{needs}
@@ -33,8 +33,8 @@ returns c = c .rest-zero .ensures ∙ sym (absent-is _ _ _ (sym (is-absent (c .b
 between-at-requires : tie.Need-between-at-requires
 between-at-requires c κs = search needs
 
-in-range : (c : tie.After-between-at) → c .between-at .result ≡ between (pos 0) (pos pairs) (word (c .before .before .before .args .cell .now) (c .before .before .before .args .flag + 0))
-in-range c = c .between-at .ensures ∙ ap (λ (i : ℕ). between (pos 0) (pos pairs) (word (c .before .before .before .args .cell .now) i)) (flag-first (c .before .before .before .args .flag))
+in-range : (c : tie.After-between-at) → c .between-at .result ≡ between (pos 0) (pos rowPairs) (word (c .before .before .before .args .cell .now) (c .before .before .before .args .flag + 0))
+in-range c = c .between-at .ensures ∙ ap (λ (i : ℕ). between (pos 0) (pos rowPairs) (word (c .before .before .before .args .cell .now) i)) (flag-first (c .before .before .before .args .flag))
 
 returns-2 : tie.Need-returns-2
 unfolding pairsFit

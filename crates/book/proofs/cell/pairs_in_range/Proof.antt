@@ -8,15 +8,15 @@ use Rattle.integer.specs.Below.{fold, all}
 use Rattle.integer.specs.Words.{word}
 use Rattle.rulebook.specs.Units.{inRange}
 use Rattle.book.specs.laws.LoopLaws.{all-step}
-use Rattle.book.specs.Parts.{pairs, pairsInRange}
+use Rattle.book.specs.Parts.{rowPairs, pairsInRange}
 use Rattle.book.proofs.cell.pairs_in_range.Statement.{statement}
 use Rattle.book.proofs.cell.pairs_in_range.Tie as tie
 
 abbrev Inv-loop : tie.InvT-loop
-Inv-loop cell flag first second ok₀ p₀ ok p = (p ≤ pairs) × (ok ≡ all p (λ q. inRange first (word cell (flag + (1 + 2 * q))) && inRange second (word cell (flag + (2 + 2 * q)))))
+Inv-loop cell flag first second ok₀ p₀ ok p = (p ≤ rowPairs) × (ok ≡ all p (λ q. inRange first (word cell (flag + (1 + 2 * q))) && inRange second (word cell (flag + (2 + 2 * q)))))
 
 abbrev μ-loop : tie.MeasureT-loop
-μ-loop cell flag first second ok₀ p₀ ok p = pairs - p
+μ-loop cell flag first second ok₀ p₀ ok p = rowPairs - p
 
 loop-holds : tie.Need-loop-holds Inv-loop μ-loop
 unfolding fold
@@ -49,7 +49,7 @@ loop-again c =
 
 returns : tie.Need-returns Inv-loop μ-loop
 unfolding pairsInRange
-returns c = let e : c .before .loop .p ≡ pairs = omega arith in rw e at (c .before .loop .inv .1)
+returns c = let e : c .before .loop .p ≡ rowPairs = omega arith in rw e at (c .before .loop .inv .1)
 
 pub pairs-in-range-spec : {M : Type 1} → statement M
 pairs-in-range-spec =

@@ -11,15 +11,15 @@ use Rattle.integer.specs.Bits.{holds-nat}
 use Rattle.integer.specs.Words.{word}
 use Rattle.rulebook.specs.WellFormed.{isZero}
 use Rattle.book.specs.laws.LoopLaws.{all-step}
-use Rattle.book.specs.Parts.{pairs, restZero}
+use Rattle.book.specs.Parts.{rowPairs, restZero}
 use Rattle.book.proofs.cell.rest_zero.Statement.{statement}
 use Rattle.book.proofs.cell.rest_zero.Tie as tie
 
 abbrev Inv-loop : tie.InvT-loop
-Inv-loop cell flag ok₀ p₀ ok p = (p ≤ pairs) × (ok ≡ all p (λ q. ltZ (pos q) (word cell (flag + 0)) || (isZero (word cell (flag + (1 + 2 * q))) && isZero (word cell (flag + (2 + 2 * q))))))
+Inv-loop cell flag ok₀ p₀ ok p = (p ≤ rowPairs) × (ok ≡ all p (λ q. ltZ (pos q) (word cell (flag + 0)) || (isZero (word cell (flag + (1 + 2 * q))) && isZero (word cell (flag + (2 + 2 * q))))))
 
 abbrev μ-loop : tie.MeasureT-loop
-μ-loop cell flag ok₀ p₀ ok p = pairs - p
+μ-loop cell flag ok₀ p₀ ok p = rowPairs - p
 
 loop-holds : tie.Need-loop-holds Inv-loop μ-loop
 unfolding fold
@@ -61,7 +61,7 @@ loop-again c =
 
 returns : tie.Need-returns Inv-loop μ-loop
 unfolding restZero
-returns c = let e : c .before .loop .p ≡ pairs = omega arith in rw e at (c .before .loop .inv .1)
+returns c = let e : c .before .loop .p ≡ rowPairs = omega arith in rw e at (c .before .loop .inv .1)
 
 pub rest-zero-spec : {M : Type 1} → statement M
 rest-zero-spec =

@@ -1,6 +1,6 @@
 -- `rows_there` meets its contract: two flags are read.
 use borrow.Author.Needs.{needs}
-use Rattle.book.specs.Parts.{rowsThere}
+use Rattle.rulebook.specs.WellFormed.{rowsThere}
 use Rattle.book.proofs.cell.rows_there.Statement.{statement}
 use Rattle.book.proofs.cell.rows_there.Tie as tie
 

@@ -1,19 +1,19 @@
 -- `accounts_fit` meets its contract: each turn is one account more.
-use mathlib.Core.Path.{_≡_, ap, _∙_}
+use mathlib.Core.Path.{_≡_, _∙_}
 use Prim.Native.Nat.{_+_, _-_, _*_, _≤_}
 use native.Mathlib.Omega.{arith}
 use borrow.Author.Needs.{needs}
 use Rattle.integer.specs.Below.{fold, all}
-use Rattle.integer.specs.Words.{part}
-use Rattle.integer.specs.laws.WordsLaws.{lent}
-use Rattle.rulebook.specs.Layout.{intervalWords, accountWords}
+use Rattle.integer.specs.Words.{word}
+use Rattle.rulebook.specs.Layout.{intervalWords, accountWords, accountPlace}
+use Rattle.rulebook.specs.WellFormed.{accountFits}
 use Rattle.book.specs.laws.LoopLaws.{all-step, length-lent}
-use Rattle.book.specs.Parts.{accountFits, accountsFit}
+use Rattle.book.specs.laws.SlotLaws.{account-lent}
 use Rattle.book.proofs.interval.accounts_fit.Statement.{statement}
 use Rattle.book.proofs.interval.accounts_fit.Tie as tie
 
 abbrev Inv-loop : tie.InvT-loop
-Inv-loop interval n closed ok₀ a₀ ok a = (a ≤ n) × (ok ≡ all a (λ a. accountFits closed (part interval (intervalWords + a * accountWords) accountWords)))
+Inv-loop interval n closed ok₀ a₀ ok a = (a ≤ n) × (ok ≡ all a (λ a. accountFits closed (λ q. word interval (accountPlace a q))))
 
 abbrev μ-loop : tie.MeasureT-loop
 μ-loop interval n closed ok₀ a₀ ok a = n - a
@@ -56,10 +56,9 @@ loop-again : tie.Need-loop-again Inv-loop μ-loop
 loop-again c =
     let s = c .before .before .before .before .args in
     let l = c .before .before .before .loop in
-    (omega arith, all-step (l .a) _ (l .inv .1) (c .account-fits .ensures ∙ ap (accountFits (s .closed)) (lent _ (intervalWords + l .a * accountWords) accountWords)))
+    (omega arith, all-step (l .a) _ (l .inv .1) (c .account-fits .ensures ∙ account-lent (s .closed) (s .interval .now) (l .a)))
 
 returns : tie.Need-returns Inv-loop μ-loop
-unfolding accountsFit
 returns c = let e : c .before .loop .a ≡ c .before .before .args .n = omega arith in rw e at (c .before .loop .inv .1)
 
 pub accounts-fit-spec : {M : Type 1} → statement M

@@ -1,6 +1,6 @@
 -- `interval_fits` meets its contract: the interval's own words, and each account's.
 use borrow.Author.Needs.{needs}
-use Rattle.book.specs.Parts.{intervalFits}
+use Rattle.rulebook.specs.WellFormed.{intervalFits}
 use Rattle.book.proofs.interval.interval_fits.Statement.{statement}
 use Rattle.book.proofs.interval.interval_fits.Tie as tie
 

@@ -9,22 +9,24 @@ use borrow.Author.Needs.{needs}
 use lib.IntN.{ℤ}
 use lib.ListN.{take, drop}
 use Rattle.integer.specs.Below.{fold, all}
-use Rattle.integer.specs.laws.WordsLaws.{row-fits, lent}
-use Rattle.integer.specs.Words.{part}
+use Rattle.integer.specs.laws.WordsLaws.{row-fits}
+use Rattle.integer.specs.Words.{word}
 use Rattle.rulebook.specs.Units.{intervals}
 use Rattle.rulebook.specs.Layout.{intervalLength}
+use Rattle.rulebook.specs.WellFormed.{intervalFits}
 use Rattle.book.specs.laws.LoopLaws.{all-step, length-lent}
-use Rattle.book.specs.Parts.{intervalFits, intervalsFit}
+use Rattle.book.specs.laws.SlotLaws.{interval-lent}
+use Rattle.book.specs.Parts.{intervalsFit}
 use Rattle.book.proofs.slots.intervals_fit.Statement.{statement}
 use Rattle.book.proofs.slots.intervals_fit.Tie as tie
 
 -- what `interval_fits` answered, of interval h
-interval-told : (n : ℕ) (closed : Bool) (xs : List ℤ) (h size : ℕ) {r : Bool} → r ≡ intervalFits n closed (take (h * size + size - h * size) (drop (h * size) xs)) → size ≡ intervalLength n
-    → r ≡ intervalFits n closed (part xs (h * intervalLength n) (intervalLength n))
-interval-told n closed xs h size e f = e ∙ ap (intervalFits n closed) (lent xs (h * size) size) ∙ ap (λ (s : ℕ). intervalFits n closed (part xs (h * s) s)) f
+interval-told : (n : ℕ) (closed : Bool) (xs : List ℤ) (h size : ℕ) {r : Bool} → r ≡ intervalFits n closed (word (take (h * size + size - h * size) (drop (h * size) xs))) → size ≡ intervalLength n
+    → r ≡ intervalFits n closed (λ m. word xs (h * intervalLength n + m))
+interval-told n closed xs h size e f = e ∙ ap (λ (s : ℕ). intervalFits n closed (word (take (h * s + s - h * s) (drop (h * s) xs)))) f ∙ interval-lent n closed xs h
 
 abbrev Inv-loop : tie.InvT-loop
-Inv-loop slot n closed size ok₀ h₀ ok h = (size ≡ intervalLength n) × (h ≤ intervals) × (ok ≡ all h (λ h. intervalFits n closed (part slot (h * intervalLength n) (intervalLength n))))
+Inv-loop slot n closed size ok₀ h₀ ok h = (size ≡ intervalLength n) × (h ≤ intervals) × (ok ≡ all h (λ h. intervalFits n closed (λ m. word slot (h * intervalLength n + m))))
 
 abbrev μ-loop : tie.MeasureT-loop
 μ-loop slot n closed size ok₀ h₀ ok h = intervals - h
