@@ -7,19 +7,19 @@ use Prim.Native.Nat.{ℕ, _+_, _*_, _<_}
 use native.Mathlib.Omega.{arith}
 use lib.Dec.{T, ltb, ltb→lt, lt→ltb}
 use lib.IntN.{ℤ, pos}
-use lib.ListN.{length, getD}
 use Rattle.integer.specs.Below.{fold}
 use Rattle.rulebook.specs.declared.Section.{Section}
 use Rattle.rulebook.specs.declared.Section.the-variants.{Vesting, Meter, Residual, Ncc}
 use Rattle.rulebook.specs.declared.Terms.{Terms}
 use Rattle.rulebook.specs.Sections.{accountsOf}
-use Rattle.rulebook.specs.Layout.{padding, isPadding, accountTable, intervalTable, accountPlace, place, base, intervalSize, slot, intervalWord}
+use Rattle.rulebook.specs.Layout.{accountTable, intervalTable, accountPlace, place, base, intervalSize, slot, intervalWord}
 use Rattle.rulebook.specs.WellFormed.{isZero, rowFits, paddingZero, rowOf, rowsThere, accountFits, nccFits, intervalFits, intervalBlank, slotBlank, datedFits, dayFits}
 use Rattle.rulebook.specs.FormedBook.{IntervalFormed, slotWord, DayFormed, DaysFormed}
+use Rattle.rulebook.specs.Ledger.{Padding, ofInterval, ofAccount}
 use Rattle.rulebook.specs.laws.TestLaws.{and-both, all-yes, all-at}
 use Rattle.rulebook.specs.laws.WindowLaws.{DaysFit}
 use Rattle.rulebook.specs.laws.IndexLaws.{place-run}
-use Rattle.rulebook.specs.laws.FitsLaws.{row-same, padding-zero, account-padding, account-yes, interval-yes, interval-own, interval-account, interval-row, interval-there}
+use Rattle.rulebook.specs.laws.FitsLaws.{row-same, account-yes, interval-yes, interval-own, interval-padding, interval-row, interval-there}
 use Rattle.rulebook.specs.laws.SlotLaws.{is-zero}
 use Rattle.rulebook.specs.laws.FormLaws.{zero-yes}
 use Rattle.rulebook.specs.laws.RowFormedLaws.{vesting-says, meter-says, says-vesting, says-meter, residual-says, says-residual, ncc-says, says-ncc}
@@ -63,15 +63,15 @@ module _ (n : ℕ) (closed : Bool) (f : ℕ → ℤ) where
     interval-says : IntervalFormed n f
     interval-says = record {
       ncc = ncc-says f (subst T ncc-words (interval-own n closed f t .1));
-      padding = (is-zero (f 2) (zeros 2 (omega arith) tt), is-zero (f 3) (zeros 3 (omega arith) tt));
+      padding = (zeros 2 (ofInterval 2 (omega arith) tt), zeros 3 (ofInterval 3 (omega arith) tt));
       vesting = λ a h. vesting-says (λ j. f (4 + 24 * a + j)) (row-at Vesting a (4 + 24 * a) (omega arith) h);
       meter = λ a h. meter-says (λ j. f (13 + 24 * a + j)) (row-at Meter a (13 + 24 * a) (omega arith) h);
       residual = λ a h. residual-says (λ j. f (22 + 24 * a + j)) (row-at Residual a (22 + 24 * a) (omega arith) h);
-      last = λ a h. sym (last-word a) ∙ is-zero (f (accountPlace a 23)) (padding-zero accountTable (λ q. f (accountPlace a q)) (account-padding closed (λ q. f (accountPlace a q)) (interval-account n closed f t a h)) 23 (omega arith) tt);
+      last = λ a h. sym (last-word a) ∙ zeros (accountPlace a 23) (ofAccount a 23 h (omega arith) tt);
     }
       where
-        zeros : (q : ℕ) → q < length intervalTable → T (isPadding (getD intervalTable q padding)) → T (isZero (f q))
-        zeros = padding-zero intervalTable f (interval-own n closed f t .0)
+        zeros : (m : ℕ) → Padding n m → f m ≡ pos 0
+        zeros m x = is-zero (f m) (interval-padding n closed f t m x)
 
     closed-says : T closed → (a : ℕ) → a < n → (f (4 + 24 * a) ≢ pos 0) × (f (13 + 24 * a) ≢ pos 0)
     closed-says c a h =
@@ -108,7 +108,7 @@ module _ (n : ℕ) (closed : Bool) (f : ℕ → ℤ) where
 -- ---- Days
 
 module _ (o : Terms) (w : List ℤ) where
-  -- the words by document 01's figures are those of the layout
+  -- `slotWord` has the index of `intervalAt` in document 01's figures
   pub day-says : (C d : ℕ) → T (dayFits o w C d) → DayFormed o w C d
   unfolding dayFits datedFits intervalWord base intervalSize
   day-says C d x =

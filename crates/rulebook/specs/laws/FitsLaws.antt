@@ -11,7 +11,7 @@ use Rattle.integer.specs.Below.{all, any}
 use Rattle.rulebook.specs.declared.Section.{Section}
 use Rattle.rulebook.specs.declared.Section.the-variants.{Vesting, Meter, Residual, Ncc}
 use Rattle.rulebook.specs.Sections.{accountsOf, mostCount}
-use Rattle.rulebook.specs.Layout.{Word, padding, isPadding, intervalTable, accountTable, tableOf, accountWords, accountPlace, intervalLength, width, wordName, tablePlace, flagIndex, place}
+use Rattle.rulebook.specs.Layout.{Word, padding, isPadding, intervalTable, accountTable, tableOf, accountWords, accountPlace, intervalLength, width, wordName, tablePlace, flagIndex, flagAt, place}
 use Rattle.rulebook.specs.WellFormed.{isZero, rowBlank, wordFits, rowCounts, rowFits, paddingZero, rowOf, rowsThere, accountFits, nccFits, intervalFits}
 use Rattle.rulebook.specs.Ledger.{Padding, ofInterval, ofAccount}
 use Rattle.rulebook.specs.laws.TestLaws.{and-left, and-right, and-both, all-same, any-same, all-yes, all-at}
@@ -39,7 +39,7 @@ module _ (closed : Bool) (f g : ℕ → ℤ) (same : (q : ℕ) → q < accountWo
 
   pub account-same : accountFits closed f ≡ accountFits closed g
   unfolding accountFits rowsThere
-  account-same = rw (padding-same accountTable f g same, row-alike Vesting refl, row-alike Meter refl, row-alike Residual refl, same 0 (omega arith), same 9 (omega arith))
+  account-same = rw (padding-same accountTable f g same, row-alike Vesting refl, row-alike Meter refl, row-alike Residual refl, same (flagAt Vesting) (omega arith), same (flagAt Meter) (omega arith))
 
 module _ (n : ℕ) (closed : Bool) (f g : ℕ → ℤ) (same : (m : ℕ) → m < intervalLength n → f m ≡ g m) where
   ncc-alike : nccFits f ≡ nccFits g
@@ -58,7 +58,7 @@ module _ (n : ℕ) (closed : Bool) (f g : ℕ → ℤ) (same : (m : ℕ) → m <
 
 -- ---- A table's padding
 
-pub padding-zero : (table : List Word) (f : ℕ → ℤ) → T (paddingZero table f) → (q : ℕ) → q < length table → T (isPadding (getD table q padding)) → T (isZero (f q))
+padding-zero : (table : List Word) (f : ℕ → ℤ) → T (paddingZero table f) → (q : ℕ) → q < length table → T (isPadding (getD table q padding)) → T (isZero (f q))
 unfolding paddingZero
 padding-zero table f t q hq x = go (isPadding (getD table q padding)) x (all-at (length table) (λ q. not (isPadding (getD table q padding)) || isZero (f q)) t q hq)
   where
@@ -77,11 +77,11 @@ padding-yes table f h = all-yes (length table) (λ q. not (isPadding (getD table
 -- ---- An account's words
 
 module _ (closed : Bool) (f : ℕ → ℤ) where
-  pub account-padding : T (accountFits closed f) → T (paddingZero accountTable f)
+  account-padding : T (accountFits closed f) → T (paddingZero accountTable f)
   unfolding accountFits
   account-padding t = search (and-left, and-right)
 
-  pub account-rows : T (accountFits closed f) → T (rowFits Vesting (rowOf f Vesting)) × T (rowFits Meter (rowOf f Meter)) × T (rowFits Residual (rowOf f Residual))
+  account-rows : T (accountFits closed f) → T (rowFits Vesting (rowOf f Vesting)) × T (rowFits Meter (rowOf f Meter)) × T (rowFits Residual (rowOf f Residual))
   unfolding accountFits
   account-rows t = (search (and-left, and-right), search (and-left, and-right), search (and-left, and-right))
 
@@ -95,9 +95,11 @@ module _ (closed : Bool) (f : ℕ → ℤ) where
   account-yes p v m r h = let c = not-or closed (rowsThere f) h in search and-both depth 6
 
 -- both flags, of a closed day
-pub account-there : (f : ℕ → ℤ) (closed : Bool) → T closed → T (accountFits closed f) → T (not (isZero (f 0))) × T (not (isZero (f 9)))
+account-there : (f : ℕ → ℤ) (closed : Bool) → T closed → T (accountFits closed f) → T (not (isZero (f (flagAt Vesting)))) × T (not (isZero (f (flagAt Meter))))
 unfolding rowsThere
-account-there f true c t = let x : T (rowsThere f) = account-closed true f t in (and-left (not (isZero (f 0))) (not (isZero (f 9))) x, and-right (not (isZero (f 0))) (not (isZero (f 9))) x)
+account-there f true c t =
+    let x : T (rowsThere f) = account-closed true f t in
+    (and-left (not (isZero (f (flagAt Vesting)))) (not (isZero (f (flagAt Meter)))) x, and-right (not (isZero (f (flagAt Vesting)))) (not (isZero (f (flagAt Meter)))) x)
 account-there f false c t = absurd c
 
 -- ---- An interval's words
@@ -112,7 +114,7 @@ module _ (n : ℕ) (closed : Bool) (f : ℕ → ℤ) where
     unfolding intervalFits nccFits
     interval-own = (search (and-left, and-right), search (and-left, and-right))
 
-    pub interval-account : (a : ℕ) → a < n → T (accountFits closed (λ q. f (accountPlace a q)))
+    interval-account : (a : ℕ) → a < n → T (accountFits closed (λ q. f (accountPlace a q)))
     unfolding intervalFits
     interval-account = all-at n (λ a. accountFits closed (λ q. f (accountPlace a q))) (and-right (nccFits f) (all n (λ a. accountFits closed (λ q. f (accountPlace a q)))) t)
 
