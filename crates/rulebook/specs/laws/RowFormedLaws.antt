@@ -1,15 +1,15 @@
 -- A row passes its test exactly if its words are well formed in document 01's figures. Assumes nothing.
-use mathlib.Core.Path.{_≡_, sym, ap, subst}
+use mathlib.Core.Path.{_≡_, sym, ap, _∙_, subst}
 use mathlib.Core.Logic.{_⊎_, inl, inr, ⊎-elim}
 use mathlib.Core.Bool.{Bool, true, false, cond, _&&_}
-use Prim.Native.Nat.{ℕ, zero, suc, _+_, _*_, _≤_, _<_}
+use Prim.Native.Nat.{ℕ, zero, suc, _+_, _*_, _/_, _%_, _≤_, _<_}
 use native.Mathlib.Omega.{arith}
 use borrow.Author.Tests.{lt-ltb, le-ltb}
-use lib.Dec.{T, leb, ltb, le→leb}
+use lib.Dec.{T, leb, ltb, eqb, le→leb}
 use lib.IntN.{ℤ, pos}
 use lib.Signed.{leZ}
 use Rattle.integer.specs.Integer.{minus}
-use Rattle.integer.specs.Below.{all, any}
+use Rattle.integer.specs.Below.{fold, all, any}
 use Rattle.integer.specs.laws.BelowLaws.{lt-or-le}
 use Rattle.rulebook.specs.declared.Section.{Section}
 use Rattle.rulebook.specs.declared.Section.the-variants.{Vesting, Meter, Residual, Ncc}
@@ -22,7 +22,7 @@ use Rattle.rulebook.specs.laws.TestLaws.{and-left, and-right, and-both, 
 use Rattle.rulebook.specs.laws.KeptLaws.{absent-fits}
 use Rattle.rulebook.specs.laws.SlotLaws.{is-zero, is-number, fit-words}
 use Rattle.rulebook.specs.laws.FormLaws.{zero-yes}
-use Rattle.rulebook.specs.laws.RowFlagLaws.{wordFlagged, rowFlagged, natural, row-by-flag}
+use Rattle.rulebook.specs.laws.RowFlagLaws.{rowFlagged, natural, row-by-flag}
 
 -- ---- Ranges
 
@@ -47,39 +47,78 @@ there-or-zero p n x z t = ((λ h. go (ltb p n) (lt-ltb p n h) t), (λ h. is-zero
 passes-there : (p n : ℕ) (x : Bool) (z : ℤ) → (p < n → T x) → (n ≤ p → z ≡ pos 0) → T (cond (ltb p n) x (isZero z))
 passes-there p n x z f g = ⊎-elim (λ h. rw (lt-ltb p n h) (f h)) (λ h. rw (le-ltb p n h) (zero-yes (g h))) (lt-or-le p n)
 
--- the tests of four pairs, v of them there
-PairTests : (ℤ → Bool) → (ℤ → Bool) → ℕ → (ℕ → ℤ) → Type 0
-PairTests p q v f = (k : ℕ) → k < 4
-    → T (cond (ltb (2 * k) (2 * v)) (p (f (1 + 2 * k))) (isZero (f (1 + 2 * k)))) × T (cond (ltb (1 + 2 * k) (2 * v)) (q (f (2 + 2 * k))) (isZero (f (2 + 2 * k))))
+-- word j of a row that is a flag and four pairs, n of their figures there: p tests the first of a pair, q the second
+abbrev pairWord : (ℤ → Bool) → (ℤ → Bool) → ℕ → ℕ → ℤ → Bool
+pairWord p q n zero z = true
+pairWord p q n (suc j) z = cond (ltb j n) (cond (eqb (j % 2) 0) (p z) (q z)) (isZero z)
+
+-- such a row, the first of a pair from a to b, the second from c to d, as many pairs as the flag says
+unfoldable pairRow : ℤ → ℤ → ℤ → ℤ → (ℕ → ℤ) → Bool
+pairRow a b c d f = between (pos 0) (pos 4) (f 0) && all 9 (λ j. pairWord (between a b) (between c d) (2 * positive (f 0)) j (f j))
+
+-- the first of a pair, or the second
+half : (j : ℕ) → ((k : ℕ) × (j ≡ 2 * k)) ⊎ ((k : ℕ) × (j ≡ 1 + 2 * k))
+half j = ⊎-elim (λ h. inl (j / 2, omega arith)) (λ h. inr (j / 2, omega arith)) (lt-or-le (j % 2) 1)
 
 module _ (a b c d : ℤ) (f : ℕ → ℤ) where
-  pairs-say : (v : ℕ) → f 0 ≡ pos v → v ≤ 4 → PairTests (between a b) (between c d) v f → PairsFormed (Within a b) (Within c d) f
-  unfolding PairTests
-  pairs-say v e l t = record {
-    count = v;
-    flag = e;
-    few = l;
-    there = λ k h.
-        let x = t k (omega arith) in (
-          within a b (f (1 + 2 * k)) (there-or-zero (2 * k) (2 * v) (between a b (f (1 + 2 * k))) (f (1 + 2 * k)) (x .0) .0 (omega arith)),
-          within c d (f (2 + 2 * k)) (there-or-zero (1 + 2 * k) (2 * v) (between c d (f (2 + 2 * k))) (f (2 + 2 * k)) (x .1) .0 (omega arith)),
-        );
-    zeros = λ k h u.
-        let x = t k u in (
-          there-or-zero (2 * k) (2 * v) (between a b (f (1 + 2 * k))) (f (1 + 2 * k)) (x .0) .1 (omega arith),
-          there-or-zero (1 + 2 * k) (2 * v) (between c d (f (2 + 2 * k))) (f (2 + 2 * k)) (x .1) .1 (omega arith),
-        );
-  }
+  abbrev test : ℕ → ℤ → Bool
+  test = pairWord (between a b) (between c d) (2 * positive (f 0))
 
-  say-pairs : (h : PairsFormed (Within a b) (Within c d) f) → PairTests (between a b) (between c d) (positive (f 0)) f
-  unfolding PairTests
-  say-pairs h k u =
-      let e : positive (f 0) ≡ h .count = ap positive (h .flag) in (
-        passes-there (2 * k) (2 * positive (f 0)) (between a b (f (1 + 2 * k))) (f (1 + 2 * k))
-            (λ x. in-between a b (f (1 + 2 * k)) (h .there k (omega arith) .0)) (λ x. h .zeros k (omega arith) u .0),
-        passes-there (1 + 2 * k) (2 * positive (f 0)) (between c d (f (2 + 2 * k))) (f (2 + 2 * k))
-            (λ x. in-between c d (f (2 + 2 * k)) (h .there k (omega arith) .1)) (λ x. h .zeros k (omega arith) u .1),
-      )
+  first-is : (k : ℕ) (z : ℤ) → test (1 + 2 * k) z ≡ cond (ltb (2 * k) (2 * positive (f 0))) (between a b z) (isZero z)
+  first-is k z =
+      let i : 1 + 2 * k ≡ suc (2 * k) = omega arith in
+      let e : 2 * k % 2 ≡ 0 = omega arith in
+      ap (λ (j : ℕ). test j z) i ∙ ap (λ (m : ℕ). cond (ltb (2 * k) (2 * positive (f 0))) (cond (eqb m 0) (between a b z) (between c d z)) (isZero z)) e
+
+  second-is : (k : ℕ) (z : ℤ) → test (2 + 2 * k) z ≡ cond (ltb (1 + 2 * k) (2 * positive (f 0))) (between c d z) (isZero z)
+  second-is k z =
+      let i : 2 + 2 * k ≡ suc (1 + 2 * k) = omega arith in
+      let e : (1 + 2 * k) % 2 ≡ 1 = omega arith in
+      ap (λ (j : ℕ). test j z) i ∙ ap (λ (m : ℕ). cond (ltb (1 + 2 * k) (2 * positive (f 0))) (cond (eqb m 0) (between a b z) (between c d z)) (isZero z)) e
+
+  pairs-say : T (pairRow a b c d f) → PairsFormed (Within a b) (Within c d) f
+  unfolding pairRow
+  pairs-say t = record {
+    count = positive (f 0);
+    flag = v .0;
+    few = v .1;
+    there = λ k h. (within a b (f (1 + 2 * k)) (first k (omega (arith, v .1)) .0 (omega arith)), within c d (f (2 + 2 * k)) (second k (omega (arith, v .1)) .0 (omega arith)));
+    zeros = λ k h u. (first k u .1 (omega arith), second k u .1 (omega arith));
+  }
+    where
+      v : (f 0 ≡ pos (positive (f 0))) × (positive (f 0) ≤ 4)
+      v = natural 4 (f 0) (and-left (between (pos 0) (pos 4) (f 0)) (all 9 (λ j. test j (f j))) t)
+
+      words : (j : ℕ) → j < 9 → T (test j (f j))
+      words = all-at 9 (λ j. test j (f j)) (and-right (between (pos 0) (pos 4) (f 0)) (all 9 (λ j. test j (f j))) t)
+
+      first : (k : ℕ) → k < 4 → (2 * k < 2 * positive (f 0) → T (between a b (f (1 + 2 * k)))) × (2 * positive (f 0) ≤ 2 * k → f (1 + 2 * k) ≡ pos 0)
+      first k u = there-or-zero (2 * k) (2 * positive (f 0)) (between a b (f (1 + 2 * k))) (f (1 + 2 * k)) (subst T (first-is k (f (1 + 2 * k))) (words (1 + 2 * k) (omega arith)))
+
+      second : (k : ℕ) → k < 4 → (1 + 2 * k < 2 * positive (f 0) → T (between c d (f (2 + 2 * k)))) × (2 * positive (f 0) ≤ 1 + 2 * k → f (2 + 2 * k) ≡ pos 0)
+      second k u = there-or-zero (1 + 2 * k) (2 * positive (f 0)) (between c d (f (2 + 2 * k))) (f (2 + 2 * k)) (subst T (second-is k (f (2 + 2 * k))) (words (2 + 2 * k) (omega arith)))
+
+  say-pairs : PairsFormed (Within a b) (Within c d) f → T (pairRow a b c d f)
+  unfolding pairRow
+  say-pairs h = and-both (between (pos 0) (pos 4) (f 0)) (all 9 (λ j. test j (f j))) (rw (h .flag) (between-yes 0 4 (h .count) (omega arith) (h .few))) (all-yes 9 (λ j. test j (f j)) words)
+    where
+      v : positive (f 0) ≡ h .count
+      v = ap positive (h .flag)
+
+      first : (k : ℕ) → k < 4 → T (test (1 + 2 * k) (f (1 + 2 * k)))
+      first k u = rw (first-is k (f (1 + 2 * k))) (passes-there (2 * k) (2 * positive (f 0)) (between a b (f (1 + 2 * k))) (f (1 + 2 * k))
+          (λ x. in-between a b (f (1 + 2 * k)) (h .there k (omega (arith, v)) .0)) (λ x. h .zeros k (omega (arith, v)) u .0))
+
+      second : (k : ℕ) → k < 4 → T (test (2 + 2 * k) (f (2 + 2 * k)))
+      second k u = rw (second-is k (f (2 + 2 * k))) (passes-there (1 + 2 * k) (2 * positive (f 0)) (between c d (f (2 + 2 * k))) (f (2 + 2 * k))
+          (λ x. in-between c d (f (2 + 2 * k)) (h .there k (omega (arith, v)) .1)) (λ x. h .zeros k (omega (arith, v)) u .1))
+
+      words : (j : ℕ) → j < 9 → T (test j (f j))
+      words zero u = tt
+      words (suc j) u = ⊎-elim
+          (λ x. let e : 1 + 2 * x .0 ≡ suc j = omega (arith, x .1) in subst (λ (i : ℕ). T (test i (f i))) e (first (x .0) (omega (arith, x .1))))
+          (λ x. let e : 2 + 2 * x .0 ≡ suc j = omega (arith, x .1) in subst (λ (i : ℕ). T (test i (f i))) e (second (x .0) (omega (arith, x .1))))
+          (half j)
 
 -- ---- Rows
 
@@ -89,85 +128,25 @@ counted-fits s f c l m h = or-right (rowBlank s f) (any (suc (mostCount s)) (row
     (and-both (leb (leastCount s) c) (all (width s) (λ j. wordFits s c (wordName s j) (f j))) (le→leb (leastCount s) c l) (all-yes (width s) (λ j. wordFits s c (wordName s j) (f j)) h)))
 
 module _ (f : ℕ → ℤ) where
+  vesting-pairs : rowFits Vesting f ≡ pairRow (pos 0) (pos 10000000) (minus 1000000) (pos 1000000) f
+  unfolding rowFlagged pairRow fold
+  vesting-pairs = row-by-flag Vesting f
+
+  meter-pairs : rowFits Meter f ≡ pairRow (minus 1000000) (pos 1000000) (minus 10000000) (pos 10000000) f
+  unfolding rowFlagged pairRow fold
+  meter-pairs = row-by-flag Meter f
+
   pub vesting-says : T (rowFits Vesting f) → PairsFormed IsQuantity IsPrice f
-  unfolding rowFlagged PairTests
-  vesting-says t = pairs-say (pos 0) (pos 10000000) (minus 1000000) (pos 1000000) f (positive (f 0)) (n .0) (n .1) pairs
-    where
-      x : T (between (pos 0) (pos 4) (f 0) && all 9 (λ j. wordFlagged Vesting (positive (f 0)) (wordName Vesting j) (f j)))
-      x = subst T (row-by-flag Vesting f) t
-
-      n : (f 0 ≡ pos (positive (f 0))) × (positive (f 0) ≤ 4)
-      n = natural 4 (f 0) (and-left (between (pos 0) (pos 4) (f 0)) (all 9 (λ j. wordFlagged Vesting (positive (f 0)) (wordName Vesting j) (f j))) x)
-
-      q : (j : ℕ) → j < 9 → T (wordFlagged Vesting (positive (f 0)) (wordName Vesting j) (f j))
-      q = all-at 9 (λ j. wordFlagged Vesting (positive (f 0)) (wordName Vesting j) (f j)) (and-right (between (pos 0) (pos 4) (f 0)) (all 9 (λ j. wordFlagged Vesting (positive (f 0)) (wordName Vesting j) (f j))) x)
-
-      pairs : PairTests (between (pos 0) (pos 10000000)) (between (minus 1000000) (pos 1000000)) (positive (f 0)) f
-      pairs zero h = (q 1 (omega arith), q 2 (omega arith))
-      pairs (suc zero) h = (q 3 (omega arith), q 4 (omega arith))
-      pairs (suc (suc zero)) h = (q 5 (omega arith), q 6 (omega arith))
-      pairs (suc (suc (suc zero))) h = (q 7 (omega arith), q 8 (omega arith))
-      pairs (suc (suc (suc (suc k)))) h = absurd (omega arith)
+  vesting-says t = pairs-say (pos 0) (pos 10000000) (minus 1000000) (pos 1000000) f (subst T vesting-pairs t)
 
   pub meter-says : T (rowFits Meter f) → PairsFormed IsPrice IsInjection f
-  unfolding rowFlagged PairTests
-  meter-says t = pairs-say (minus 1000000) (pos 1000000) (minus 10000000) (pos 10000000) f (positive (f 0)) (n .0) (n .1) pairs
-    where
-      x : T (between (pos 0) (pos 4) (f 0) && all 9 (λ j. wordFlagged Meter (positive (f 0)) (wordName Meter j) (f j)))
-      x = subst T (row-by-flag Meter f) t
-
-      n : (f 0 ≡ pos (positive (f 0))) × (positive (f 0) ≤ 4)
-      n = natural 4 (f 0) (and-left (between (pos 0) (pos 4) (f 0)) (all 9 (λ j. wordFlagged Meter (positive (f 0)) (wordName Meter j) (f j))) x)
-
-      q : (j : ℕ) → j < 9 → T (wordFlagged Meter (positive (f 0)) (wordName Meter j) (f j))
-      q = all-at 9 (λ j. wordFlagged Meter (positive (f 0)) (wordName Meter j) (f j)) (and-right (between (pos 0) (pos 4) (f 0)) (all 9 (λ j. wordFlagged Meter (positive (f 0)) (wordName Meter j) (f j))) x)
-
-      pairs : PairTests (between (minus 1000000) (pos 1000000)) (between (minus 10000000) (pos 10000000)) (positive (f 0)) f
-      pairs zero h = (q 1 (omega arith), q 2 (omega arith))
-      pairs (suc zero) h = (q 3 (omega arith), q 4 (omega arith))
-      pairs (suc (suc zero)) h = (q 5 (omega arith), q 6 (omega arith))
-      pairs (suc (suc (suc zero))) h = (q 7 (omega arith), q 8 (omega arith))
-      pairs (suc (suc (suc (suc k)))) h = absurd (omega arith)
+  meter-says t = pairs-say (minus 1000000) (pos 1000000) (minus 10000000) (pos 10000000) f (subst T meter-pairs t)
 
   pub says-vesting : PairsFormed IsQuantity IsPrice f → T (rowFits Vesting f)
-  unfolding rowFlagged PairTests
-  says-vesting h = subst T (sym (row-by-flag Vesting f)) (and-both (between (pos 0) (pos 4) (f 0)) (all 9 (λ j. wordFlagged Vesting (positive (f 0)) (wordName Vesting j) (f j)))
-      (rw (h .flag) (between-yes 0 4 (h .count) (omega arith) (h .few))) (all-yes 9 (λ j. wordFlagged Vesting (positive (f 0)) (wordName Vesting j) (f j)) words))
-    where
-      p : PairTests (between (pos 0) (pos 10000000)) (between (minus 1000000) (pos 1000000)) (positive (f 0)) f
-      p = say-pairs (pos 0) (pos 10000000) (minus 1000000) (pos 1000000) f h
-
-      words : (j : ℕ) → j < 9 → T (wordFlagged Vesting (positive (f 0)) (wordName Vesting j) (f j))
-      words zero u = tt
-      words (suc zero) u = p 0 (omega arith) .0
-      words (suc (suc zero)) u = p 0 (omega arith) .1
-      words (suc (suc (suc zero))) u = p 1 (omega arith) .0
-      words (suc (suc (suc (suc zero)))) u = p 1 (omega arith) .1
-      words (suc (suc (suc (suc (suc zero))))) u = p 2 (omega arith) .0
-      words (suc (suc (suc (suc (suc (suc zero)))))) u = p 2 (omega arith) .1
-      words (suc (suc (suc (suc (suc (suc (suc zero))))))) u = p 3 (omega arith) .0
-      words (suc (suc (suc (suc (suc (suc (suc (suc zero)))))))) u = p 3 (omega arith) .1
-      words (suc (suc (suc (suc (suc (suc (suc (suc (suc k))))))))) u = absurd (omega arith)
+  says-vesting h = subst T (sym vesting-pairs) (say-pairs (pos 0) (pos 10000000) (minus 1000000) (pos 1000000) f h)
 
   pub says-meter : PairsFormed IsPrice IsInjection f → T (rowFits Meter f)
-  unfolding rowFlagged PairTests
-  says-meter h = subst T (sym (row-by-flag Meter f)) (and-both (between (pos 0) (pos 4) (f 0)) (all 9 (λ j. wordFlagged Meter (positive (f 0)) (wordName Meter j) (f j)))
-      (rw (h .flag) (between-yes 0 4 (h .count) (omega arith) (h .few))) (all-yes 9 (λ j. wordFlagged Meter (positive (f 0)) (wordName Meter j) (f j)) words))
-    where
-      p : PairTests (between (minus 1000000) (pos 1000000)) (between (minus 10000000) (pos 10000000)) (positive (f 0)) f
-      p = say-pairs (minus 1000000) (pos 1000000) (minus 10000000) (pos 10000000) f h
-
-      words : (j : ℕ) → j < 9 → T (wordFlagged Meter (positive (f 0)) (wordName Meter j) (f j))
-      words zero u = tt
-      words (suc zero) u = p 0 (omega arith) .0
-      words (suc (suc zero)) u = p 0 (omega arith) .1
-      words (suc (suc (suc zero))) u = p 1 (omega arith) .0
-      words (suc (suc (suc (suc zero)))) u = p 1 (omega arith) .1
-      words (suc (suc (suc (suc (suc zero))))) u = p 2 (omega arith) .0
-      words (suc (suc (suc (suc (suc (suc zero)))))) u = p 2 (omega arith) .1
-      words (suc (suc (suc (suc (suc (suc (suc zero))))))) u = p 3 (omega arith) .0
-      words (suc (suc (suc (suc (suc (suc (suc (suc zero)))))))) u = p 3 (omega arith) .1
-      words (suc (suc (suc (suc (suc (suc (suc (suc (suc k))))))))) u = absurd (omega arith)
+  says-meter h = subst T (sym meter-pairs) (say-pairs (minus 1000000) (pos 1000000) (minus 10000000) (pos 10000000) f h)
 
   pub residual-says : T (rowFits Residual f) → ResidualFormed f
   residual-says t = go (fit-words Residual f t)
