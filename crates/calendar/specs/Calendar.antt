@@ -17,6 +17,10 @@ use Rattle.calendar.specs.declared.DateAnswer.{DateAnswer}
 use Rattle.calendar.specs.declared.DayAnswer.{DayAnswer}
 use Rattle.calendar.specs.declared.WeekdayAnswer.{WeekdayAnswer}
 use Rattle.calendar.specs.declared.BusinessAnswer.{BusinessAnswer}
+use Rattle.calendar.specs.declared.DateReturned.{DateReturned}
+use Rattle.calendar.specs.declared.DayReturned.{DayReturned}
+use Rattle.calendar.specs.declared.WeekdayReturned.{WeekdayReturned}
+use Rattle.calendar.specs.declared.BusinessReturned.{BusinessReturned}
 
 -- ---- Years and months
 
@@ -151,25 +155,6 @@ unfoldable pub dueDay : List ℤ → ℕ → ℕ → Found
 dueDay holidays year month = nthAfter (isBusinessDay holidays) 1 (dayOf (dueAfter year month))
 
 -- ---- What each call returns: number and figures; refused, every figure is 0
-
-pub record DateReturned : Type 0 where
-  pub number : ℕ
-  pub year : ℕ
-  pub month : ℕ
-  pub day : ℕ
-
-pub record DayReturned : Type 0 where
-  pub number : ℕ
-  pub day : ℕ
-
-pub record WeekdayReturned : Type 0 where
-  pub number : ℕ
-  pub weekday : ℕ
-
--- 1 is a business day
-pub record BusinessReturned : Type 0 where
-  pub number : ℕ
-  pub business : ℕ
 
 abbrev pub dateAccepted : Date → DateReturned
 dateAccepted date = record { number = accepted; year = date .year; month = date .month; day = date .day }

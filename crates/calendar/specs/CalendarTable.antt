@@ -8,7 +8,8 @@ use lib.ListN.{length}
 use lib.Signed.{_≤ℤ_}
 use Rattle.integer.specs.Integer.{positive}
 use Rattle.integer.specs.Words.{word}
-use Rattle.calendar.specs.Calendar.{daysInMonth, dayOf, dateGiven, dateOf, weekdayOf, isBusinessDay, daysAfter, dueAfter, dateAccepted, dateRefused, dayAccepted, dayRefused, weekdayAccepted, weekdayRefused, businessRefused, DayReturned, dateTold, dayTold, weekdayTold, statementTold, businessTold, finalStatementTold, residualDueTold}
+use Rattle.calendar.specs.declared.DayReturned.{DayReturned}
+use Rattle.calendar.specs.Calendar.{daysInMonth, dayOf, dateGiven, dateOf, weekdayOf, isBusinessDay, daysAfter, dueAfter, dateAccepted, dateRefused, dayAccepted, dayRefused, weekdayAccepted, weekdayRefused, businessRefused, dateTold, dayTold, weekdayTold, statementTold, businessTold, finalStatementTold, residualDueTold}
 use Rattle.calendar.specs.laws.CalendarLaws.{Ascending}
 
 -- ---- What is given

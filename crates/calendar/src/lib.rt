@@ -49,6 +49,36 @@ pub enum BusinessAnswer {
     BadHolidays,
 }
 
+// What the calls return: number and figures; refused, every figure is 0. Programs in other languages get it, hence C's layout.
+#[repr(C)]
+pub struct DateReturned {
+    pub number: u64,
+    pub year: u64,
+    pub month: u64,
+    pub day: u64,
+}
+
+// A day, in days since 1 January 2000.
+#[repr(C)]
+pub struct DayReturned {
+    pub number: u64,
+    pub day: u64,
+}
+
+// 0 is Saturday, 6 is Friday.
+#[repr(C)]
+pub struct WeekdayReturned {
+    pub number: u64,
+    pub weekday: u64,
+}
+
+// 1 for a business day, else 0.
+#[repr(C)]
+pub struct BusinessReturned {
+    pub number: u64,
+    pub business: u64,
+}
+
 // Day to date.
 pub fn date_of(day: i64) -> DateAnswer
     ensures { λ r. ⌜ dateReturned r ≡ dateTold day ⌝ }

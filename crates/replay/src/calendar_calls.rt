@@ -1,7 +1,7 @@
 // The calls of the trading calendar.
 use crate::input;
 use crate::output;
-use robijan::calendar_calls::Day;
+use calendar::DayReturned;
 use robijan::calendar_calls::robijan_business_day;
 use robijan::calendar_calls::robijan_date;
 use robijan::calendar_calls::robijan_day;
@@ -14,7 +14,7 @@ ghost use Rattle.replay.specs.Commands.{calendarCommand};
 
 const HOLIDAYS: usize = 1200;
 
-fn print_day(answer: Day) {
+fn print_day(answer: DayReturned) {
     output::figure(answer.number);
     output::figure(answer.day);
 }

@@ -8,6 +8,7 @@ use Rattle.rulebook.specs.Terms.{termsFit}
 use Rattle.rulebook.specs.Layout.{size}
 use Rattle.rulebook.specs.WellFormed.{wellFormed}
 use Rattle.rulebook.specs.Numbers.{accepted, outsideRange, notWellFormed}
+use Rattle.robijan.specs.declared.book_calls.BookSize.{BookSize}
 use Rattle.book.specs.declared.judge.Judged.{Judged}
 use Rattle.book.specs.declared.judge.Judged.the-variants.{WellFormed, IllFormed}
 
@@ -19,11 +20,6 @@ abbrev pub judgedNumber : Judged → ℕ
 judgedNumber (WellFormed o C) = accepted
 judgedNumber IllFormed = notWellFormed
 
--- the number, and the words that a book takes
-pub record SizeReturned : Type 0 where
-  pub number : ℕ
-  pub words : ℕ
-
--- terms outside their ranges are refused, as by an opening
-unfoldable pub sizeReturned : Terms → SizeReturned
+-- the number, and the words that a book takes; terms outside their ranges are refused, as by an opening
+unfoldable pub sizeReturned : Terms → BookSize
 sizeReturned o = cond (termsFit o) (record { number = accepted; words = size o }) (record { number = outsideRange; words = 0 })

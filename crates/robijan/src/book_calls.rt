@@ -70,7 +70,7 @@ pub extern "C" fn robijan_judge(book: &[i64]) -> u64
 // The words that a book of these terms takes; terms that an opening refuses are refused as by it.
 #[no_mangle]
 pub extern "C" fn robijan_book_size(terms: Terms) -> BookSize
-    ensures { λ r. ⌜ record { number = r .number; words = r .words } ≡ sizeReturned terms ⌝ }
+    ensures { λ r. ⌜ r ≡ sizeReturned terms ⌝ }
 {
     if terms_fit(terms) {
         BookSize {

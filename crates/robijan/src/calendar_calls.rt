@@ -1,8 +1,12 @@
 // The trading calendar.
 use calendar::BusinessAnswer;
+use calendar::BusinessReturned;
 use calendar::DateAnswer;
+use calendar::DateReturned;
 use calendar::DayAnswer;
+use calendar::DayReturned;
 use calendar::WeekdayAnswer;
+use calendar::WeekdayReturned;
 use calendar::business_day;
 use calendar::date_of;
 use calendar::day_of;
@@ -14,47 +18,17 @@ ghost use mathlib.Core.Path.{_≡_};
 ghost use mathlib.Core.Bool.{cond};
 ghost use Rattle.calendar.specs.Calendar.{dateReturned, dateTold, dayRefused, dayReturned, dayTold, weekdayReturned, weekdayTold, statementTold, businessReturned, businessTold, finalStatementTold, residualDueTold};
 
-// The number of a call, and a date.
-#[repr(C)]
-pub struct Date {
-    pub number: u64,
-    pub year: u64,
-    pub month: u64,
-    pub day: u64,
-}
-
-// The number of a call, and a day, in days since 1 January 2000.
-#[repr(C)]
-pub struct Day {
-    pub number: u64,
-    pub day: u64,
-}
-
-// The number of a call, and a weekday: 0 is Saturday, 6 is Friday.
-#[repr(C)]
-pub struct Weekday {
-    pub number: u64,
-    pub weekday: u64,
-}
-
-// The number of a call, and 1 for a business day, else 0.
-#[repr(C)]
-pub struct Business {
-    pub number: u64,
-    pub business: u64,
-}
-
-fn of_date(answer: DateAnswer) -> Date
-    ensures { λ r. ⌜ record { number = r .number; year = r .year; month = r .month; day = r .day } ≡ dateReturned answer ⌝ }
+fn of_date(answer: DateAnswer) -> DateReturned
+    ensures { λ r. ⌜ r ≡ dateReturned answer ⌝ }
 {
     match answer {
-        DateAnswer::On(year, month, day) => Date {
+        DateAnswer::On(year, month, day) => DateReturned {
             number: answers::ACCEPTED,
             year: year as u64,
             month: month as u64,
             day: day as u64,
         },
-        DateAnswer::NoSuchDate => Date {
+        DateAnswer::NoSuchDate => DateReturned {
             number: answers::NO_SUCH_DATE,
             year: 0,
             month: 0,
@@ -63,20 +37,20 @@ fn of_date(answer: DateAnswer) -> Date
     }
 }
 
-fn refused_day(number: u64) -> Day
-    ensures { λ r. ⌜ record { number = r .number; day = r .day } ≡ dayRefused number ⌝ }
+fn refused_day(number: u64) -> DayReturned
+    ensures { λ r. ⌜ r ≡ dayRefused number ⌝ }
 {
-    Day {
+    DayReturned {
         number: number,
         day: 0,
     }
 }
 
-fn of_day(answer: DayAnswer) -> Day
-    ensures { λ r. ⌜ record { number = r .number; day = r .day } ≡ dayReturned answer ⌝ }
+fn of_day(answer: DayAnswer) -> DayReturned
+    ensures { λ r. ⌜ r ≡ dayReturned answer ⌝ }
 {
     match answer {
-        DayAnswer::On(day) => Day {
+        DayAnswer::On(day) => DayReturned {
             number: answers::ACCEPTED,
             day: day as u64,
         },
@@ -86,15 +60,15 @@ fn of_day(answer: DayAnswer) -> Day
     }
 }
 
-fn of_weekday(answer: WeekdayAnswer) -> Weekday
-    ensures { λ r. ⌜ record { number = r .number; weekday = r .weekday } ≡ weekdayReturned answer ⌝ }
+fn of_weekday(answer: WeekdayAnswer) -> WeekdayReturned
+    ensures { λ r. ⌜ r ≡ weekdayReturned answer ⌝ }
 {
     match answer {
-        WeekdayAnswer::On(weekday) => Weekday {
+        WeekdayAnswer::On(weekday) => WeekdayReturned {
             number: answers::ACCEPTED,
             weekday: weekday as u64,
         },
-        WeekdayAnswer::NoSuchDate => Weekday {
+        WeekdayAnswer::NoSuchDate => WeekdayReturned {
             number: answers::NO_SUCH_DATE,
             weekday: 0,
         },
@@ -107,19 +81,19 @@ fn one_if(test: bool) -> u64
     if test { 1 } else { 0 }
 }
 
-fn of_business(answer: BusinessAnswer) -> Business
-    ensures { λ r. ⌜ record { number = r .number; business = r .business } ≡ businessReturned answer ⌝ }
+fn of_business(answer: BusinessAnswer) -> BusinessReturned
+    ensures { λ r. ⌜ r ≡ businessReturned answer ⌝ }
 {
     match answer {
-        BusinessAnswer::Judged(test) => Business {
+        BusinessAnswer::Judged(test) => BusinessReturned {
             number: answers::ACCEPTED,
             business: one_if(test),
         },
-        BusinessAnswer::NoSuchDate => Business {
+        BusinessAnswer::NoSuchDate => BusinessReturned {
             number: answers::NO_SUCH_DATE,
             business: 0,
         },
-        BusinessAnswer::BadHolidays => Business {
+        BusinessAnswer::BadHolidays => BusinessReturned {
             number: answers::BAD_HOLIDAYS,
             business: 0,
         },
@@ -128,56 +102,56 @@ fn of_business(answer: BusinessAnswer) -> Business
 
 // The date of a day.
 #[no_mangle]
-pub extern "C" fn robijan_date(day: i64) -> Date
-    ensures { λ r. ⌜ record { number = r .number; year = r .year; month = r .month; day = r .day } ≡ dateTold day ⌝ }
+pub extern "C" fn robijan_date(day: i64) -> DateReturned
+    ensures { λ r. ⌜ r ≡ dateTold day ⌝ }
 {
     of_date(date_of(day))
 }
 
 // The day of a date.
 #[no_mangle]
-pub extern "C" fn robijan_day(year: i64, month: i64, day: i64) -> Day
-    ensures { λ r. ⌜ record { number = r .number; day = r .day } ≡ dayTold year month day ⌝ }
+pub extern "C" fn robijan_day(year: i64, month: i64, day: i64) -> DayReturned
+    ensures { λ r. ⌜ r ≡ dayTold year month day ⌝ }
 {
     of_day(day_of(year, month, day))
 }
 
 // The weekday of a day.
 #[no_mangle]
-pub extern "C" fn robijan_weekday(day: i64) -> Weekday
-    ensures { λ r. ⌜ record { number = r .number; weekday = r .weekday } ≡ weekdayTold day ⌝ }
+pub extern "C" fn robijan_weekday(day: i64) -> WeekdayReturned
+    ensures { λ r. ⌜ r ≡ weekdayTold day ⌝ }
 {
     of_weekday(weekday(day))
 }
 
 // The statement day of a trading day.
 #[no_mangle]
-pub extern "C" fn robijan_statement_day(day: i64) -> Day
-    ensures { λ r. ⌜ record { number = r .number; day = r .day } ≡ statementTold day ⌝ }
+pub extern "C" fn robijan_statement_day(day: i64) -> DayReturned
+    ensures { λ r. ⌜ r ≡ statementTold day ⌝ }
 {
     of_day(statement_day(day))
 }
 
 // Whether a day is a business day.
 #[no_mangle]
-pub extern "C" fn robijan_business_day(day: i64, holidays: &[i64]) -> Business
-    ensures { λ r. ⌜ record { number = r .number; business = r .business } ≡ businessTold day (now (holidays .entry)) ⌝ }
+pub extern "C" fn robijan_business_day(day: i64, holidays: &[i64]) -> BusinessReturned
+    ensures { λ r. ⌜ r ≡ businessTold day (now (holidays .entry)) ⌝ }
 {
     of_business(business_day(day, holidays))
 }
 
 // The day of a trading day's final statement.
 #[no_mangle]
-pub extern "C" fn robijan_final_statement(day: i64, holidays: &[i64]) -> Day
-    ensures { λ r. ⌜ record { number = r .number; day = r .day } ≡ finalStatementTold day (now (holidays .entry)) ⌝ }
+pub extern "C" fn robijan_final_statement(day: i64, holidays: &[i64]) -> DayReturned
+    ensures { λ r. ⌜ r ≡ finalStatementTold day (now (holidays .entry)) ⌝ }
 {
     of_day(final_statement(day, holidays))
 }
 
 // The day on which a month's residual data fall due.
 #[no_mangle]
-pub extern "C" fn robijan_residual_due(year: i64, month: i64, holidays: &[i64]) -> Day
-    ensures { λ r. ⌜ record { number = r .number; day = r .day } ≡ residualDueTold year month (now (holidays .entry)) ⌝ }
+pub extern "C" fn robijan_residual_due(year: i64, month: i64, holidays: &[i64]) -> DayReturned
+    ensures { λ r. ⌜ r ≡ residualDueTold year month (now (holidays .entry)) ⌝ }
 {
     of_day(residual_due(year, month, holidays))
 }

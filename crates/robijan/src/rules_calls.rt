@@ -1,6 +1,8 @@
 // The calls that hold no book: reference price, shares, tranches.
 use rulebook::PriceAnswer;
+use rulebook::PriceReturned;
 use rulebook::TrancheAnswer;
+use rulebook::TrancheReturned;
 use rules::price::reference_price;
 use rules::share::shares;
 use rules::tranche::tranches;
@@ -8,46 +10,31 @@ ghost use mathlib.Core.Path.{_≡_};
 ghost use Rattle.rulebook.specs.Numbers.{priceReturned, trancheReturned};
 ghost use Rattle.rulebook.specs.Calls.{priceCall, shareCall, trancheCall};
 
-// The number of a call, and the reference price V, in cents per MWh.
-#[repr(C)]
-pub struct ReferencePrice {
-    pub number: u64,
-    pub price: i64,
-}
-
-// The number of a call, and tranche 1 and tranche 2, in kWh.
-#[repr(C)]
-pub struct Tranches {
-    pub number: u64,
-    pub first: i64,
-    pub second: i64,
-}
-
-fn of_price(answer: PriceAnswer) -> ReferencePrice
-    ensures { λ r. ⌜ record { number = r .number; price = r .price } ≡ priceReturned answer ⌝ }
+fn of_price(answer: PriceAnswer) -> PriceReturned
+    ensures { λ r. ⌜ r ≡ priceReturned answer ⌝ }
 {
     match answer {
-        PriceAnswer::Priced(price) => ReferencePrice {
+        PriceAnswer::Priced(price) => PriceReturned {
             number: answers::ACCEPTED,
             price: price,
         },
-        PriceAnswer::PriceRefused => ReferencePrice {
+        PriceAnswer::PriceRefused => PriceReturned {
             number: answers::OUTSIDE_RANGE,
             price: 0,
         },
     }
 }
 
-fn of_tranches(answer: TrancheAnswer) -> Tranches
-    ensures { λ r. ⌜ record { number = r .number; first = r .first; second = r .second } ≡ trancheReturned answer ⌝ }
+fn of_tranches(answer: TrancheAnswer) -> TrancheReturned
+    ensures { λ r. ⌜ r ≡ trancheReturned answer ⌝ }
 {
     match answer {
-        TrancheAnswer::Split(first, second) => Tranches {
+        TrancheAnswer::Split(first, second) => TrancheReturned {
             number: answers::ACCEPTED,
             first: first,
             second: second,
         },
-        TrancheAnswer::TrancheRefused => Tranches {
+        TrancheAnswer::TrancheRefused => TrancheReturned {
             number: answers::OUTSIDE_RANGE,
             first: 0,
             second: 0,
@@ -57,8 +44,8 @@ fn of_tranches(answer: TrancheAnswer) -> Tranches
 
 // The reference price of facilities with these MEP and IEQ.
 #[no_mangle]
-pub extern "C" fn robijan_price(mep: &[i64], ieq: &[i64]) -> ReferencePrice
-    ensures { λ r. ⌜ record { number = r .number; price = r .price } ≡ priceCall (now (mep .entry)) (now (ieq .entry)) ⌝ }
+pub extern "C" fn robijan_price(mep: &[i64], ieq: &[i64]) -> PriceReturned
+    ensures { λ r. ⌜ r ≡ priceCall (now (mep .entry)) (now (ieq .entry)) ⌝ }
 {
     of_price(reference_price(mep, ieq))
 }
@@ -73,8 +60,8 @@ pub extern "C" fn robijan_share(residual: i64, uegq: &[i64], output: &mut [i64])
 
 // Both tranches of a share.
 #[no_mangle]
-pub extern "C" fn robijan_tranche(rvq: i64, bvq: i64, mq: i64) -> Tranches
-    ensures { λ r. ⌜ record { number = r .number; first = r .first; second = r .second } ≡ trancheCall rvq bvq mq ⌝ }
+pub extern "C" fn robijan_tranche(rvq: i64, bvq: i64, mq: i64) -> TrancheReturned
+    ensures { λ r. ⌜ r ≡ trancheCall rvq bvq mq ⌝ }
 {
     of_tranches(tranches(rvq, bvq, mq))
 }

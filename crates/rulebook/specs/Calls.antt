@@ -15,7 +15,9 @@ use Rattle.rulebook.specs.Units.{inRange, between, asQuantity}
 use Rattle.rulebook.specs.ReferencePrice.{mostFacilities, referencePrice}
 use Rattle.rulebook.specs.Shares.{mostAccounts, leastResidual, mostResidual, share}
 use Rattle.rulebook.specs.Tranches.{tranche1, tranche2}
-use Rattle.rulebook.specs.Numbers.{accepted, outsideRange, outputTooShort, PriceReturned, priceAccepted, priceRefused, ShareReturned, TrancheReturned, trancheAccepted, trancheRefused}
+use Rattle.rulebook.specs.declared.PriceReturned.{PriceReturned}
+use Rattle.rulebook.specs.declared.TrancheReturned.{TrancheReturned}
+use Rattle.rulebook.specs.Numbers.{accepted, outsideRange, outputTooShort, priceAccepted, priceRefused, ShareReturned, trancheAccepted, trancheRefused}
 
 -- every word of a list is in the range of its kind
 unfoldable pub allInRange : Kind → List ℤ → Bool

@@ -13,6 +13,8 @@ use Rattle.rulebook.specs.declared.SubmitAnswer.the-variants.{Taken, Ill
 use Rattle.rulebook.specs.declared.CloseAnswer.{CloseAnswer}
 use Rattle.rulebook.specs.declared.CloseAnswer.the-variants.{Closed, BookIllFormed, Finished, NoRoom, DatumMissing}
 pub use Rattle.rulebook.specs.declared.Answer.{Answer}
+use Rattle.rulebook.specs.declared.PriceReturned.{PriceReturned}
+use Rattle.rulebook.specs.declared.TrancheReturned.{TrancheReturned}
 use Rattle.rulebook.specs.declared.PriceAnswer.{PriceAnswer}
 use Rattle.rulebook.specs.declared.PriceAnswer.the-variants.{Priced, PriceRefused}
 use Rattle.rulebook.specs.declared.ShareAnswer.{ShareAnswer}
@@ -116,10 +118,6 @@ ofClose (DatumMissing at) = numbered datumAbsent at
 
 -- ---- The calls on no book: number and figures; refused, every figure is 0
 
-pub record PriceReturned : Type 0 where
-  pub number : ℕ
-  pub price : ℤ
-
 abbrev pub priceAccepted : ℤ → PriceReturned
 priceAccepted v = record { number = accepted; price = v }
 
@@ -139,11 +137,6 @@ shareNumber OutputTooShort = outputTooShort
 pub record ShareReturned : Type 0 where
   pub number : ℕ
   pub output : List ℤ
-
-pub record TrancheReturned : Type 0 where
-  pub number : ℕ
-  pub first : ℤ
-  pub second : ℤ
 
 abbrev pub trancheAccepted : ℤ → ℤ → TrancheReturned
 trancheAccepted t u = record { number = accepted; first = t; second = u }

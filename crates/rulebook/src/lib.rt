@@ -90,6 +90,21 @@ pub struct Answer {
     pub count: u64,
 }
 
+// What the reference price call returns: number, and V in cents per MWh; refused, 0.
+#[repr(C)]
+pub struct PriceReturned {
+    pub number: u64,
+    pub price: i64,
+}
+
+// What the tranche call returns: number, tranche 1 and tranche 2 in kWh; refused, 0.
+#[repr(C)]
+pub struct TrancheReturned {
+    pub number: u64,
+    pub first: i64,
+    pub second: i64,
+}
+
 // What the reference price call answers: V, or a list's length or a value outside its range.
 pub enum PriceAnswer {
     Priced(i64),

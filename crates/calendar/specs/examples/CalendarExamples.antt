@@ -7,7 +7,10 @@ use lib.Dec.{lit≤, lit<}
 use lib.IntN.{pos, negsuc}
 use Rattle.integer.specs.Below.{fold, tabulate}
 use Rattle.calendar.specs.laws.CalendarLaws.{date-day-date, finalStatement-of, finalStatement-past, residualDue-of, residualDue-past}
-use Rattle.calendar.specs.Calendar.{isLeap, daysInYear, daysInMonth, isMonth, isDate, daysBeforeYear, daysBeforeMonth, dayOf, isDay, weekdayOf, inPlace, isProper, isListed, isBusinessDay, daysAfter, isNthAfter, statementDay, dueAfter, DayReturned, WeekdayReturned, BusinessReturned, dateTold, dayTold, weekdayTold, statementTold, businessTold, searchTold, finalStatementTold, residualDueTold}
+use Rattle.calendar.specs.declared.DayReturned.{DayReturned}
+use Rattle.calendar.specs.declared.WeekdayReturned.{WeekdayReturned}
+use Rattle.calendar.specs.declared.BusinessReturned.{BusinessReturned}
+use Rattle.calendar.specs.Calendar.{isLeap, daysInYear, daysInMonth, isMonth, isDate, daysBeforeYear, daysBeforeMonth, dayOf, isDay, weekdayOf, inPlace, isProper, isListed, isBusinessDay, daysAfter, isNthAfter, statementDay, dueAfter, dateTold, dayTold, weekdayTold, statementTold, businessTold, searchTold, finalStatementTold, residualDueTold}
 
 -- number and figure
 abbrev day : ℕ → ℕ → DayReturned

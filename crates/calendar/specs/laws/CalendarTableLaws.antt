@@ -13,7 +13,11 @@ use Rattle.integer.specs.laws.BelowLaws.{lt-or-le}
 use Rattle.integer.specs.declared.Found.{Found}
 use Rattle.integer.specs.declared.Found.the-variants.{At, Nothing}
 use Rattle.rulebook.specs.Units.{lastDay}
-use Rattle.calendar.specs.Calendar.{isDay, isDate, isMonth, dayOf, dateGiven, dateOf, weekdayOf, isProper, isBusinessDay, isNthAfter, nthAfter, statementDay, finalStatement, dueAfter, dueDay, DateReturned, DayReturned, WeekdayReturned, BusinessReturned, dateAccepted, dateRefused, dayAccepted, dayRefused, weekdayAccepted, weekdayRefused, businessAccepted, businessRefused, checked, upToLastDay, searchTold, dateTold, dayTold, weekdayTold, statementTold, businessTold, finalStatementTold, residualDueTold}
+use Rattle.calendar.specs.declared.DateReturned.{DateReturned}
+use Rattle.calendar.specs.declared.DayReturned.{DayReturned}
+use Rattle.calendar.specs.declared.WeekdayReturned.{WeekdayReturned}
+use Rattle.calendar.specs.declared.BusinessReturned.{BusinessReturned}
+use Rattle.calendar.specs.Calendar.{isDay, isDate, isMonth, dayOf, dateGiven, dateOf, weekdayOf, isProper, isBusinessDay, isNthAfter, nthAfter, statementDay, finalStatement, dueAfter, dueDay, dateAccepted, dateRefused, dayAccepted, dayRefused, weekdayAccepted, weekdayRefused, businessAccepted, businessRefused, checked, upToLastDay, searchTold, dateTold, dayTold, weekdayTold, statementTold, businessTold, finalStatementTold, residualDueTold}
 use Rattle.calendar.specs.CalendarTable.{BusinessDay, NthBusinessDay, DateTable, DayTable, WeekdayTable, StatementTable, BusinessTable, SearchTable, FinalTable, DueTable}
 use Rattle.calendar.specs.laws.CalendarWordLaws.{test-fails, day-says, month-says, date-says, list-says, business-says, nth-says, nth-told, nth-absent}
 
