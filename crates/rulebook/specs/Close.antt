@@ -1,5 +1,5 @@
 -- Document 01, "Close". Assumes nothing.
-use mathlib.Core.Bool.{cond}
+use mathlib.Core.Bool.{Bool, cond}
 use mathlib.Core.List.{List}
 use Prim.Native.Nat.{ℕ, zero, suc, _+_, _*_}
 use lib.IntN.{ℤ, pos, _+ℤ_}
@@ -23,16 +23,36 @@ use Rattle.rulebook.specs.WellFormed.{isZero, wellFormed}
 
 -- ---- The search
 
-module _ (o : Terms) (w : List ℤ) (D : ℕ) where
-  -- the index of a flag that is zero
-  unfoldable pub absentFlag : Section → ℕ → ℕ → ℕ → Found
-  absentFlag s a d i = cond (isZero (word w (flagWord o s a d i))) (At (flagWord o s a d i)) Nothing
+-- the index of a word that is zero
+unfoldable pub absentAt : List ℤ → ℕ → Found
+absentAt w n = cond (isZero (word w n)) (At n) Nothing
 
-  -- in interval i: accounts ascending, vesting then meter of D; then NCC of r, then residual of r by account
+-- the order of a search, x s a being what it finds at the row of section s and account a: of an account vesting, then meter
+abbrev pub accountSearched : (Section → ℕ → Found) → ℕ → Found
+accountSearched x a = orElse (x Vesting a) (x Meter a)
+
+-- NCC, then residual by account
+abbrev pub residualsSearched : ℕ → (Section → ℕ → Found) → Found
+residualsSearched n x = orElse (x Ncc 0) (first n (x Residual))
+
+-- n accounts ascending; then residuals, if they are due
+unfoldable pub searched : ℕ → Bool → (Section → ℕ → Found) → Found
+searched n due x = orElse (first n (accountSearched x)) (cond due (residualsSearched n x) Nothing)
+
+-- the day of the row that a close of D needs of a section: D or r
+abbrev pub neededDay : Terms → ℕ → Section → ℕ
+neededDay o D Vesting = D
+neededDay o D Meter = D
+neededDay o D Residual = residualDay o D
+neededDay o D Ncc = residualDay o D
+
+module _ (o : Terms) (w : List ℤ) (D : ℕ) where
+  -- the index of that row's flag at interval i, if the flag is zero
+  abbrev pub absentFlag : ℕ → Section → ℕ → Found
+  absentFlag i s a = absentAt w (flagWord o s a (neededDay o D s) i)
+
   unfoldable pub missingAt : ℕ → Found
-  missingAt i =
-      orElse (first (o .accounts) (λ a. orElse (absentFlag Vesting a D i) (absentFlag Meter a D i)))
-      (cond (residualDue o D) (orElse (absentFlag Ncc 0 (residualDay o D) i) (first (o .accounts) (λ a. absentFlag Residual a (residualDay o D) i))) Nothing)
+  missingAt i = searched (o .accounts) (residualDue o D) (absentFlag i)
 
   unfoldable pub firstMissing : Found
   firstMissing = first intervals missingAt

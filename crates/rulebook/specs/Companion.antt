@@ -10,19 +10,19 @@ use lib.Dec.{ltb}
 use lib.ListN.{length}
 use Rattle.integer.specs.declared.Found.{Found}
 use Rattle.integer.specs.declared.Found.the-variants.{At, Nothing}
-use Rattle.integer.specs.Below.{sumℤ, first, orElse}
+use Rattle.integer.specs.Below.{sumℤ}
 use Rattle.integer.specs.Words.{word}
 use Rattle.rulebook.specs.declared.Section.{Section}
-use Rattle.rulebook.specs.declared.Section.the-variants.{Vesting, Meter, Residual, Ncc}
 use Rattle.rulebook.specs.declared.Terms.{Terms}
 use Rattle.rulebook.specs.declared.OpenAnswer.{OpenAnswer}
 use Rattle.rulebook.specs.Units.{lastDay, intervals}
-use Rattle.rulebook.specs.DayAmount.{residualDue, residualDay}
+use Rattle.rulebook.specs.DayAmount.{residualDue}
 use Rattle.rulebook.specs.Terms.{InTerms}
 use Rattle.rulebook.specs.Layout.{size, flagWord}
 use Rattle.rulebook.specs.Opening.{header}
 use Rattle.rulebook.specs.File.{Row}
 use Rattle.rulebook.specs.Judging.{limitsOf, judged}
+use Rattle.rulebook.specs.Close.{searched, neededDay}
 use Rattle.rulebook.specs.Numbers.{Answer, numbered, accepted, outsideRange, wordsTooFew, notWellFormed, bookFinished, outputTooShort, datumAbsent, ofOpen, ofVerdict, ofSubmit, ofClose}
 use Rattle.rulebook.specs.History.{Event, closingDay, inForce, formulaAmount}
 use Rattle.rulebook.specs.Promises.{OpenPromise, Run, begun, thenSubmit, thenClose}
@@ -43,12 +43,9 @@ module _ (o : Terms) (past : List Event) where
   abbrev pub lacking : Section → ℕ → ℕ → Found
   lacking s a d = flagLacking (inForce past s a d) (flagWord o s a d 0)
 
-  -- accounts ascending, vesting then meter of D; then NCC of r, then residual of r by account
+  -- in the order of the search
   unfoldable pub firstLacking : Found
-  firstLacking =
-      orElse (first (o .accounts) (λ a. orElse (lacking Vesting a (closingDay o past)) (lacking Meter a (closingDay o past))))
-      (cond (residualDue o (closingDay o past))
-      (orElse (lacking Ncc 0 (residualDay o (closingDay o past))) (first (o .accounts) (λ a. lacking Residual a (residualDay o (closingDay o past))))) Nothing)
+  firstLacking = searched (o .accounts) (residualDue o (closingDay o past)) (λ s a. lacking s a (neededDay o (closingDay o past) s))
 
   abbrev pub searchAnswered : Found → Answer
   searchAnswered (At at) = numbered datumAbsent at

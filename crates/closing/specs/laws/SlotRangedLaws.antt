@@ -8,13 +8,12 @@ use native.Mathlib.Omega.{arith}
 use lib.Dec.{T}
 use lib.IntN.{ℤ, pos, natAbs}
 use lib.ListN.{getD-replicate}
-use Rattle.integer.specs.declared.Found.the-variants.{At, Nothing}
-use Rattle.integer.specs.Below.{all, first, orElse}
-use Rattle.integer.specs.laws.BelowLaws.{lt-or-le, orElse-nothing, first-nothing}
+use Rattle.integer.specs.declared.Found.the-variants.{Nothing}
+use Rattle.integer.specs.Below.{all}
+use Rattle.integer.specs.laws.BelowLaws.{lt-or-le}
 use Rattle.integer.specs.Words.{word}
 use Rattle.integer.specs.laws.WordsLaws.{row-fits, length-part}
-use Rattle.rulebook.specs.declared.Section.the-variants.{Vesting, Meter}
-use Rattle.rulebook.specs.declared.Terms.{Terms}
+use Rattle.rulebook.specs.declared.Section.the-variants.{Meter}
 use Rattle.rulebook.specs.declared.Kind.{Kind}
 use Rattle.rulebook.specs.declared.Kind.the-variants.{Quantity, Load}
 use Rattle.rulebook.specs.Units.{lastDay, between, inRange, positive, mostPrice, mostQuantity, intervals}
@@ -24,7 +23,8 @@ use Rattle.rulebook.specs.DayAmount.{residualDue, residualDay}
 use Rattle.rulebook.specs.Layout.{width, wordName, figureIndex, flagIndex, flagWord, intervalWords, accountWords, intervalLength, InWindow}
 use Rattle.rulebook.specs.BookData.{entriesOf, entryNamed, bookData, termsOf, nextDay}
 use Rattle.rulebook.specs.WellFormed.{isZero, rowFits, wellFormed}
-use Rattle.rulebook.specs.Close.{absentFlag, missingAt, firstMissing}
+use Rattle.rulebook.specs.Close.{firstMissing}
+use Rattle.rulebook.specs.Demand3.{meterOf}
 use Rattle.rulebook.specs.Bounds.{Sized}
 use Rattle.rulebook.specs.laws.TestLaws.{T-path, and-left}
 use Rattle.rulebook.specs.laws.RowWordLaws.{Usable}
@@ -34,6 +34,7 @@ use Rattle.rulebook.specs.laws.FormedLaws.{opened-of, next-of, formed-fit}
 use Rattle.rulebook.specs.laws.BookSizeLaws.{book-ranged, D-inside, r-inside}
 use Rattle.rulebook.specs.laws.AmountLaws.{SameFigures}
 use Rattle.rulebook.specs.laws.IndexLaws.{tender-words}
+use Rattle.rulebook.specs.laws.SearchLaws.{needed-there}
 use Rattle.amounts.specs.Cell.{cellData, Ranged}
 use Rattle.amounts.specs.declared.interval.Residual.{Residual}
 use Rattle.amounts.specs.laws.IntervalLaws.{residual-le}
@@ -57,18 +58,6 @@ meter-some f x y = ⊎-elim (λ h. h) (λ h. absurd (none h)) (lt-or-le 0 (posit
 
     none : positive (f (flagIndex Meter)) ≤ 0 → ⊥
     none h = let e : positive (f (flagIndex Meter)) ≡ 0 = omega arith in subst (λ (z : ℤ). T (not (isZero z))) (number ∙ ap pos e) y
-
--- those of D are there where the search finds nothing
-searched-there : (o : Terms) (w : List ℤ) (D : ℕ) → firstMissing o w D ≡ Nothing → (a i : ℕ) → a < o .accounts → i < intervals → T (not (isZero (word w (flagWord o Meter a D i))))
-unfolding firstMissing missingAt absentFlag
-searched-there o w D none a i ha hi =
-    let interval = orElse-nothing (first (o .accounts) (λ a. orElse (absentFlag o w D Vesting a D i) (absentFlag o w D Meter a D i))) _ (first-nothing intervals (missingAt o w D) none i hi) .0 in
-    let account = first-nothing (o .accounts) (λ a. orElse (absentFlag o w D Vesting a D i) (absentFlag o w D Meter a D i)) interval a ha in
-    go (isZero (word w (flagWord o Meter a D i))) (orElse-nothing (absentFlag o w D Vesting a D i) (absentFlag o w D Meter a D i) account .1)
-  where
-    go : (b : Bool) → cond b (At (flagWord o Meter a D i)) Nothing ≡ Nothing → T (not b)
-    go true e = let z : _≡_ {A = ℕ} 0 1 = cc in absurd (omega arith)
-    go false e = tt
 
 -- ---- A day's slot
 
@@ -137,7 +126,7 @@ module _ (w : List ℤ) (t : T (wellFormed w)) (left : nextDay w ≤ lastDay) wh
       (residualDue (termsOf w) (nextDay w)) (residualsDue (termsOf w) w (nextDay w))
   unfolding thenDay residualsDue
   days-ranged none = record {
-    closing = slot-ranged w t (nextDay w) (D-inside w t left) left (searched-there (termsOf w) w (nextDay w) none);
+    closing = slot-ranged w t (nextDay w) (D-inside w t left) left (λ a i ha hi. needed-there (termsOf w) w (nextDay w) none Meter a (nextDay w) i (meterOf ha) hi);
     long = slot-length w t (thenDay (termsOf w) (nextDay w)) ∙ sym (slot-length w t (nextDay w));
     settled = then (residualDue (termsOf w) (nextDay w)) settled-ranged;
     loads = loads (residualDue (termsOf w) (nextDay w)) settled-ranged;

@@ -22,6 +22,7 @@ use Rattle.rulebook.specs.Opening.{newBook, opened}
 use Rattle.rulebook.specs.Submit.{submitted}
 use Rattle.rulebook.specs.Close.{closed}
 use Rattle.rulebook.specs.declared.Answer.{Answer}
+use Rattle.rulebook.specs.Close.{searched}
 use Rattle.rulebook.specs.Numbers.{numbered}
 use Rattle.rulebook.specs.History.{Event, submit, closes, latest, lastFor, acceptedRows, inForce, formulaAmount}
 use Rattle.rulebook.specs.Companion.{submitTold, firstLacking, closeTold}
@@ -89,7 +90,7 @@ bad-after rest k digit e d = opened-one rest ∙ ap openText (printed-bad _ 1 5 
 
 -- `close 11 76`
 missing : (amounts : List ℤ) → closeLine (closeTold one [] newStatement) amounts ≡ closeText []
-unfolding closeTold firstLacking inForce closes fold orElse base ring intervalSize slot intervalWord rowWord digitsWithin decimal spaced lineOf answerLine closeLine
+unfolding closeTold firstLacking searched inForce closes fold orElse base ring intervalSize slot intervalWord rowWord digitsWithin decimal spaced lineOf answerLine closeLine
 missing amounts = refl
 
 close-first : (n position : ℕ) (s : List ℕ) → itemOf (drop position s) ≡ Close
@@ -139,7 +140,7 @@ abbrev dayAnswer : Answer
 dayAnswer = record { number = 0; position = 0; day = 9497; count = 0 }
 
 day-closed : closeTold two history newStatement ≡ dayAnswer
-unfolding closeTold firstLacking inForce latest lastFor acceptedRows closes residualDue fold orElse fileRows sectionRows tabulate num rowEnd rowPos sectionEnd turns valueAt signed32 numberOf figureOf base ring intervalSize slot intervalWord rowWord
+unfolding closeTold firstLacking searched inForce latest lastFor acceptedRows closes residualDue fold orElse fileRows sectionRows tabulate num rowEnd rowPos sectionEnd turns valueAt signed32 numberOf figureOf base ring intervalSize slot intervalWord rowWord
 day-closed = refl
 
 -- the accounts' amounts, and the MSSL's

@@ -16,7 +16,7 @@ use Rattle.rulebook.specs.Terms.{InTerms}
 use Rattle.rulebook.specs.Layout.{size, base, ring, intervalSize, slot, intervalWord, rowWord}
 use Rattle.rulebook.specs.Opening.{newBook}
 use Rattle.rulebook.specs.File.{num, signed32, valueAt, rowEnd, rowPos, sectionEnd, sectionRows, fileRows, numberOf, figureOf, NccLoad}
-use Rattle.rulebook.specs.Close.{residualCount, closed}
+use Rattle.rulebook.specs.Close.{searched, residualCount, closed}
 use Rattle.rulebook.specs.Numbers.{numbered, ofClose}
 use Rattle.rulebook.specs.History.{Event, submit, close, closes, latest, lastFor, acceptedRows, inForce, figureIn}
 use Rattle.rulebook.specs.Companion.{firstLacking, closeTold}
@@ -108,7 +108,7 @@ pub record Closes : Type 0 where
   pub notRevised : figureIn (inForce (refused (nccFile 5) ∷ taken (nccFile 3) ∷ []) Ncc 0 9497) 0 NccLoad ≡ pos 3
 
 pub closes-told : Closes
-unfolding closeTold residualCount firstLacking inForce latest lastFor acceptedRows closes residualDue fold orElse fileRows sectionRows tabulate num rowEnd rowPos sectionEnd turns valueAt signed32 numberOf figureOf base ring intervalSize slot intervalWord rowWord
+unfolding closeTold residualCount firstLacking searched inForce latest lastFor acceptedRows closes residualDue fold orElse fileRows sectionRows tabulate num rowEnd rowPos sectionEnd turns valueAt signed32 numberOf figureOf base ring intervalSize slot intervalWord rowWord
 closes-told = record {
   noRoom = refl;
   nothing = refl;
@@ -147,11 +147,11 @@ new-told : (o : Terms) → InTerms o → (lent statement : List ℤ) → size o 
 new-told o t lent statement l = close-tells o t [] (newBook o lent) (new-state o t lent l) statement .answered
 
 told2 : (statement : List ℤ) → ltb (length statement) 3 ≡ false → closeTold two [] statement ≡ numbered 11 84
-unfolding closeTold firstLacking inForce closes fold orElse base ring intervalSize slot intervalWord rowWord
+unfolding closeTold firstLacking searched inForce closes fold orElse base ring intervalSize slot intervalWord rowWord
 told2 statement e = rw e refl
 
 told1 : (statement : List ℤ) → ltb (length statement) 2 ≡ false → closeTold one [] statement ≡ numbered 11 76
-unfolding closeTold firstLacking inForce closes fold orElse base ring intervalSize slot intervalWord rowWord
+unfolding closeTold firstLacking searched inForce closes fold orElse base ring intervalSize slot intervalWord rowWord
 told1 statement e = rw e refl
 
 cramped : (statement : List ℤ) → ltb (length statement) 3 ≡ true → closeTold two [] statement ≡ numbered 10 0

@@ -13,7 +13,7 @@ use lib.ListN.{length}
 use Rattle.integer.specs.declared.Found.{Found}
 use Rattle.integer.specs.declared.Found.the-variants.{At, Nothing}
 use Rattle.integer.specs.laws.IntegerLaws.{abs-add, abs-neg}
-use Rattle.integer.specs.laws.BelowLaws.{first-nothing, orElse-nothing, abs-sumℤ}
+use Rattle.integer.specs.laws.BelowLaws.{abs-sumℤ}
 use Rattle.integer.specs.Words.{word}
 use Rattle.rulebook.specs.declared.Section.{Section}
 use Rattle.rulebook.specs.declared.Section.the-variants.{Vesting, Meter}
@@ -24,7 +24,8 @@ use Rattle.rulebook.specs.DayAmount.{msslAmount}
 use Rattle.rulebook.specs.Layout.{flagIndex, flagWord, balanceWord, msslWord, InWindow}
 use Rattle.rulebook.specs.BookData.{Entries, entriesOf, termsOf, nextDay}
 use Rattle.rulebook.specs.WellFormed.{isZero, rowFits, wellFormed, dayBound}
-use Rattle.rulebook.specs.Close.{closed, settled, closeRefused, firstMissing, missingAt, absentFlag, posted, postedToMssl, dayClosed}
+use Rattle.rulebook.specs.Close.{closed, settled, closeRefused, firstMissing, posted, postedToMssl, dayClosed}
+use Rattle.rulebook.specs.Demand3.{vestingOf, meterOf}
 use Rattle.rulebook.specs.Ledger.{Ledger, HoldsLedger}
 use Rattle.rulebook.specs.laws.TestLaws.{below-suc, T-path}
 use Rattle.rulebook.specs.laws.KeptLaws.{absent-fits}
@@ -33,29 +34,11 @@ use Rattle.rulebook.specs.laws.FormLaws.{Fit, ring-pos, well-formed}
 use Rattle.rulebook.specs.laws.FormedLaws.{formed-holds, formed-fit, opened-of, next-of}
 use Rattle.rulebook.specs.laws.BookSizeLaws.{close-amount}
 use Rattle.rulebook.specs.laws.CloseLaws.{day-held}
-use Rattle.rulebook.specs.laws.SearchLaws.{nothing-at}
+use Rattle.rulebook.specs.laws.SearchLaws.{needed-there}
 
 -- the words of a book, and zeros from day last on
 abbrev before : Terms → List ℤ → ℕ → Entries
 before o w last s a d i j = cond (ltb d last) (entriesOf o w s a d i j) (pos 0)
-
--- an absent flag that the search did not find is there
-flag-there : (o : Terms) (w : List ℤ) (D : ℕ) (s : Section) (a d i : ℕ) → absentFlag o w D s a d i ≡ Nothing → T (not (isZero (word w (flagWord o s a d i))))
-unfolding absentFlag
-flag-there o w D s a d i e = go (isZero (word w (flagWord o s a d i))) e
-  where
-    go : (b : Bool) → _≡_ {A = Found} (cond b (At (flagWord o s a d i)) Nothing) Nothing → T (not b)
-    go true x = nothing-at x refl
-    go false x = tt
-
--- nothing missing: the vesting and meter rows of D are there
-vested-there : (o : Terms) (w : List ℤ) (D : ℕ) → firstMissing o w D ≡ Nothing → (a i : ℕ) → a < o .accounts → i < 48
-    → T (not (isZero (word w (flagWord o Vesting a D i)))) × T (not (isZero (word w (flagWord o Meter a D i))))
-unfolding firstMissing missingAt
-vested-there o w D e a i ha hi =
-    let x = first-nothing 48 (missingAt o w D) e i hi in
-    let y = orElse-nothing _ _ (first-nothing (o .accounts) _ (orElse-nothing _ _ x .0) a ha) in
-    (flag-there o w D Vesting a D i (y .0), flag-there o w D Meter a D i (y .1))
 
 module _ (w : List ℤ) (t : T (wellFormed w)) (k : ℕ) (day : termsOf w .first + k ≡ nextDay w) (closes : nextDay w - termsOf w .first ≡ k) (left : nextDay w ≤ lastDay)
     (complete : firstMissing (termsOf w) w (nextDay w) ≡ Nothing) where
@@ -136,8 +119,8 @@ module _ (w : List ℤ) (t : T (wellFormed w)) (k : ℕ) (day : termsOf w .first
         (λ l y. rw (row-same s (before o w last s a d i) (entriesOf o w s a d i) (λ j hj. within s a d i j l)) (formed .rows s a d i y ha hi))
         (λ l. absent-fits s (before o w last s a d i) (λ j hj. beyond s a d i j l));
     undated = λ s a d i j x late ha hi hj. by-day (before o w last s a d i j ≡ pos 0) d x (λ l y. within s a d i j l ∙ formed .undated s a d i j y late ha hi hj) (λ l. beyond s a d i j l);
-    vestings = λ a d i x l ha hi. flags-there Vesting a d i ha x l (opened-of w t .horizonFrom) (λ y z. formed .vestings a d i z y ha hi) (vested-there o w (nextDay w) complete a i ha hi .0);
-    meters = λ a d i x l ha hi. flags-there Meter a d i ha x l (opened-of w t .horizonFrom) (λ y z. formed .meters a d i z y ha hi) (vested-there o w (nextDay w) complete a i ha hi .1);
+    vestings = λ a d i x l ha hi. flags-there Vesting a d i ha x l (opened-of w t .horizonFrom) (λ y z. formed .vestings a d i z y ha hi) (needed-there o w (nextDay w) complete Vesting a (nextDay w) i (vestingOf ha) hi);
+    meters = λ a d i x l ha hi. flags-there Meter a d i ha x l (opened-of w t .horizonFrom) (λ y z. formed .meters a d i z y ha hi) (needed-there o w (nextDay w) complete Meter a (nextDay w) i (meterOf ha) hi);
     bounded = λ a ha. omega (arith, abs-add (word w (balanceWord a)) (posted o w (o .first + k) a), formed .bounded a ha, amount a ha, suc-mul k dayBound);
     mssl = rw (suc-mul k dayBound, mul-add (o .accounts) (k * dayBound) dayBound)
         (omega (arith, abs-add (word w msslWord) (postedToMssl o w (o .first + k)), formed .mssl, mssl-size));

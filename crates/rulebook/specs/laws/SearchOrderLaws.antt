@@ -14,7 +14,6 @@ use Rattle.integer.specs.declared.Found.the-variants.{At, Nothing}
 use Rattle.integer.specs.Below.{fold, orElse, first, Each}
 use Rattle.integer.specs.laws.BelowLaws.{first-cong, orElse-at, orElse-nothing, nothing-orElse}
 use Rattle.integer.specs.Words.{word}
-use Rattle.rulebook.specs.declared.Section.{Section}
 use Rattle.rulebook.specs.declared.Section.the-variants.{Vesting, Meter, Residual, Ncc}
 use Rattle.rulebook.specs.declared.Terms.{Terms}
 use Rattle.rulebook.specs.Units.{lastDay}
@@ -22,7 +21,7 @@ use Rattle.rulebook.specs.DayAmount.{residualDue, residualDay}
 use Rattle.rulebook.specs.Layout.{flagWord}
 use Rattle.rulebook.specs.BookData.{termsOf, nextDay}
 use Rattle.rulebook.specs.WellFormed.{isZero, wellFormed}
-use Rattle.rulebook.specs.Close.{absentFlag, missingAt, firstMissing, settled, closed}
+use Rattle.rulebook.specs.Close.{absentAt, accountSearched, residualsSearched, searched, absentFlag, missingAt, firstMissing, settled, closed}
 use Rattle.rulebook.specs.Numbers.{Answer, accepted, datumAbsent, numbered, ofClose}
 use Rattle.rulebook.specs.SearchOrder.{inTurn, flagsAt, flagOrder, FirstZero, SearchHolds}
 use Rattle.rulebook.specs.laws.TestLaws.{T-path}
@@ -31,12 +30,9 @@ use Rattle.rulebook.specs.laws.SlotLaws.{is-zero}
 -- ---- A search through a list
 
 module _ (w : List ℤ) where
-  unfoldable zeroAt : ℕ → Found
-  zeroAt n = cond (isZero (word w n)) (At n) Nothing
-
   unfoldable firstZero : List ℕ → Found
   firstZero [] = Nothing
-  firstZero (n ∷ ns) = orElse (zeroAt n) (firstZero ns)
+  firstZero (n ∷ ns) = orElse (absentAt w n) (firstZero ns)
 
   or-assoc : (x y z : Found) → orElse (orElse x y) z ≡ orElse x (orElse y z)
   unfolding orElse
@@ -46,61 +42,61 @@ module _ (w : List ℤ) where
   append-zero : (xs ys : List ℕ) → firstZero (xs ++ ys) ≡ orElse (firstZero xs) (firstZero ys)
   unfolding firstZero orElse
   append-zero [] ys = refl
-  append-zero (x ∷ xs) ys = ap (orElse (zeroAt x)) (append-zero xs ys) ∙ sym (or-assoc (zeroAt x) (firstZero xs) (firstZero ys))
+  append-zero (x ∷ xs) ys = ap (orElse (absentAt w x)) (append-zero xs ys) ∙ sym (or-assoc (absentAt w x) (firstZero xs) (firstZero ys))
 
   turn-zero : (n : ℕ) (f : ℕ → List ℕ) → firstZero (inTurn n f) ≡ first n (λ i. firstZero (f i))
   unfolding fold firstZero
   turn-zero zero f = refl
   turn-zero (suc n) f = append-zero (inTurn n f) (f n) ∙ ap (λ (x : Found). orElse x (firstZero (f n))) (turn-zero n f)
 
-  one-zero : (n : ℕ) → firstZero (n ∷ []) ≡ zeroAt n
+  one-zero : (n : ℕ) → firstZero (n ∷ []) ≡ absentAt w n
   unfolding firstZero orElse
-  one-zero n = go (zeroAt n)
+  one-zero n = go (absentAt w n)
     where
       go : (x : Found) → orElse x Nothing ≡ x
       go (At i) = refl
       go Nothing = refl
 
-  two-zero : (m n : ℕ) → firstZero (m ∷ n ∷ []) ≡ orElse (zeroAt m) (zeroAt n)
+  two-zero : (m n : ℕ) → firstZero (m ∷ n ∷ []) ≡ orElse (absentAt w m) (absentAt w n)
   unfolding firstZero
-  two-zero m n = ap (orElse (zeroAt m)) (one-zero n)
+  two-zero m n = ap (orElse (absentAt w m)) (one-zero n)
 
   -- ---- What it finds
 
-  not-zero : (n : ℕ) → zeroAt n ≡ Nothing → word w n ≢ pos 0
-  unfolding zeroAt
+  not-zero : (n : ℕ) → absentAt w n ≡ Nothing → word w n ≢ pos 0
+  unfolding absentAt
   not-zero n e f = go (isZero (word w n)) (rw f tt) e
     where
       go : (b : Bool) → T b → cond b (At n) Nothing ≡ Nothing → ⊥
       go true x y = let z : _≡_ {A = ℕ} 0 1 = cc in omega arith
       go false x y = x
 
-  zero-not : (n : ℕ) → word w n ≢ pos 0 → zeroAt n ≡ Nothing
-  unfolding zeroAt
+  zero-not : (n : ℕ) → word w n ≢ pos 0 → absentAt w n ≡ Nothing
+  unfolding absentAt
   zero-not n f = go (isZero (word w n)) (is-zero (word w n))
     where
       go : (b : Bool) → (T b → word w n ≡ pos 0) → cond b (At n) Nothing ≡ Nothing
       go true x = absurd (f (x tt))
       go false x = refl
 
-  zero-at : (n v : ℕ) → zeroAt n ≡ At v → (n ≡ v) × (word w n ≡ pos 0)
-  unfolding zeroAt
+  zero-at : (n v : ℕ) → absentAt w n ≡ At v → (n ≡ v) × (word w n ≡ pos 0)
+  unfolding absentAt
   zero-at n v e = go (isZero (word w n)) (is-zero (word w n)) e
     where
       go : (b : Bool) → (T b → word w n ≡ pos 0) → cond b (At n) Nothing ≡ At v → (n ≡ v) × (word w n ≡ pos 0)
       go true x y = (let z : n ≡ v = cc in z, x tt)
       go false x y = absurd (let z : _≡_ {A = ℕ} 0 1 = cc in omega arith)
 
-  at-zero : (n : ℕ) → word w n ≡ pos 0 → zeroAt n ≡ At n
-  unfolding zeroAt
+  at-zero : (n : ℕ) → word w n ≡ pos 0 → absentAt w n ≡ At n
+  unfolding absentAt
   at-zero n e = rw e refl
 
   found-first : (flags : List ℕ) (v : ℕ) → firstZero flags ≡ At v → FirstZero w flags v
   unfolding firstZero
   found-first [] v e = absurd (let z : _≡_ {A = ℕ} 0 1 = cc in omega arith)
-  found-first (n ∷ ns) v e = go (λ h. found-first ns v h) (orElse-at (zeroAt n) (firstZero ns) v e)
+  found-first (n ∷ ns) v e = go (λ h. found-first ns v h) (orElse-at (absentAt w n) (firstZero ns) v e)
     where
-      go : (firstZero ns ≡ At v → FirstZero w ns v) → (zeroAt n ≡ At v) ⊎ ((zeroAt n ≡ Nothing) × (firstZero ns ≡ At v)) → FirstZero w (n ∷ ns) v
+      go : (firstZero ns ≡ At v → FirstZero w ns v) → (absentAt w n ≡ At v) ⊎ ((absentAt w n ≡ Nothing) × (firstZero ns ≡ At v)) → FirstZero w (n ∷ ns) v
       go ih (inl h) =
           let z = zero-at n v h in
           record { before = []; after = ns; order = ap (λ (m : ℕ). m ∷ ns) (z .0); there = tt; absent = subst (λ (m : ℕ). word w m ≡ pos 0) (z .0) (z .1) }
@@ -119,38 +115,30 @@ module _ (w : List ℤ) where
   none-zero : (flags : List ℕ) → firstZero flags ≡ Nothing → Each (λ n. word w n ≢ pos 0) flags
   unfolding firstZero
   none-zero [] e = tt
-  none-zero (n ∷ ns) e = let x = orElse-nothing (zeroAt n) (firstZero ns) e in (not-zero n (x .0), none-zero ns (x .1))
+  none-zero (n ∷ ns) e = let x = orElse-nothing (absentAt w n) (firstZero ns) e in (not-zero n (x .0), none-zero ns (x .1))
 
   zero-none : (flags : List ℕ) → Each (λ n. word w n ≢ pos 0) flags → firstZero flags ≡ Nothing
   unfolding firstZero
   zero-none [] t = refl
-  zero-none (n ∷ ns) t = nothing-orElse (zeroAt n) (firstZero ns) (zero-not n (t .0)) (zero-none ns (t .1))
+  zero-none (n ∷ ns) t = nothing-orElse (absentAt w n) (firstZero ns) (zero-not n (t .0)) (zero-none ns (t .1))
 
 -- ---- The close's search
 
 module _ (o : Terms) (w : List ℤ) (D : ℕ) where
-  flag-zero : (s : Section) (a d i : ℕ) → absentFlag o w D s a d i ≡ zeroAt w (flagWord o s a d i)
-  unfolding absentFlag zeroAt
-  flag-zero s a d i = refl
-
   missing-zero : (i : ℕ) → missingAt o w D i ≡ firstZero w (flagsAt o D i)
-  unfolding missingAt flagsAt
+  unfolding missingAt searched flagsAt
   missing-zero i = sym (append-zero w _ _ ∙ ap (λ (x : Found). orElse x (firstZero w (older (residualDue o D)))) vested ∙ ap (orElse _) (later (residualDue o D)))
     where
       older : Bool → List ℕ
       older b = cond b (flagWord o Ncc 0 (residualDay o D) i ∷ inTurn (o .accounts) (λ a. flagWord o Residual a (residualDay o D) i ∷ [])) []
 
-      vested : firstZero w (inTurn (o .accounts) (λ a. flagWord o Vesting a D i ∷ flagWord o Meter a D i ∷ []))
-          ≡ first (o .accounts) (λ a. orElse (absentFlag o w D Vesting a D i) (absentFlag o w D Meter a D i))
-      vested = turn-zero w (o .accounts) _ ∙ first-cong (o .accounts) _ _ (λ a h. two-zero w (flagWord o Vesting a D i) (flagWord o Meter a D i)
-          ∙ rw (flag-zero Vesting a D i, flag-zero Meter a D i))
+      vested : firstZero w (inTurn (o .accounts) (λ a. flagWord o Vesting a D i ∷ flagWord o Meter a D i ∷ [])) ≡ first (o .accounts) (accountSearched (absentFlag o w D i))
+      vested = turn-zero w (o .accounts) _ ∙ first-cong (o .accounts) _ _ (λ a h. two-zero w (flagWord o Vesting a D i) (flagWord o Meter a D i))
 
-      later : (b : Bool) → firstZero w (older b)
-          ≡ cond b (orElse (absentFlag o w D Ncc 0 (residualDay o D) i) (first (o .accounts) (λ a. absentFlag o w D Residual a (residualDay o D) i))) Nothing
+      later : (b : Bool) → firstZero w (older b) ≡ cond b (residualsSearched (o .accounts) (absentFlag o w D i)) Nothing
       later true = unfold firstZero in
-          ap (orElse (zeroAt w (flagWord o Ncc 0 (residualDay o D) i))) (turn-zero w (o .accounts) _
-          ∙ first-cong (o .accounts) _ _ (λ a h. one-zero w (flagWord o Residual a (residualDay o D) i) ∙ sym (flag-zero Residual a (residualDay o D) i)))
-          ∙ ap (λ (x : Found). orElse x (first (o .accounts) (λ a. absentFlag o w D Residual a (residualDay o D) i))) (sym (flag-zero Ncc 0 (residualDay o D) i))
+          ap (orElse (absentAt w (flagWord o Ncc 0 (residualDay o D) i))) (turn-zero w (o .accounts) _
+          ∙ first-cong (o .accounts) _ _ (λ a h. one-zero w (flagWord o Residual a (residualDay o D) i)))
       later false = unfold firstZero in refl
 
   search-order : firstMissing o w D ≡ firstZero w (flagOrder o D)

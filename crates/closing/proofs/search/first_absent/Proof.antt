@@ -14,26 +14,26 @@ use Rattle.integer.specs.laws.WordsLaws.{row-fits}
 use Rattle.rulebook.specs.declared.Section.the-variants.{Residual}
 use Rattle.rulebook.specs.Units.{intervals}
 use Rattle.rulebook.specs.Layout.{intervalWords, accountWords, intervalLength, flagAt}
-use Rattle.closing.specs.Search.{absentAt, absentPair, absentSettled, absentIn, firstAbsent}
-use Rattle.closing.specs.laws.SearchLaws.{absent-here, absent-not, pair-vesting, pair-meter, pair-there, settled-ncc, settled-residual, passed, passed-due, stops-pair, stops-settled}
+use Rattle.rulebook.specs.Close.{absentAt, accountSearched, residualsSearched}
+use Rattle.closing.specs.Search.{flagAbsent, absentIn, firstAbsent}
+use Rattle.closing.specs.laws.SearchLaws.{absent-here, absent-not, or-first, or-second, passed, passed-due, stops-account, stops-residuals}
 use Rattle.closing.proofs.search.first_absent.Statement.{statement}
 use Rattle.closing.proofs.search.first_absent.Tie as tie
 
 -- an interval's length, as the code has it, is `intervalLength n`
-module _ (w : List ℤ) (n from i : ℕ) where
-  cells-at : (m : ℕ) {size : ℕ} {x : Found} → size ≡ intervalLength n → first m (λ a. absentPair w (from + i * size + (intervalWords + a * accountWords))) ≡ x
-      → first m (λ a. absentPair w (from + i * intervalLength n + (intervalWords + a * accountWords))) ≡ x
-  cells-at m {size} {x} e = subst (λ (z : ℕ). first m (λ a. absentPair w (from + i * z + (intervalWords + a * accountWords))) ≡ x) e
+module _ (w : List ℤ) (n today then i : ℕ) where
+  accounts-at : (m : ℕ) {size : ℕ} {x : Found} → size ≡ intervalLength n → first m (accountSearched (flagAbsent w size today then i)) ≡ x
+      → first m (accountSearched (flagAbsent w (intervalLength n) today then i)) ≡ x
+  accounts-at m {size} {x} e = subst (λ (z : ℕ). first m (accountSearched (flagAbsent w z today then i)) ≡ x) e
 
-  pair-at : (a : ℕ) {size : ℕ} {x : Found} → size ≡ intervalLength n → absentPair w (from + i * size + (intervalWords + a * accountWords)) ≡ x
-      → absentPair w (from + i * intervalLength n + (intervalWords + a * accountWords)) ≡ x
-  pair-at a {size} {x} e = subst (λ (z : ℕ). absentPair w (from + i * z + (intervalWords + a * accountWords)) ≡ x) e
+  account-at : (a : ℕ) {size : ℕ} {x : Found} → size ≡ intervalLength n → accountSearched (flagAbsent w size today then i) a ≡ x → accountSearched (flagAbsent w (intervalLength n) today then i) a ≡ x
+  account-at a {size} {x} e = subst (λ (z : ℕ). accountSearched (flagAbsent w z today then i) a ≡ x) e
 
-  settled-at : {size : ℕ} {x : Found} → size ≡ intervalLength n → absentSettled w n (from + i * size) ≡ x → absentSettled w n (from + i * intervalLength n) ≡ x
-  settled-at {size} {x} e = subst (λ (z : ℕ). absentSettled w n (from + i * z) ≡ x) e
+  residuals-at : {size : ℕ} {x : Found} → size ≡ intervalLength n → residualsSearched n (flagAbsent w size today then i) ≡ x → residualsSearched n (flagAbsent w (intervalLength n) today then i) ≡ x
+  residuals-at {size} {x} e = subst (λ (z : ℕ). residualsSearched n (flagAbsent w z today then i) ≡ x) e
 
 abbrev Inv-loop : tie.InvT-loop
-Inv-loop book n today then due size i a₀ a = (a ≤ n) × (first a (λ a. absentPair book (today + i * size + (intervalWords + a * accountWords))) ≡ Found.Nothing)
+Inv-loop book n today then due size i a₀ a = (a ≤ n) × (first a (accountSearched (flagAbsent book size today then i)) ≡ Found.Nothing)
 
 abbrev μ-loop : tie.MeasureT-loop
 μ-loop book n today then due size i a₀ a = n - a
@@ -115,7 +115,7 @@ loop-again : tie.Need-loop-again Inv-loop μ-loop Inv-loop2 μ-loop2 Inv-search 
 loop-again c =
     let v = c .before .before in
     let l = v .before .before .before .loop in
-    (omega arith, first-more (l .a) _ (l .inv .1) (pair-there _ _ (sym (v .before .zero-at .ensures) ∙ v .if2 .left) (sym (c .before .zero-at2 .ensures) ∙ c .if3 .left)))
+    (omega arith, first-more (l .a) _ (l .inv .1) (or-second (absent-not _ _ (sym (v .before .zero-at .ensures) ∙ v .if2 .left)) (absent-not _ _ (sym (c .before .zero-at2 .ensures) ∙ c .if3 .left))))
 
 -- the interval of a turn lies within then's slot
 settled-fits : (c : tie.Then4 Inv-loop μ-loop Inv-loop2 μ-loop2 Inv-search μ-search)
@@ -192,13 +192,13 @@ search-again c =
     let k = o .before .interval-length in
     let s = o .before .before .args in
     let e : l .a ≡ s .n = omega arith in
-    let p = cells-at (s .book .now) (s .n) (s .today) (o .search .i) (s .n) (k .ensures) (rw e at (l .inv .1)) in (
+    let p = accounts-at (s .book .now) (s .n) (s .today) (s .then) (o .search .i) (s .n) (k .ensures) (rw e at (l .inv .1)) in (
       omega arith,
       ⊎-elim
           (λ w.
           let q : w .3 .a ≡ s .n = omega (arith, w .4 .left, w .3 .inv .0) in
           passed-due (s .book .now) (s .n) (s .today) (s .then) (s .due) (o .search .i) (o .search .inv .1) p (w .0 .taken)
-          (settled-at (s .book .now) (s .n) (s .then) (o .search .i) (k .ensures) (settled-residual (s .book .now) (s .n) _ (sym (w .1 .ensures) ∙ w .2 .left) (rw q at (w .3 .inv .1)))))
+          (residuals-at (s .book .now) (s .n) (s .today) (s .then) (o .search .i) (k .ensures) (or-second (absent-not (s .book .now) _ (sym (w .1 .ensures) ∙ w .2 .left)) (rw q at (w .3 .inv .1)))))
           (λ w. passed (s .book .now) (s .n) (s .today) (s .then) (s .due) (o .search .i) (o .search .inv .1) p (w .left))
           (c .if4 .came),
     )
@@ -215,8 +215,8 @@ returns-2 c =
     let k = o .before .interval-length in
     let s = o .before .before .args in
     let v = sym (c .before .zero-at .ensures) ∙ c .if2 .taken in
-    sym (stops-pair (s .book .now) (s .n) (s .today) (s .then) (s .due) (o .search .i) (o .search .inv .1) (l .a) (omega arith) (t .loop-test .taken)
-    (cells-at (s .book .now) (s .n) (s .today) (o .search .i) (l .a) (k .ensures) (l .inv .1)) (pair-at (s .book .now) (s .n) (s .today) (o .search .i) (l .a) (k .ensures) (pair-vesting (s .book .now) _ v)))
+    sym (stops-account (s .book .now) (s .n) (s .today) (s .then) (s .due) (o .search .i) (o .search .inv .1) (l .a) (omega arith) (t .loop-test .taken)
+    (accounts-at (s .book .now) (s .n) (s .today) (s .then) (o .search .i) (l .a) (k .ensures) (l .inv .1)) (account-at (s .book .now) (s .n) (s .today) (s .then) (o .search .i) (l .a) (k .ensures) (or-first _ (absent-here (s .book .now) _ v))))
 
 returns-3 : tie.Need-returns-3 Inv-loop μ-loop Inv-loop2 μ-loop2 Inv-search μ-search
 returns-3 c =
@@ -228,8 +228,8 @@ returns-3 c =
     let s = o .before .before .args in
     let v = sym (f .before .zero-at .ensures) ∙ f .if2 .left in
     let m = sym (c .before .zero-at2 .ensures) ∙ c .if3 .taken in
-    sym (stops-pair (s .book .now) (s .n) (s .today) (s .then) (s .due) (o .search .i) (o .search .inv .1) (l .a) (omega arith) (t .loop-test .taken)
-    (cells-at (s .book .now) (s .n) (s .today) (o .search .i) (l .a) (k .ensures) (l .inv .1)) (pair-at (s .book .now) (s .n) (s .today) (o .search .i) (l .a) (k .ensures) (pair-meter (s .book .now) _ v m)))
+    sym (stops-account (s .book .now) (s .n) (s .today) (s .then) (s .due) (o .search .i) (o .search .inv .1) (l .a) (omega arith) (t .loop-test .taken)
+    (accounts-at (s .book .now) (s .n) (s .today) (s .then) (o .search .i) (l .a) (k .ensures) (l .inv .1)) (account-at (s .book .now) (s .n) (s .today) (s .then) (o .search .i) (l .a) (k .ensures) (or-second (absent-not (s .book .now) _ v) (absent-here (s .book .now) _ m))))
 
 returns-4 : tie.Need-returns-4 Inv-loop μ-loop Inv-loop2 μ-loop2 Inv-search μ-search
 returns-4 c =
@@ -240,8 +240,8 @@ returns-4 c =
     let s = o .before .before .args in
     let e : l .a ≡ s .n = omega arith in
     let v = sym (c .before .zero-at3 .ensures) ∙ c .if5 .taken in
-    sym (stops-settled (s .book .now) (s .n) (s .today) (s .then) (s .due) (o .search .i) (o .search .inv .1) (omega arith)
-    (cells-at (s .book .now) (s .n) (s .today) (o .search .i) (s .n) (k .ensures) (rw e at (l .inv .1))) (d .if4 .taken) (settled-at (s .book .now) (s .n) (s .then) (o .search .i) (k .ensures) (settled-ncc (s .book .now) (s .n) _ v)))
+    sym (stops-residuals (s .book .now) (s .n) (s .today) (s .then) (s .due) (o .search .i) (o .search .inv .1) (omega arith)
+    (accounts-at (s .book .now) (s .n) (s .today) (s .then) (o .search .i) (s .n) (k .ensures) (rw e at (l .inv .1))) (d .if4 .taken) (residuals-at (s .book .now) (s .n) (s .today) (s .then) (o .search .i) (k .ensures) (or-first _ (absent-here (s .book .now) _ v))))
 
 returns-5 : tie.Need-returns-5 Inv-loop μ-loop Inv-loop2 μ-loop2 Inv-search μ-search
 returns-5 c =
@@ -257,9 +257,9 @@ returns-5 c =
     let v = sym (f .before .zero-at3 .ensures) ∙ f .if5 .left in
     let r = absent-here (s .book .now) _ (sym (c .before .zero-at4 .ensures) ∙ c .if6 .taken) in
     sym
-    (stops-settled (s .book .now) (s .n) (s .today) (s .then) (s .due) (o .search .i) (o .search .inv .1) (omega arith)
-    (cells-at (s .book .now) (s .n) (s .today) (o .search .i) (s .n) (k .ensures) (rw e at (l .inv .1))) (d .if4 .taken)
-    (settled-at (s .book .now) (s .n) (s .then) (o .search .i) (k .ensures) (settled-residual (s .book .now) (s .n) _ v (first-stops (s .n) _ (l2 .a) _ (t .loop2-test .taken) (l2 .inv .1) r))))
+    (stops-residuals (s .book .now) (s .n) (s .today) (s .then) (s .due) (o .search .i) (o .search .inv .1) (omega arith)
+    (accounts-at (s .book .now) (s .n) (s .today) (s .then) (o .search .i) (s .n) (k .ensures) (rw e at (l .inv .1))) (d .if4 .taken)
+    (residuals-at (s .book .now) (s .n) (s .today) (s .then) (o .search .i) (k .ensures) (or-second (absent-not (s .book .now) _ v) (first-stops (s .n) _ (l2 .a) _ (t .loop2-test .taken) (l2 .inv .1) r))))
 
 pub first-absent-spec : {M : Type 1} → statement M
 first-absent-spec =
