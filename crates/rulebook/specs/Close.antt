@@ -107,10 +107,15 @@ unfoldable pub settled : Terms → List ℤ → ℕ → List ℤ → Found → C
 settled o w D st (At n) = closeRefused w st (DatumMissing n)
 settled o w D st Nothing = record { answer = Closed (closeFigures o w D); words = dayClosed o w D; statement = statementWritten o w D st }
 
+-- by whether the book is well formed, whether no day is left, whether the statement is too short, and what the search found
+abbrev pub closedBy : Terms → List ℤ → ℕ → List ℤ → Bool → Bool → Bool → Found → Closing
+closedBy o w D st formed finished short found =
+    cond formed
+    (cond finished (closeRefused w st Finished)
+    (cond short (closeRefused w st NoRoom)
+    (settled o w D st found)))
+    (closeRefused w st BookIllFormed)
+
 unfoldable pub closed : List ℤ → List ℤ → Closing
 closed w st =
-    cond (wellFormed w)
-    (cond (ltb lastDay (nextDay w)) (closeRefused w st Finished)
-    (cond (ltb (length st) (termsOf w .accounts + 1)) (closeRefused w st NoRoom)
-    (settled (termsOf w) w (nextDay w) st (firstMissing (termsOf w) w (nextDay w)))))
-    (closeRefused w st BookIllFormed)
+    closedBy (termsOf w) w (nextDay w) st (wellFormed w) (ltb lastDay (nextDay w)) (ltb (length st) (termsOf w .accounts + 1)) (firstMissing (termsOf w) w (nextDay w))

@@ -1,6 +1,6 @@
 -- The promise of a close, answer by answer. Assumes nothing.
 use mathlib.Core.Path.{_≡_, sym, ap, _∙_}
-use mathlib.Core.Bool.{false, cond}
+use mathlib.Core.Bool.{true, false}
 use mathlib.Core.List.{List}
 use Prim.Native.Nat.{ℕ, _+_, _≤_, _<_}
 use borrow.Author.Tests.{lt-ltb, le-ltb}
@@ -13,7 +13,7 @@ use Rattle.rulebook.specs.declared.CloseAnswer.the-variants.{Closed, BookIllFor
 use Rattle.rulebook.specs.Units.{lastDay}
 use Rattle.rulebook.specs.BookData.{nextDay}
 use Rattle.rulebook.specs.WellFormed.{wellFormed}
-use Rattle.rulebook.specs.Close.{Closing, closeRefused, firstMissing, closeFigures, dayClosed, statementWritten, settled, closed}
+use Rattle.rulebook.specs.Close.{Closing, firstMissing, closeFigures, dayClosed, statementWritten, settled, closedBy, closed}
 use Rattle.rulebook.specs.Numbers.{ofClose}
 use Rattle.rulebook.specs.Promises.{ClosePromise}
 use Rattle.book.specs.laws.JudgedLaws.{Formed}
@@ -33,9 +33,7 @@ module _ (w st : List ℤ) where
 
   -- a well-formed book of these terms and this next day
   abbrev closing : Terms → ℕ → Closing
-  closing o D =
-      cond (ltb lastDay D) (closeRefused w st Finished)
-      (cond (ltb (length st) (o .accounts + 1)) (closeRefused w st NoRoom) (settled o w D st (firstMissing o w D)))
+  closing o D = closedBy o w D st true (ltb lastDay D) (ltb (length st) (o .accounts + 1)) (firstMissing o w D)
 
   module _ (o : Terms) (D : ℕ) (f : Formed w o D) where
     closing-is : closed w st ≡ closing o D

@@ -18,13 +18,12 @@ use Rattle.integer.specs.Words.{word}
 use Rattle.rulebook.specs.declared.Section.{Section}
 use Rattle.rulebook.specs.declared.Section.the-variants.{Vesting, Meter}
 use Rattle.rulebook.specs.declared.Terms.{Terms}
-use Rattle.rulebook.specs.declared.CloseAnswer.the-variants.{Finished, NoRoom}
 use Rattle.rulebook.specs.Units.{lastDay}
 use Rattle.rulebook.specs.DayAmount.{msslAmount}
 use Rattle.rulebook.specs.Layout.{flagIndex, flagWord, balanceWord, msslWord, InWindow}
 use Rattle.rulebook.specs.BookData.{Entries, entriesOf, termsOf, nextDay}
 use Rattle.rulebook.specs.WellFormed.{isZero, rowFits, wellFormed, dayBound}
-use Rattle.rulebook.specs.Close.{closed, settled, closeRefused, firstMissing, posted, postedToMssl, dayClosed}
+use Rattle.rulebook.specs.Close.{closedBy, closed, settled, firstMissing, posted, postedToMssl, dayClosed}
 use Rattle.rulebook.specs.Demand3.{vestingOf, meterOf}
 use Rattle.rulebook.specs.Ledger.{Ledger, HoldsLedger}
 use Rattle.rulebook.specs.laws.TestLaws.{below-suc, T-path}
@@ -139,7 +138,7 @@ closed-formed w st t = rw (T-path (wellFormed w) t) (go (ltb lastDay (nextDay w)
     search left (At n) e = t
 
     go : (a b : Bool) → ltb lastDay (nextDay w) ≡ a
-        → T (wellFormed (cond a (closeRefused w st Finished) (cond b (closeRefused w st NoRoom) (settled (termsOf w) w (nextDay w) st (firstMissing (termsOf w) w (nextDay w)))) .words))
+        → T (wellFormed (closedBy (termsOf w) w (nextDay w) st true a b (firstMissing (termsOf w) w (nextDay w)) .words))
     go true b x = t
     go false true x = t
     go false false x = search (nltb→le lastDay (nextDay w) (subst (λ (b : Bool). T (not b)) (sym x) tt)) (firstMissing (termsOf w) w (nextDay w)) refl

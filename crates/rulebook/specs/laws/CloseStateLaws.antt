@@ -25,7 +25,7 @@ use Rattle.rulebook.specs.Layout.{flagIndex, InWindow}
 use Rattle.rulebook.specs.BookData.{entriesOf, bookData, dataOf}
 use Rattle.rulebook.specs.WellFormed.{dayBound}
 use Rattle.rulebook.specs.File.{Row}
-use Rattle.rulebook.specs.Close.{firstMissing, settled, closed, posted, postedToMssl, residualCount, dayClosed, closeRefused, Closing}
+use Rattle.rulebook.specs.Close.{firstMissing, settled, closed, posted, postedToMssl, residualCount, dayClosed, Closing, closedBy}
 use Rattle.rulebook.specs.Numbers.{ofClose}
 use Rattle.rulebook.specs.History.{latest, close, Event, closes, inForce, acceptedRows, lastFor, formulaBalance, formulaAmount, residualCounts, closingDay, dataInForce}
 use Rattle.rulebook.specs.Demand3.{vestingOf, meterOf, Missing}
@@ -42,10 +42,6 @@ use Rattle.rulebook.specs.laws.CloseLaws.{day-held}
 use Rattle.rulebook.specs.laws.SearchLaws.{all-there, some-missing, today, back}
 use Rattle.rulebook.specs.laws.StepLaws.{day-kept}
 use Rattle.rulebook.specs.laws.StateLaws.{unchanged, formed, terms, next}
-
--- a close of D, by whether no day is left, whether there is no room, and what the search found
-abbrev pub closedBy : Terms → List ℤ → ℕ → List ℤ → Bool → Bool → Found → Closing
-closedBy o w D st a b x = cond a (closeRefused w st Finished) (cond b (closeRefused w st NoRoom) (settled o w D st x))
 
 module _ (o : Terms) (t : InTerms o) (past : List Event) (w : List ℤ) (h : State o past w) where
   -- refused with 9, 10 or 11: nothing changes
@@ -150,7 +146,7 @@ module _ (o : Terms) (t : InTerms o) (past : List Event) (w : List ℤ) (h : Sta
   close-done st (At n) e left room = missed st n left room e
 
   -- what a close answers and leaves
-  pub close-is : (st : List ℤ) → closed w st ≡ closedBy o w (closingDay o past) st (ltb lastDay (closingDay o past)) (ltb (length st) (o .accounts + 1)) (firstMissing o w (closingDay o past))
+  pub close-is : (st : List ℤ) → closed w st ≡ closedBy o w (closingDay o past) st true (ltb lastDay (closingDay o past)) (ltb (length st) (o .accounts + 1)) (firstMissing o w (closingDay o past))
   unfolding closed
   close-is st = rw (formed o t past w h, terms o t past w h, next o t past w h, ap positive (h .holds .accounts)) refl
 
@@ -160,7 +156,7 @@ module _ (o : Terms) (t : InTerms o) (past : List Event) (w : List ℤ) (h : Sta
       (go (ltb lastDay (closingDay o past)) (ltb (length st) (o .accounts + 1)) refl refl)
     where
       inner : Bool → Bool → Closing
-      inner a b = closedBy o w (closingDay o past) st a b (firstMissing o w (closingDay o past))
+      inner a b = closedBy o w (closingDay o past) st true a b (firstMissing o w (closingDay o past))
 
       go : (a b : Bool) → ltb lastDay (closingDay o past) ≡ a → ltb (length st) (o .accounts + 1) ≡ b → State o (record { call = close st; answer = ofClose (inner a b .answer) } ∷ past) (inner a b .words)
       go true b x y = finished st (ltb→lt lastDay (closingDay o past) (subst T (sym x) tt))

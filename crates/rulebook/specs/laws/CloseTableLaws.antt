@@ -1,6 +1,6 @@
 -- The close's checks in turn give its table. Assumes nothing.
 use mathlib.Core.Path.{_≡_, refl, ap}
-use mathlib.Core.Bool.{Bool, true, false, cond}
+use mathlib.Core.Bool.{Bool, true, false}
 use mathlib.Core.List.{List}
 use Prim.Native.Nat.{ℕ, _+_, _<_}
 use native.Mathlib.Omega.{arith}
@@ -10,11 +10,10 @@ use lib.IntN.{ℤ}
 use lib.ListN.{length}
 use Rattle.integer.specs.declared.Found.{Found}
 use Rattle.integer.specs.declared.Found.the-variants.{At, Nothing}
-use Rattle.rulebook.specs.declared.CloseAnswer.the-variants.{BookIllFormed, Finished, NoRoom}
 use Rattle.rulebook.specs.Units.{lastDay}
 use Rattle.rulebook.specs.BookData.{termsOf, nextDay}
 use Rattle.rulebook.specs.WellFormed.{wellFormed}
-use Rattle.rulebook.specs.Close.{closed, settled, closeRefused, firstMissing}
+use Rattle.rulebook.specs.Close.{closedBy, closed, settled, firstMissing}
 use Rattle.rulebook.specs.Numbers.{Answer, numbered, ofClose}
 use Rattle.rulebook.specs.laws.TestLaws.{T-path}
 use Rattle.rulebook.specs.laws.FormedLaws.{next-of}
@@ -23,7 +22,7 @@ use Rattle.rulebook.specs.CloseTable.{CloseTable}
 module _ (w statement : List ℤ) where
   -- the answer by what the three tests say and what the search found
   abbrev told : Bool → Bool → Bool → Found → Answer
-  told a b c x = ofClose (cond a (cond b (closeRefused w statement Finished) (cond c (closeRefused w statement NoRoom) (settled (termsOf w) w (nextDay w) statement x))) (closeRefused w statement BookIllFormed) .answer)
+  told a b c x = ofClose (closedBy (termsOf w) w (nextDay w) statement a b c x .answer)
 
   ill-formed : (a b c : Bool) (x : Found) → told a b c x ≡ numbered 3 0 → a ≡ false
   unfolding settled

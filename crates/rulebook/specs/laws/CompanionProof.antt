@@ -27,7 +27,7 @@ use Rattle.rulebook.specs.Layout.{size}
 use Rattle.rulebook.specs.File.{fileRows}
 use Rattle.rulebook.specs.Judging.{limitsOf, judged}
 use Rattle.rulebook.specs.Submit.{Submission, submitted, taken}
-use Rattle.rulebook.specs.Close.{Closing, closeRefused, closed, settled, posted, postedToMssl, residualCount, firstMissing}
+use Rattle.rulebook.specs.Close.{Closing, closeRefused, closedBy, closed, settled, posted, postedToMssl, residualCount, firstMissing}
 use Rattle.rulebook.specs.Numbers.{accepted, notWellFormed, whyNumber, ofVerdict, ofSubmit, ofClose}
 use Rattle.rulebook.specs.History.{Event, closes, inForce, formulaBalance, closingDay, formulaAmount}
 use Rattle.rulebook.specs.Promises.{SubmitPromise, ClosePromise, Run, begun, thenSubmit, thenClose}
@@ -39,7 +39,7 @@ use Rattle.rulebook.specs.laws.SearchLaws.{search-is}
 use Rattle.rulebook.specs.laws.StepLaws.{storable}
 use Rattle.rulebook.specs.laws.BeyondLaws.{kept-all, rows-beyond, closed-beyond, statement-beyond, statement-amount, statement-mssl}
 use Rattle.rulebook.specs.laws.StateLaws.{terms, submit-is}
-use Rattle.rulebook.specs.laws.CloseStateLaws.{close-is, closedBy, amount-same}
+use Rattle.rulebook.specs.laws.CloseStateLaws.{close-is, amount-same}
 use Rattle.rulebook.specs.laws.Demand3Proof.{run-state, opening-state}
 
 not-3 : (why : Why) → whyNumber why ≢ notWellFormed
@@ -108,7 +108,7 @@ module _ (o : Terms) (t : InTerms o) (past : List Event) (w : List ℤ) (h : Sta
   settled-by st room (At n) e = refused-tells st (DatumMissing n) (sym e) (λ x. omega arith) (λ x. omega arith)
 
   close-by : (st : List ℤ) (a b : Bool) → ltb lastDay (closingDay o past) ≡ a → ltb (length st) (o .accounts + 1) ≡ b
-      → Tells st (closedBy o w (closingDay o past) st a b (firstMissing o w (closingDay o past)))
+      → Tells st (closedBy o w (closingDay o past) st true a b (firstMissing o w (closingDay o past)))
   unfolding closeTold
   close-by st true b x y = refused-tells st Finished (rw x refl) (λ z. omega arith) (λ z. omega arith)
   close-by st false true x y = refused-tells st NoRoom (rw (x, y) refl) (λ z. omega arith) (λ z. omega arith)

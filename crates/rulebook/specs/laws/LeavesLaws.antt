@@ -17,7 +17,7 @@ use Rattle.integer.specs.Words.{word}
 use Rattle.rulebook.specs.declared.Section.{Section}
 use Rattle.rulebook.specs.declared.Section.the-variants.{Vesting, Meter, Residual, Ncc}
 use Rattle.rulebook.specs.declared.Terms.{Terms}
-use Rattle.rulebook.specs.declared.CloseAnswer.the-variants.{BookIllFormed, Finished, NoRoom, Closed}
+use Rattle.rulebook.specs.declared.CloseAnswer.the-variants.{Closed}
 use Rattle.rulebook.specs.declared.SubmitAnswer.the-variants.{IllFormed}
 use Rattle.rulebook.specs.declared.Verdict.{Verdict}
 use Rattle.rulebook.specs.declared.Verdict.the-variants.{Accepted, Refused}
@@ -29,7 +29,7 @@ use Rattle.rulebook.specs.WellFormed.{wellFormed}
 use Rattle.rulebook.specs.File.{Row, fileRows, figureOf}
 use Rattle.rulebook.specs.Judging.{limitsOf, judged}
 use Rattle.rulebook.specs.Submit.{wordOf, entry, rowStored, rowsStored, taken, submitted}
-use Rattle.rulebook.specs.Close.{Closing, closed, settled, closeRefused, firstMissing, posted, postedToMssl, dayClosed, statementWritten, residualCount, closeFigures}
+use Rattle.rulebook.specs.Close.{Closing, closedBy, closed, settled, firstMissing, posted, postedToMssl, dayClosed, statementWritten, residualCount, closeFigures}
 use Rattle.rulebook.specs.Numbers.{accepted, ofSubmit, ofClose}
 use Rattle.rulebook.specs.NamedRows.{NamedRow, named, namedRows}
 use Rattle.rulebook.specs.Proper.{sameKey, Once}
@@ -62,7 +62,7 @@ unfolding closed settled
 accepted-settled w st n = go (wellFormed w) (ltb lastDay (nextDay w)) (ltb (length st) (termsOf w .accounts + 1)) (firstMissing (termsOf w) w (nextDay w)) refl refl refl refl n
   where
     answers : Bool → Bool → Bool → Found → Closing
-    answers a b c x = cond a (cond b (closeRefused w st Finished) (cond c (closeRefused w st NoRoom) (settled (termsOf w) w (nextDay w) st x))) (closeRefused w st BookIllFormed)
+    answers = closedBy (termsOf w) w (nextDay w) st
 
     go : (a b c : Bool) (x : Found) → wellFormed w ≡ a → ltb lastDay (nextDay w) ≡ b → ltb (length st) (termsOf w .accounts + 1) ≡ c → firstMissing (termsOf w) w (nextDay w) ≡ x
         → ofClose (answers a b c x .answer) .number ≡ accepted → Settled w st

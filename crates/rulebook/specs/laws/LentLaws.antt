@@ -14,7 +14,6 @@ use Rattle.integer.specs.Below.{Each}
 use Rattle.integer.specs.Words.{word}
 use Rattle.rulebook.specs.declared.Verdict.{Verdict}
 use Rattle.rulebook.specs.declared.Verdict.the-variants.{Accepted, Refused}
-use Rattle.rulebook.specs.declared.CloseAnswer.the-variants.{BookIllFormed, Finished, NoRoom}
 use Rattle.rulebook.specs.declared.Section.{Section}
 use Rattle.rulebook.specs.declared.SubmitAnswer.the-variants.{IllFormed}
 use Rattle.rulebook.specs.Units.{lastDay}
@@ -25,7 +24,7 @@ use Rattle.rulebook.specs.WellFormed.{wellFormed}
 use Rattle.rulebook.specs.File.{fileRows}
 use Rattle.rulebook.specs.Judging.{limitsOf, judged}
 use Rattle.rulebook.specs.Submit.{rowsStored, taken, submitted, entryOr}
-use Rattle.rulebook.specs.Close.{Closing, closed, settled, closeRefused, firstMissing}
+use Rattle.rulebook.specs.Close.{Closing, closedBy, closed, settled, firstMissing}
 use Rattle.rulebook.specs.Numbers.{accepted, ofSubmit, ofClose}
 use Rattle.rulebook.specs.History.{lastFor}
 use Rattle.rulebook.specs.Companion.{KeptFrom}
@@ -85,7 +84,7 @@ unfolding closed settled
 refused-close w statement n = go (wellFormed w) (ltb lastDay (nextDay w)) (ltb (length statement) (termsOf w .accounts + 1)) (firstMissing (termsOf w) w (nextDay w)) n
   where
     answers : Bool → Bool → Bool → Found → Closing
-    answers a b c x = cond a (cond b (closeRefused w statement Finished) (cond c (closeRefused w statement NoRoom) (settled (termsOf w) w (nextDay w) statement x))) (closeRefused w statement BookIllFormed)
+    answers = closedBy (termsOf w) w (nextDay w) statement
 
     go : (a b c : Bool) (x : Found) → ofClose (answers a b c x .answer) .number ≢ accepted → (answers a b c x .words ≡ w) × (answers a b c x .statement ≡ statement)
     go false b c x y = (refl, refl)
@@ -101,14 +100,14 @@ closed-words-beyond w statement t = record {
   written = rw (T-path (wellFormed w) t) (statement-kept (ltb lastDay (nextDay w)) (ltb (length statement) (termsOf w .accounts + 1)) (firstMissing (termsOf w) w (nextDay w)));
 }
   where
-    book-kept : (a b : Bool) (x : Found) → KeptFrom (size (termsOf w)) w (cond a (closeRefused w statement Finished) (cond b (closeRefused w statement NoRoom) (settled (termsOf w) w (nextDay w) statement x)) .words)
+    book-kept : (a b : Bool) (x : Found) → KeptFrom (size (termsOf w)) w (closedBy (termsOf w) w (nextDay w) statement true a b x .words)
     book-kept true b x = kept-all (size (termsOf w)) w
     book-kept false true x = kept-all (size (termsOf w)) w
     book-kept false false (At n) = kept-all (size (termsOf w)) w
     book-kept false false Nothing = closed-beyond (termsOf w) (ring-pos (termsOf w) (opened-of w t)) w (nextDay w)
 
     statement-kept : (a b : Bool) (x : Found)
-        → KeptFrom (termsOf w .accounts + 1) statement (cond a (closeRefused w statement Finished) (cond b (closeRefused w statement NoRoom) (settled (termsOf w) w (nextDay w) statement x)) .statement)
+        → KeptFrom (termsOf w .accounts + 1) statement (closedBy (termsOf w) w (nextDay w) statement true a b x .statement)
     statement-kept true b x = kept-all (termsOf w .accounts + 1) statement
     statement-kept false true x = kept-all (termsOf w .accounts + 1) statement
     statement-kept false false (At n) = kept-all (termsOf w .accounts + 1) statement
