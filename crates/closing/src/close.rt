@@ -13,9 +13,7 @@ use rulebook::CloseFigures;
 use rulebook::Terms;
 use rulebook::units;
 ghost use mathlib.Core.Path.{_≡_};
-ghost use mathlib.Core.List.{List};
 ghost use Prim.Native.Nat.{_+_, _*_, _≤_};
-ghost use lib.IntN.{ℤ};
 ghost use lib.ListN.{length};
 ghost use Rattle.rulebook.specs.Units.{intervals};
 ghost use Rattle.rulebook.specs.Shares.{mostAccounts};
@@ -48,7 +46,7 @@ fn day_residuals(n: usize) -> usize
 // Those that a close settles, or none.
 fn residual_count(terms: Terms, day: usize) -> usize
     requires { ⌜ InTerms terms ⌝ }
-    ensures { λ r. ⌜ ((w : List ℤ) → r ≡ residualCount terms w day) ⌝ }
+    ensures { λ r. ⌜ r ≡ residualCount terms day ⌝ }
 {
     if is_due(terms, day) {
         day_residuals(terms.accounts)

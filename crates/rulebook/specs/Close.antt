@@ -86,12 +86,15 @@ module _ (o : Terms) (w : List ℤ) (D : ℕ) where
   unfoldable pub statementWritten : List ℤ → List ℤ
   statementWritten st = set (stored st 0 (o .accounts) posted) (o .accounts) postedToMssl
 
-  unfoldable pub residualCount : ℕ
-  residualCount = cond (residualDue o D) (intervals * o .accounts) 0
+-- ---- What a close answers
 
-  -- what an accepted close answers
-  abbrev pub closeFigures : CloseFigures
-  closeFigures = record { day = D; count = residualCount }
+-- the residuals that a close of D settles: 48N if r ≥ F, else none
+unfoldable pub residualCount : Terms → ℕ → ℕ
+residualCount o D = cond (residualDue o D) (intervals * o .accounts) 0
+
+-- what an accepted close answers
+abbrev pub closeFigures : Terms → ℕ → CloseFigures
+closeFigures o D = record { day = D; count = residualCount o D }
 
 -- what a close answers, and the words of book and statement that it leaves
 pub record Closing : Type 0 where
@@ -105,7 +108,7 @@ closeRefused w st answer = record { answer = answer; words = w; statement = st }
 -- by what the search found
 unfoldable pub settled : Terms → List ℤ → ℕ → List ℤ → Found → Closing
 settled o w D st (At n) = closeRefused w st (DatumMissing n)
-settled o w D st Nothing = record { answer = Closed (closeFigures o w D); words = dayClosed o w D; statement = statementWritten o w D st }
+settled o w D st Nothing = record { answer = Closed (closeFigures o D); words = dayClosed o w D; statement = statementWritten o w D st }
 
 -- by whether the book is well formed, whether no day is left, whether the statement is too short, and what the search found
 abbrev pub closedBy : Terms → List ℤ → ℕ → List ℤ → Bool → Bool → Bool → Found → Closing

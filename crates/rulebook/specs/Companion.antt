@@ -4,7 +4,7 @@ use mathlib.Core.Logic.{_≢_, _↔_}
 use mathlib.Core.Bool.{cond}
 use mathlib.Core.List.{List}
 use mathlib.Core.Option.{Option, none, some}
-use Prim.Native.Nat.{ℕ, _+_, _*_, _≤_, _<_}
+use Prim.Native.Nat.{ℕ, _+_, _≤_, _<_}
 use lib.IntN.{ℤ, negℤ}
 use lib.Dec.{ltb}
 use lib.ListN.{length}
@@ -15,14 +15,14 @@ use Rattle.integer.specs.Words.{word}
 use Rattle.rulebook.specs.declared.Section.{Section}
 use Rattle.rulebook.specs.declared.Terms.{Terms}
 use Rattle.rulebook.specs.declared.OpenAnswer.{OpenAnswer}
-use Rattle.rulebook.specs.Units.{lastDay, intervals}
+use Rattle.rulebook.specs.Units.{lastDay}
 use Rattle.rulebook.specs.DayAmount.{residualDue}
 use Rattle.rulebook.specs.Terms.{InTerms}
 use Rattle.rulebook.specs.Layout.{size, flagWord}
 use Rattle.rulebook.specs.Opening.{header}
 use Rattle.rulebook.specs.File.{Row}
 use Rattle.rulebook.specs.Judging.{limitsOf, judged}
-use Rattle.rulebook.specs.Close.{searched, neededDay}
+use Rattle.rulebook.specs.Close.{searched, neededDay, residualCount}
 use Rattle.rulebook.specs.Numbers.{Answer, numbered, accepted, outsideRange, wordsTooFew, notWellFormed, bookFinished, outputTooShort, datumAbsent, ofOpen, ofVerdict, ofSubmit, ofClose}
 use Rattle.rulebook.specs.History.{Event, closingDay, inForce, formulaAmount}
 use Rattle.rulebook.specs.Promises.{OpenPromise, Run, begun, thenSubmit, thenClose}
@@ -49,7 +49,7 @@ module _ (o : Terms) (past : List Event) where
 
   abbrev pub searchAnswered : Found → Answer
   searchAnswered (At at) = numbered datumAbsent at
-  searchAnswered Nothing = record { number = accepted; position = 0; day = closingDay o past; count = cond (residualDue o (closingDay o past)) (intervals * o .accounts) 0 }
+  searchAnswered Nothing = record { number = accepted; position = 0; day = closingDay o past; count = residualCount o (closingDay o past) }
 
   unfoldable pub closeTold : List ℤ → Answer
   closeTold statement =

@@ -52,6 +52,6 @@ module _ (w st : List ℤ) where
         unfolding settled
         missing n e = kept (closing-is ∙ rw (le-ltb lastDay D left, le-ltb (length st) (o .accounts + 1) room, e))
 
-        pub accepted : firstMissing o w D ≡ Nothing → ClosePromise w st (Closed (closeFigures o w D)) (dayClosed o w D) (statementWritten o w D st)
+        pub accepted : firstMissing o w D ≡ Nothing → ClosePromise w st (Closed (closeFigures o D)) (dayClosed o w D) (statementWritten o w D st)
         unfolding settled
         accepted e = kept (closing-is ∙ rw (le-ltb lastDay D left, le-ltb (length st) (o .accounts + 1) room, e))

@@ -22,7 +22,7 @@ use Rattle.rulebook.specs.Opening.{newBook, opened}
 use Rattle.rulebook.specs.Submit.{submitted}
 use Rattle.rulebook.specs.Close.{closed}
 use Rattle.rulebook.specs.declared.Answer.{Answer}
-use Rattle.rulebook.specs.Close.{searched}
+use Rattle.rulebook.specs.Close.{searched, residualCount}
 use Rattle.rulebook.specs.Numbers.{numbered}
 use Rattle.rulebook.specs.History.{Event, submit, closes, latest, lastFor, acceptedRows, inForce, formulaAmount}
 use Rattle.rulebook.specs.Companion.{submitTold, firstLacking, closeTold}
@@ -140,7 +140,7 @@ abbrev dayAnswer : Answer
 dayAnswer = record { number = 0; position = 0; day = 9497; count = 0 }
 
 day-closed : closeTold two history newStatement ≡ dayAnswer
-unfolding closeTold firstLacking searched inForce latest lastFor acceptedRows closes residualDue fold orElse fileRows sectionRows tabulate num rowEnd rowPos sectionEnd turns valueAt signed32 numberOf figureOf base ring intervalSize slot intervalWord rowWord
+unfolding closeTold firstLacking searched residualCount inForce latest lastFor acceptedRows closes residualDue fold orElse fileRows sectionRows tabulate num rowEnd rowPos sectionEnd turns valueAt signed32 numberOf figureOf base ring intervalSize slot intervalWord rowWord
 day-closed = refl
 
 -- the accounts' amounts, and the MSSL's

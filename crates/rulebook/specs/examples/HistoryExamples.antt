@@ -99,8 +99,8 @@ pub record Closes : Type 0 where
   pub acceptedTwo : closeTold two (taken (residualFile 1) ∷ taken (residualFile 0) ∷ bothReady) (words 3)
       ≡ record { number = 0; position = 0; day = 9498; count = 96 }
   pub secondLacks : closeTold two (taken (residualFile 0) ∷ bothReady) (words 3) ≡ numbered 11 126
-  -- of a book's words too, whatever they are
-  pub counts : (w : List ℤ) → (residualCount two w 9497 ≡ 0) × (residualCount two w 9498 ≡ 96)
+  -- the count alone, of a day before the lag is over and of the next
+  pub counts : (residualCount two 9497 ≡ 0) × (residualCount two 9498 ≡ 96)
   -- the last day of all is closed, and no statement is asked for
   pub finished : closeTold (record { accounts = 1; lag = 1; horizon = 1; first = 36524 }) (closedDay 36524 0 ∷ []) [] ≡ numbered 9 0
   -- the last row accepted is in force
@@ -124,7 +124,7 @@ closes-told = record {
   acceptedAgain = refl;
   acceptedTwo = refl;
   secondLacks = refl;
-  counts = λ w. (refl, refl);
+  counts = (refl, refl);
   finished = refl;
   revised = refl;
   notRevised = refl;

@@ -93,7 +93,7 @@ module _ (o : Terms) (t : InTerms o) (past : List Event) (w : List ℤ) (h : Sta
       (data-sized (o .accounts) (entriesIn (inForce past)) (closingDay o past) (ranged (closingDay o past)))
       (λ x. data-sized (o .accounts) (entriesIn (inForce past)) (residualDay o (closingDay o past)) (ranged (residualDay o (closingDay o past)))) a ha)
 
-  count-grown : residualCounts past + residualCount o w (closingDay o past) ≡ 48 * o .accounts * (suc (closes past) - o .lag)
+  count-grown : residualCounts past + residualCount o (closingDay o past) ≡ 48 * o .accounts * (suc (closes past) - o .lag)
   unfolding residualCount residualDue
   count-grown = rw (h .counted) (go (leb (o .first + o .lag) (closingDay o past)) refl)
     where

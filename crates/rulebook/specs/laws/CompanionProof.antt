@@ -27,7 +27,7 @@ use Rattle.rulebook.specs.Layout.{size}
 use Rattle.rulebook.specs.File.{fileRows}
 use Rattle.rulebook.specs.Judging.{limitsOf, judged}
 use Rattle.rulebook.specs.Submit.{Submission, submitted, taken}
-use Rattle.rulebook.specs.Close.{Closing, closeRefused, closedBy, closed, settled, posted, postedToMssl, residualCount, firstMissing}
+use Rattle.rulebook.specs.Close.{Closing, closeRefused, closedBy, closed, settled, posted, postedToMssl, firstMissing}
 use Rattle.rulebook.specs.Numbers.{accepted, notWellFormed, whyNumber, ofVerdict, ofSubmit, ofClose}
 use Rattle.rulebook.specs.History.{Event, closes, inForce, formulaBalance, closingDay, formulaAmount}
 use Rattle.rulebook.specs.Promises.{SubmitPromise, ClosePromise, Run, begun, thenSubmit, thenClose}
@@ -92,7 +92,7 @@ module _ (o : Terms) (t : InTerms o) (past : List Event) (w : List ℤ) (h : Sta
   }
 
   settled-by : (st : List ℤ) → o .accounts + 1 ≤ length st → (x : Found) → closeTold o past st ≡ searchAnswered o past x → Tells st (settled o w (closingDay o past) st x)
-  unfolding settled residualCount
+  unfolding settled
   settled-by st room Nothing e = record {
     answered = sym e;
     wellFormed = λ x. omega arith;

@@ -93,7 +93,7 @@ module _ (w st : List ℤ) (t : T (wellFormed w)) (room : termsOf w .accounts + 
   unfolding base
   front n h = closed-front o w D n h
 
-  close-leaves : CloseLeaves o D w st (ofClose (Closed (closeFigures o w D))) (dayClosed o w D) (statementWritten o w D st)
+  close-leaves : CloseLeaves o D w st (ofClose (Closed (closeFigures o D))) (dayClosed o w D) (statementWritten o w D st)
   unfolding posted postedToMssl msslAmount residualCount residualDue intervalWord base intervalSize slot ring
   close-leaves = record {
     number = refl;

@@ -13,11 +13,11 @@ day-residuals-requires c κs = search needs
 
 returns : tie.Need-returns
 unfolding residualCount
-returns c w = rw (sym (c .before .before .is-due .ensures) ∙ c .before .if1 .taken) (c .day-residuals .ensures)
+returns c = rw (sym (c .before .before .is-due .ensures) ∙ c .before .if1 .taken) (c .day-residuals .ensures)
 
 returns-2 : tie.Need-returns-2
 unfolding residualCount
-returns-2 c w = rw (sym (c .before .is-due .ensures) ∙ c .if1 .left)
+returns-2 c = rw (sym (c .before .is-due .ensures) ∙ c .if1 .left)
 
 pub residual-count-spec : {M : Type 1} → statement M
 residual-count-spec = tie.close (tie.spec is-due-requires day-residuals-requires returns returns-2)

@@ -32,7 +32,7 @@ returns c =
     let w = b .before .before .before .before in
     let s = w .before .before .before in
     let a = s .args in
-    rw (c .residual-count .ensures (a .book .now), b .write-book .ensures, w .write-statement .ensures)
+    rw (c .residual-count .ensures, b .write-book .ensures, w .write-statement .ensures)
     (accepted (a .book .now) (a .statement .now) (a .terms) (a .day) (s .pre .0 .book) (s .pre .0 .left) (s .pre .1) (s .pre .0 .none))
 
 pub settle-spec : {M : Type 1} → statement M
