@@ -1,5 +1,4 @@
 pub mod Judgeable
-pub mod Positions
 pub mod Fields
 pub mod Values
 pub mod Marks

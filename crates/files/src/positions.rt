@@ -11,8 +11,7 @@ ghost use Prim.Native.Nat.{_+_, _*_, _≤_, _<_, _^_};
 ghost use lib.ListN.{length};
 ghost use Rattle.rulebook.specs.Units.{intervals};
 ghost use Rattle.rulebook.specs.ReferencePrice.{mostFacilities};
-ghost use Rattle.rulebook.specs.File.{dayPos, countPos, valuesPos, accountAt, dayAt, countAt, rowsIn};
-ghost use Rattle.files.specs.Positions.{valuesOf, rowEndOf};
+ghost use Rattle.rulebook.specs.File.{dayPos, countPos, valuesPos, accountAt, dayAt, countAt, valuesOf, rowEndOf, rowsIn};
 
 // The bytes of a section's count of rows, of a row's day and of each of its values.
 pub const ROWS_BYTES: usize = 2;

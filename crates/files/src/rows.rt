@@ -30,7 +30,7 @@ ghost use lib.ListN.{length};
 ghost use Rattle.rulebook.specs.declared.Why.the-variants.{OutOfRange};
 ghost use Rattle.rulebook.specs.Units.{intervals};
 ghost use Rattle.rulebook.specs.Sections.{leastCount, mostCount};
-ghost use Rattle.rulebook.specs.File.{accountBytes, countBytes, rowEnd};
+ghost use Rattle.rulebook.specs.File.{accountBytes, countBytes, countPos, rowEnd};
 ghost use Rattle.rulebook.specs.Judging.{upTo, key, rest, rowAfter};
 ghost use Rattle.files.specs.Fields.{outcome, headingAt, fieldOutcome};
 ghost use Rattle.files.specs.Values.{valueIn};
@@ -106,7 +106,7 @@ fn judge_count(sec: Section, f: Field, at: usize) -> Outcome
 
 // What follows the day of the row at a position, count and values; the position past the row.
 fn judge_rest(sec: Section, file: &[u8], heading: Heading, at: usize) -> Outcome
-    requires { ⌜ (at + accountBytes sec + 2 ≤ length (now file)) × (heading ≡ headingAt (accountBytes sec) (countBytes sec) (now file) at) ⌝ }
+    requires { ⌜ (countPos sec at ≤ length (now file)) × (heading ≡ headingAt (accountBytes sec) (countBytes sec) (now file) at) ⌝ }
     ensures { λ r. ⌜ r ≡ outcome (rest sec (now (file .entry)) at) (rowEnd sec (now (file .entry)) at) ⌝ }
 {
     let count_field = heading.count;

@@ -67,12 +67,20 @@ dayAt sec s at = num 2 s (dayPos sec at)
 abbrev pub countAt : Section → List ℕ → ℕ → ℕ
 countAt sec s at = num (countBytes sec) s (countPos sec at)
 
--- how many values the row has
+-- how many values a row of a tranche or facility count has
+abbrev pub valuesOf : Section → ℕ → ℕ
+valuesOf sec count = intervals * perInterval sec count
+
+-- and where it ends
+abbrev pub rowEndOf : Section → ℕ → ℕ → ℕ
+rowEndOf sec at count = valuesPos sec at + 4 * valuesOf sec count
+
+-- the row's own, by the count that it says
 abbrev pub valuesIn : Section → List ℕ → ℕ → ℕ
-valuesIn sec s at = intervals * perInterval sec (countAt sec s at)
+valuesIn sec s at = valuesOf sec (countAt sec s at)
 
 unfoldable pub rowEnd : Section → List ℕ → ℕ → ℕ
-rowEnd sec s at = valuesPos sec at + 4 * valuesIn sec s at
+rowEnd sec s at = rowEndOf sec at (countAt sec s at)
 
 -- ---- Sections
 

@@ -12,7 +12,7 @@ use Rattle.rulebook.specs.declared.Terms.{Terms}
 use Rattle.rulebook.specs.Units.{intervals}
 use Rattle.rulebook.specs.Sections.{accountsOf, mostCount, perInterval}
 use Rattle.rulebook.specs.Layout.{present, width, flagIndex}
-use Rattle.rulebook.specs.File.{accountAt, dayAt, countAt, valuesPos, valuesIn, valueAt, rowAt, rowPos, rowsIn, meterPos, residualPos, nccPos}
+use Rattle.rulebook.specs.File.{accountAt, dayAt, countAt, rowEnd, valueAt, rowAt, rowPos, rowsIn, meterPos, residualPos, nccPos}
 use Rattle.rulebook.specs.Submit.{rowStored}
 use Rattle.submission.specs.declared.store.Form.{Form}
 
@@ -48,7 +48,7 @@ pub record RowFits (o : Terms) (sec : Section) (s : List ℕ) (at : ℕ) : Type 
   pub account : accountAt sec s at < accountsOf sec (o .accounts)
   pub day : o .first ≤ dayAt sec s at
   pub count : countAt sec s at ≤ mostCount sec
-  pub whole : valuesPos sec at + 4 * valuesIn sec s at ≤ length s
+  pub whole : rowEnd sec s at ≤ length s
 
 pub record SectionFits (o : Terms) (sec : Section) (s : List ℕ) (at : ℕ) : Type 0 where
   pub start : at + 2 ≤ length s

@@ -24,7 +24,6 @@ use Rattle.files.specs.declared.reader.Heading.{Heading}
 use Rattle.files.specs.Fields.{outcome, headingAt, fieldOutcome}
 use Rattle.files.specs.laws.FieldsLaws.{up-none, up-more, field-whole, field-judged}
 use Rattle.files.specs.Judgeable.{Judgeable}
-use Rattle.files.specs.Positions.{valuesOf, rowEndOf}
 use Rattle.files.specs.Values.{valueIn}
 use Rattle.files.specs.Marks.{markOf, marked, unmarked, marksAfter, Marked, Before}
 use Rattle.files.specs.laws.MarksLaws.{length-unmarked, marked-none, marked-more}
@@ -66,15 +65,6 @@ count-le Vesting = omega arith
 count-le Meter = omega arith
 count-le Residual = omega arith
 count-le Ncc = omega arith
-
--- by the row's own count, its values and its end are the rule book's
-module _ (sec : Section) (s : List ℕ) (at : ℕ) {count : ℕ} (e : count ≡ countAt sec s at) where
-  pub values-of : valuesOf sec count ≡ valuesIn sec s at
-  values-of = rw e
-
-  pub row-end-of : rowEndOf sec at count ≡ rowEnd sec s at
-  unfolding rowEnd
-  row-end-of = rw e
 
 -- the values, judged in the part of the file from a to e that they stand in
 pub rest-values : (sec : Section) (s : List ℕ) (at : ℕ) {a e n end : ℕ}

@@ -17,9 +17,10 @@ use Rattle.rulebook.specs.Terms.{InTerms}
 use Rattle.rulebook.specs.Sections.{accountsOf}
 use Rattle.rulebook.specs.BookData.{termsOf, nextDay}
 use Rattle.rulebook.specs.WellFormed.{wellFormed}
-use Rattle.rulebook.specs.File.{num, accountAt, valuesPos, valuesIn, rowPos, fileRows}
+use Rattle.rulebook.specs.File.{num, accountAt, rowPos, fileRows}
 use Rattle.rulebook.specs.Judging.{openFrom, limitsOf, judgedSection, judged}
 use Rattle.rulebook.specs.laws.JudgingLaws.{Fine, section-start, section-row, sections}
+use Rattle.rulebook.specs.laws.PositionLaws.{row-end}
 use Rattle.rulebook.specs.Submit.{rowsStored, submitted}
 use Rattle.rulebook.specs.Promises.{SubmitPromise}
 use Rattle.files.specs.Judgeable.{RoomForDays, Judgeable}
@@ -61,12 +62,8 @@ module _ (o : Terms) (C : ℕ) (some : 1 ≤ o .accounts) (begun : o .first ≤ 
     account = account-below (o .accounts) sec s at some (omega (arith, h .named .account .to));
     day = omega (arith, open-late sec, h .named .day .from);
     count = h .count .to;
-    whole = values-whole (valuesIn sec s at) refl;
+    whole = row-end (limitsOf o C) sec s at h;
   }
-    where
-      values-whole : (n : ℕ) → valuesIn sec s at ≡ n → valuesPos sec at + 4 * valuesIn sec s at ≤ length s
-      values-whole zero e = omega (arith, h .count .whole)
-      values-whole (suc n) e = omega (arith, h .each n (omega arith) .whole)
 
   section-fits : (sec : Section) (s : List ℕ) (at : ℕ) → judgedSection (limitsOf o C) sec s at ≡ Accepted → SectionFits o sec s at
   section-fits sec s at e = record {

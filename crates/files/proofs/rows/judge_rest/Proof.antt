@@ -9,12 +9,12 @@ use Rattle.rulebook.specs.declared.Verdict.the-variants.{Accepted, Refused}
 use Rattle.rulebook.specs.declared.Why.the-variants.{OutOfRange}
 use Rattle.rulebook.specs.ReferencePrice.{mostFacilities}
 use Rattle.rulebook.specs.Sections.{leastCount, mostCount}
-use Rattle.rulebook.specs.File.{countBytes, countPos, valuesPos, countAt}
+use Rattle.rulebook.specs.File.{countBytes, countPos, valuesPos, countAt, valuesOf, rowEndOf, rowEnd}
 use Rattle.rulebook.specs.Judging.{fieldIn, rest}
 use Rattle.rulebook.specs.laws.JudgingLaws.{Field, field-says}
 use Rattle.files.specs.Fields.{outcome}
 use Rattle.files.specs.laws.FieldsLaws.{outcome-passed, outcome-stopped}
-use Rattle.files.specs.laws.RowsLaws.{heading-count, heading-next, count-le, values-of, row-end-of, rest-values}
+use Rattle.files.specs.laws.RowsLaws.{heading-count, heading-next, count-le, rest-values}
 use Rattle.files.proofs.rows.judge_rest.Statement.{statement}
 use Rattle.files.proofs.rows.judge_rest.Tie as tie
 
@@ -89,12 +89,13 @@ outcome-of-requires : tie.Need-outcome-of-requires
 outcome-of-requires c κs = search needs
 
 returns-2 : tie.Need-returns-2
+unfolding rowEnd
 returns-2 c =
     let p = c .before .before .before .before in
     let k = p .before .before in
     let g = start (counted k) .args in
-    let n = p .before .values-of .ensures .0 ∙ values-of (g .sec) (g .file .now) (g .at) (sym (count-on k .1)) in
-    let end = p .row-end .ensures ∙ row-end-of (g .sec) (g .file .now) (g .at) (sym (count-on k .1)) in
+    let n = p .before .values-of .ensures .0 ∙ ap (valuesOf (g .sec)) (sym (count-on k .1)) in
+    let end = p .row-end .ensures ∙ ap (rowEndOf (g .sec) (g .at)) (sym (count-on k .1)) in
     c .outcome-of .ensures
     ∙ (ap (λ (v : Verdict). outcome v (p .row-end .result)) (c .before .judge-values .ensures)
     ∙ rest-values (g .sec) (g .file .now) (g .at) (count-on k .0) (from k) n end (c .before .before .before .least .ensures))
