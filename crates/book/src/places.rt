@@ -7,7 +7,7 @@ ghost use mathlib.Core.Path.{_≡_};
 ghost use Prim.Native.Nat.{_≤_};
 ghost use Rattle.rulebook.specs.Terms.{InTerms};
 ghost use Rattle.rulebook.specs.Shares.{mostAccounts};
-ghost use Rattle.rulebook.specs.Layout.{intervalLength, intervalSize, slot, intervalWord};
+ghost use Rattle.rulebook.specs.Layout.{intervalLength, intervalSize, slotStart};
 
 // Words of an interval: 4 + 24N.
 pub fn interval_size(terms: Terms) -> usize
@@ -20,7 +20,7 @@ pub fn interval_size(terms: Terms) -> usize
 // The first word of the slot of a day: slot (d − F) mod (L + H).
 pub fn slot_start(terms: Terms, day: usize) -> usize
     requires { ⌜ InTerms terms × (terms .first ≤ day) ⌝ }
-    ensures { λ r. ⌜ r ≡ intervalWord terms (slot terms day) 0 0 ⌝ }
+    ensures { λ r. ⌜ r ≡ slotStart terms day ⌝ }
 {
     let slot = (day - terms.first) % (terms.lag + terms.horizon);
     layout::HEADER_WORDS

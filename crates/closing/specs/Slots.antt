@@ -1,20 +1,16 @@
 -- The slots of a lent book, as the code lends them. Assumes nothing.
 use mathlib.Core.Bool.{cond}
 use mathlib.Core.List.{List}
-use Prim.Native.Nat.{ℕ, _+_, _*_}
+use Prim.Native.Nat.{ℕ}
 use lib.IntN.{ℤ}
 use Rattle.integer.specs.Words.{part}
 use Rattle.rulebook.specs.declared.Terms.{Terms}
 use Rattle.rulebook.specs.DayAmount.{residualDue, residualDay}
-use Rattle.rulebook.specs.Layout.{slot, intervalWord, slotLength}
+use Rattle.rulebook.specs.Layout.{slotLength, slotStart}
 use Rattle.amounts.specs.declared.day.Residuals.{Residuals}
 use Rattle.amounts.specs.Day.{residualsOf, noResiduals}
 
--- where the slot of day d starts
-unfoldable pub slotStart : Terms → ℕ → ℕ
-slotStart o d = intervalWord o (slot o d) 0 0
-
--- its words
+-- the words of day d's slot
 abbrev pub slotWords : Terms → List ℤ → ℕ → List ℤ
 slotWords o w d = part w (slotStart o d) (slotLength (o .accounts))
 

@@ -42,7 +42,7 @@ pub fn write_statement(statement: &mut [i64], book: &[i64], terms: Terms, day: u
 // r's slot is lent onward to be blanked, if r is not before F.
 fn blank_settled(book: &mut [i64], terms: Terms, day: usize)
     requires { ⌜ InTerms terms × (terms .first ≤ day) × (size terms ≤ length (now book)) ⌝ }
-    ensures { λ _. ⌜ now (book .exit) ≡ slotBlanked terms (now (book .entry)) day (now (book .entry)) ⌝ }
+    ensures { λ _. ⌜ now (book .exit) ≡ slotBlanked terms day (now (book .entry)) ⌝ }
 {
     if is_due(terms, day) {
         let settled = day - terms.lag;

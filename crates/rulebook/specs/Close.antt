@@ -17,17 +17,17 @@ use Rattle.rulebook.specs.declared.CloseAnswer.{CloseAnswer}
 use Rattle.rulebook.specs.declared.CloseAnswer.the-variants.{Closed, BookIllFormed, Finished, NoRoom, DatumMissing}
 use Rattle.rulebook.specs.Units.{lastDay, intervals}
 use Rattle.rulebook.specs.DayAmount.{residualDue, residualDay, postedAmount, msslAmount}
-use Rattle.rulebook.specs.Layout.{stored, nextDayWord, msslWord, balanceWord, flagWord, intervalSize, slot, intervalWord}
+use Rattle.rulebook.specs.Layout.{stored, nextDayWord, msslWord, balanceWord, slotLength, slotStart, flagWord}
 use Rattle.rulebook.specs.BookData.{bookData, termsOf, nextDay}
 use Rattle.rulebook.specs.WellFormed.{isZero, wellFormed}
 
 -- ---- The search
 
--- the index of a word that is zero
+-- an index, if its word is zero
 unfoldable pub absentAt : List ℤ → ℕ → Found
 absentAt w n = cond (isZero (word w n)) (At n) Nothing
 
--- the order of a search, x s a being what it finds at the row of section s and account a: of an account vesting, then meter
+-- the order of a search, by what it finds at the row of a section and an account: vesting of an account, then meter
 abbrev pub accountSearched : (Section → ℕ → Found) → ℕ → Found
 accountSearched x a = orElse (x Vesting a) (x Meter a)
 
@@ -35,7 +35,7 @@ accountSearched x a = orElse (x Vesting a) (x Meter a)
 abbrev pub residualsSearched : ℕ → (Section → ℕ → Found) → Found
 residualsSearched n x = orElse (x Ncc 0) (first n (x Residual))
 
--- n accounts ascending; then residuals, if they are due
+-- n accounts ascending; then these, if residuals are due
 unfoldable pub searched : ℕ → Bool → (Section → ℕ → Found) → Found
 searched n due x = orElse (first n (accountSearched x)) (cond due (residualsSearched n x) Nothing)
 
@@ -51,6 +51,7 @@ module _ (o : Terms) (w : List ℤ) (D : ℕ) where
   abbrev pub absentFlag : ℕ → Section → ℕ → Found
   absentFlag i s a = absentAt w (flagWord o s a (neededDay o D s) i)
 
+  -- the search in interval i, and in all
   unfoldable pub missingAt : ℕ → Found
   missingAt i = searched (o .accounts) (residualDue o D) (absentFlag i)
 
@@ -64,6 +65,10 @@ unfoldable pub balancesGrownBy : List ℤ → (ℕ → ℤ) → ℕ → List ℤ
 balancesGrownBy w amount zero = w
 balancesGrownBy w amount (suc n) = set (balancesGrownBy w amount n) (balanceWord n) (word w (balanceWord n) +ℤ amount n)
 
+-- zeros in r's slot, if r ≥ F
+unfoldable pub slotBlanked : Terms → ℕ → List ℤ → List ℤ
+slotBlanked o D w = cond (residualDue o D) (stored w (slotStart o (residualDay o D)) (slotLength (o .accounts)) (λ m. pos 0)) w
+
 module _ (o : Terms) (w : List ℤ) (D : ℕ) where
   unfoldable pub posted : ℕ → ℤ
   posted a = postedAmount o (bookData o w) a D
@@ -75,12 +80,8 @@ module _ (o : Terms) (w : List ℤ) (D : ℕ) where
   abbrev pub balancesGrown : ℕ → List ℤ
   balancesGrown = balancesGrownBy w posted
 
-  -- r's slot
-  unfoldable pub slotBlanked : List ℤ → List ℤ
-  slotBlanked v = cond (residualDue o D) (stored v (intervalWord o (slot o (residualDay o D)) 0 0) (intervals * intervalSize o) (λ m. pos 0)) v
-
   unfoldable pub dayClosed : List ℤ
-  dayClosed = slotBlanked (set (set (balancesGrown (o .accounts)) msslWord (word w msslWord +ℤ postedToMssl)) nextDayWord (pos (suc D)))
+  dayClosed = slotBlanked o D (set (set (balancesGrown (o .accounts)) msslWord (word w msslWord +ℤ postedToMssl)) nextDayWord (pos (suc D)))
 
   -- N amounts, then the MSSL's
   unfoldable pub statementWritten : List ℤ → List ℤ

@@ -241,6 +241,10 @@ module _ (o : Terms) where
   unfoldable pub intervalWord : ℕ → ℕ → ℕ → ℕ
   intervalWord t i m = base + ((t * intervals + i) * intervalSize + m)
 
+  -- the first word of day d's slot
+  unfoldable pub slotStart : ℕ → ℕ
+  slotStart d = intervalWord (slot d) 0 0
+
   -- word j of the row of section s, account a, day d, at interval i
   unfoldable pub rowWord : Section → ℕ → ℕ → ℕ → ℕ → ℕ
   rowWord s a d i j = intervalWord (slot d) i (place s a j)

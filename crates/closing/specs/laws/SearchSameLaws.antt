@@ -11,13 +11,13 @@ use Rattle.rulebook.specs.declared.Section.{Section}
 use Rattle.rulebook.specs.declared.Section.the-variants.{Meter, Residual}
 use Rattle.rulebook.specs.declared.Terms.{Terms}
 use Rattle.rulebook.specs.DayAmount.{residualDue, residualDay}
-use Rattle.rulebook.specs.Layout.{rowWord, flagWord, intervalLength, accountPlace, flagAt}
+use Rattle.rulebook.specs.Layout.{slotStart, rowWord, flagWord, intervalLength, accountPlace, flagAt}
 use Rattle.rulebook.specs.Units.{intervals}
 use Rattle.rulebook.specs.Close.{absentAt, absentFlag, missingAt, firstMissing}
 use Rattle.rulebook.specs.Demand3.{Needed, vestingOf, meterOf, nccOf, residualOf}
 use Rattle.rulebook.specs.laws.SearchLaws.{searched-cong}
 use Rattle.closing.specs.Search.{flagIn, flagAbsent, absentIn, firstAbsent}
-use Rattle.closing.specs.Slots.{slotStart, thenDay}
+use Rattle.closing.specs.Slots.{thenDay}
 use Rattle.closing.specs.laws.SlotsLaws.{slot-index, vesting-index, meter-index, residual-index}
 
 module _ (o : Terms) (w : List ℤ) (D : ℕ) where

@@ -17,7 +17,7 @@ use Rattle.rulebook.specs.declared.Terms.{Terms}
 use Rattle.rulebook.specs.Units.{lastDay}
 use Rattle.rulebook.specs.Terms.{InTerms}
 use Rattle.rulebook.specs.DayAmount.{residualDue, residualDay, postedAmount, msslAmount}
-use Rattle.rulebook.specs.Layout.{stored, size, base, intervalSize, msslWord, nextDayWord, balanceWord, slotLength}
+use Rattle.rulebook.specs.Layout.{stored, size, base, msslWord, nextDayWord, balanceWord, slotLength, slotStart}
 use Rattle.rulebook.specs.BookData.{bookData, termsOf, nextDay}
 use Rattle.rulebook.specs.WellFormed.{wellFormed, dayBound}
 use Rattle.rulebook.specs.laws.BookSizeLaws.{close-amount, balance-room, mssl-room}
@@ -28,7 +28,7 @@ use Rattle.rulebook.specs.laws.CloseLaws.{grown-cong}
 use Rattle.rulebook.specs.laws.BeyondLaws.{statement-beyond, statement-amount, statement-mssl}
 use Rattle.rulebook.specs.laws.WordLaws.{length-stored, stored-in}
 use Rattle.amounts.specs.Day.{DaysRanged, slotPosted}
-use Rattle.closing.specs.Slots.{slotStart, slotWords, thenDay, residualsDue}
+use Rattle.closing.specs.Slots.{slotWords, thenDay, residualsDue}
 use Rattle.closing.specs.laws.SlotsLaws.{slot-sized}
 use Rattle.closing.specs.laws.PostedLaws.{slot-posted-same}
 use Rattle.closing.specs.laws.SlotRangedLaws.{days-ranged}
@@ -36,10 +36,10 @@ use Rattle.closing.specs.Written.{Small, Settling, StatementOf, Balances
 use Rattle.closing.specs.laws.WrittenLaws.{grown-header}
 
 -- r's slot, lent to be cleared
-pub slot-blanked : (o : Terms) (w : List ℤ) (D : ℕ) (v : List ℤ) {a n : ℕ} → InTerms o → size o ≤ length v → residualDue o D ≡ true → a ≡ slotStart o (residualDay o D) → n ≡ slotLength (o .accounts)
-    → onPart a (a + n) (λ p. tabulate (length p) (λ m. pos 0)) v ≡ slotBlanked o w D v
-unfolding slotBlanked slotStart intervalSize
-slot-blanked o w D v {a} {n} h l due start words = rw (due, start, words) (sym (stored-part v (slotStart o (residualDay o D)) (slotLength (o .accounts)) (λ m. pos 0) (omega (arith, slot-sized o (residualDay o D) h))))
+pub slot-blanked : (o : Terms) (D : ℕ) (v : List ℤ) {a n : ℕ} → InTerms o → size o ≤ length v → residualDue o D ≡ true → a ≡ slotStart o (residualDay o D) → n ≡ slotLength (o .accounts)
+    → onPart a (a + n) (λ p. tabulate (length p) (λ m. pos 0)) v ≡ slotBlanked o D v
+unfolding slotBlanked
+slot-blanked o D v {a} {n} h l due start words = rw (due, start, words) (sym (stored-part v (slotStart o (residualDay o D)) (slotLength (o .accounts)) (λ m. pos 0) (omega (arith, slot-sized o (residualDay o D) h))))
 
 module _ (w : List ℤ) (o : Terms) (D : ℕ) (s : Settling w o D) where
   formed : T (wellFormed w)
@@ -137,6 +137,6 @@ module _ (w : List ℤ) (o : Terms) (D : ℕ) (s : Settling w o D) where
     unfolding postedToMssl
     credit-room = rw (grown-header w (word st) (o .accounts) msslWord (omega arith), h .mssl) (omega (arith, at Mssl (mssl-room w formed left)))
 
-    pub book-same : slotBlanked o w D (set (set (balancesGrownBy w (word st) (o .accounts)) msslWord (word (balancesGrownBy w (word st) (o .accounts)) msslWord +ℤ word st (o .accounts))) nextDayWord (pos (D + 1))) ≡ dayClosed o w D
+    pub book-same : slotBlanked o D (set (set (balancesGrownBy w (word st) (o .accounts)) msslWord (word (balancesGrownBy w (word st) (o .accounts)) msslWord +ℤ word st (o .accounts))) nextDayWord (pos (D + 1))) ≡ dayClosed o w D
     unfolding dayClosed
-    book-same = ap (slotBlanked o w D) (rw (grown-header w (word st) (o .accounts) msslWord (omega arith), h .mssl, grown-cong w (word st) (posted o w D) (o .accounts) (h .accounts), add-one D))
+    book-same = ap (slotBlanked o D) (rw (grown-header w (word st) (o .accounts) msslWord (omega arith), h .mssl, grown-cong w (word st) (posted o w D) (o .accounts) (h .accounts), add-one D))

@@ -14,7 +14,7 @@ use Rattle.rulebook.specs.declared.Section.the-variants.{Vesting, Meter, Residu
 use Rattle.rulebook.specs.declared.Terms.{Terms}
 use Rattle.rulebook.specs.Terms.{InTerms}
 use Rattle.rulebook.specs.DayAmount.{residualDue}
-use Rattle.rulebook.specs.Layout.{ring, size, slot, intervalSize, intervalWord, rowWord, place, intervalWords, accountWords, intervalLength, slotLength, accountPlace, flagAt}
+use Rattle.rulebook.specs.Layout.{ring, size, slot, intervalSize, intervalWord, rowWord, place, intervalWords, accountWords, intervalLength, slotLength, slotStart, accountPlace, flagAt}
 use Rattle.rulebook.specs.Units.{intervals}
 use Rattle.rulebook.specs.BookData.{termsOf}
 use Rattle.rulebook.specs.WellFormed.{wellFormed}
@@ -23,7 +23,7 @@ use Rattle.rulebook.specs.laws.FormLaws.{ring-pos}
 use Rattle.rulebook.specs.laws.FormedLaws.{formed-holds, opened-of}
 use Rattle.rulebook.specs.laws.IndexLaws.{place-run}
 use Rattle.amounts.specs.Day.{intervalOf, cellAt}
-use Rattle.closing.specs.Slots.{slotStart, slotWords, thenDay}
+use Rattle.closing.specs.Slots.{slotWords, thenDay}
 
 -- ---- The slot in the book
 

@@ -13,7 +13,7 @@ use Rattle.integer.specs.Below.{Each}
 use Rattle.integer.specs.Words.{word}
 use Rattle.rulebook.specs.declared.Terms.{Terms}
 use Rattle.rulebook.specs.DayAmount.{residualDue, residualDay}
-use Rattle.rulebook.specs.Layout.{stored, base, ring, size, intervalSize, slot, intervalWord, nextDayWord, msslWord}
+use Rattle.rulebook.specs.Layout.{stored, base, ring, size, intervalSize, slotLength, slot, slotStart, intervalWord, nextDayWord, msslWord}
 use Rattle.rulebook.specs.Opening.{header, newBook}
 use Rattle.rulebook.specs.File.{Row}
 use Rattle.rulebook.specs.Submit.{rowStored, rowsStored}
@@ -59,14 +59,14 @@ module _ (o : Terms) where
         let e : ring o * (48 * intervalSize o) ≡ 48 * ring o * intervalSize o = sym (mul-assoc (ring o) 48 (intervalSize o)) ∙ ap (λ (y : ℕ). y * intervalSize o) (mul-comm (ring o) 48) in
         omega (arith, slot-form o t 0 0)
 
-    pub blanked-beyond : (w : List ℤ) (D : ℕ) (v : List ℤ) → KeptFrom (size o) v (slotBlanked o w D v)
-    unfolding slotBlanked
-    blanked-beyond w D v = go (residualDue o D)
+    pub blanked-beyond : (D : ℕ) (v : List ℤ) → KeptFrom (size o) v (slotBlanked o D v)
+    unfolding slotBlanked slotStart intervalSize
+    blanked-beyond D v = go (residualDue o D)
       where
-        go : (b : Bool) → KeptFrom (size o) v (cond b (stored v (intervalWord o (slot o (residualDay o D)) 0 0) (48 * intervalSize o) (λ m. pos 0)) v)
+        go : (b : Bool) → KeptFrom (size o) v (cond b (stored v (slotStart o (residualDay o D)) (slotLength (o .accounts)) (λ m. pos 0)) v)
         go true = record {
           long = length-stored v _ _ _;
-          words = λ m h. stored-out v (intervalWord o (slot o (residualDay o D)) 0 0) (48 * intervalSize o) (λ m. pos 0) m
+          words = λ m h. stored-out v (slotStart o (residualDay o D)) (slotLength (o .accounts)) (λ m. pos 0) m
               (λ j hj e. omega (arith, slot-below (slot o (residualDay o D)) j (slot-inside o (residualDay o D) p) hj));
         }
         go false = kept-all (size o) v
@@ -82,7 +82,7 @@ module _ (o : Terms) where
           words = λ m h. getD-set-other (set grown msslWord credit) nextDayWord m (pos (suc D)) (pos 0) (omega arith) ∙ getD-set-other grown msslWord m credit (pos 0) (omega arith)
               ∙ grown-out w (posted o w D) (o .accounts) m (λ a x e. omega arith);
         })
-        (blanked-beyond w D (set (set grown msslWord credit) nextDayWord (pos (suc D))))
+        (blanked-beyond D (set (set grown msslWord credit) nextDayWord (pos (suc D))))
 
 -- ---- The statement
 

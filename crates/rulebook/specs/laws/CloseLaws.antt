@@ -18,7 +18,7 @@ use Rattle.rulebook.specs.declared.Section.{Section}
 use Rattle.rulebook.specs.declared.Terms.{Terms}
 use Rattle.rulebook.specs.DayAmount.{residualDue}
 use Rattle.rulebook.specs.Sections.{accountsOf}
-use Rattle.rulebook.specs.Layout.{stored, width, place, intervalSize, ring, base, size, slot, intervalWord, rowWord, intervalWords, accountWords, markWord, accountsWord, lagWord, horizonWord, firstDayWord, nextDayWord, msslWord, balanceWord, balancePadding, headerPadding, InWindow}
+use Rattle.rulebook.specs.Layout.{stored, width, place, intervalSize, slotLength, ring, base, size, slot, intervalWord, slotStart, rowWord, intervalWords, accountWords, markWord, accountsWord, lagWord, horizonWord, firstDayWord, nextDayWord, msslWord, balanceWord, balancePadding, headerPadding, InWindow}
 use Rattle.rulebook.specs.BookData.{Entries}
 use Rattle.rulebook.specs.WindowWalk.{windowSlot}
 use Rattle.rulebook.specs.Close.{posted, postedToMssl, balancesGrownBy, balancesGrown, slotBlanked, dayClosed}
@@ -136,11 +136,11 @@ module _ (o : Terms) where
     -- what the close leaves outside r's slot, below the intervals, in r's slot, and in every other
     pub closed-elsewhere : (n : ℕ) → (T (residualDue o D) → (i m : ℕ) → i < 48 → m < intervalSize o → n ≢ intervalWord o (slot o (D - o .lag)) i m)
         → word (dayClosed o w D) n ≡ word counted n
-    unfolding dayClosed slotBlanked counted
+    unfolding dayClosed slotBlanked counted slotStart intervalSize
     closed-elsewhere n out = go (residualDue o D) out
       where
         go : (b : Bool) → (T b → (i m : ℕ) → i < 48 → m < intervalSize o → n ≢ intervalWord o (slot o (D - o .lag)) i m)
-            → word (cond b (stored counted (intervalWord o (slot o (D - o .lag)) 0 0) (48 * intervalSize o) (λ m. pos 0)) counted) n ≡ word counted n
+            → word (cond b (stored counted (slotStart o (D - o .lag)) (slotLength (o .accounts)) (λ m. pos 0)) counted) n ≡ word counted n
         go true f = blank-out counted (slot o (D - o .lag)) n (f tt)
         go false f = refl
 
@@ -149,19 +149,19 @@ module _ (o : Terms) where
     closed-front n h = closed-elsewhere n (λ t i m hi hm e. omega arith)
 
     closed-length : length (dayClosed o w D) ≡ length w
-    unfolding dayClosed slotBlanked counted
+    unfolding dayClosed slotBlanked counted slotStart intervalSize
     closed-length = go (residualDue o D) ∙ length-counted
       where
-        go : (b : Bool) → length (cond b (stored counted (intervalWord o (slot o (D - o .lag)) 0 0) (48 * intervalSize o) (λ m. pos 0)) counted) ≡ length counted
+        go : (b : Bool) → length (cond b (stored counted (slotStart o (D - o .lag)) (slotLength (o .accounts)) (λ m. pos 0)) counted) ≡ length counted
         go true = length-stored counted _ _ _
         go false = refl
 
     pub closed-in : (i m : ℕ) → i < 48 → m < intervalSize o → size o ≤ length w → zero < ring o → T (residualDue o D)
         → word (dayClosed o w D) (intervalWord o (slot o (D - o .lag)) i m) ≡ pos 0
-    unfolding dayClosed slotBlanked counted
+    unfolding dayClosed slotBlanked counted slotStart intervalSize
     closed-in i m hi hm l p h = go (residualDue o D) h
       where
-        go : (b : Bool) → T b → word (cond b (stored counted (intervalWord o (slot o (D - o .lag)) 0 0) (48 * intervalSize o) (λ m. pos 0)) counted)
+        go : (b : Bool) → T b → word (cond b (stored counted (slotStart o (D - o .lag)) (slotLength (o .accounts)) (λ m. pos 0)) counted)
             (intervalWord o (slot o (D - o .lag)) i m) ≡ pos 0
         go true x = blank-in counted (slot o (D - o .lag)) i m hi hm (omega (arith, length-counted)) (slot-inside o (D - o .lag) p)
         go false x = absurd x

@@ -20,7 +20,7 @@ use Rattle.rulebook.specs.Units.{intervals}
 use Rattle.rulebook.specs.Shares.{mostAccounts}
 use Rattle.rulebook.specs.Terms.{InTerms}
 use Rattle.rulebook.specs.Sections.{accountsOf, mostCount, perInterval, sameSection, figureSection, figurePlace}
-use Rattle.rulebook.specs.Layout.{Word, flag, figure, padding, present, rowTable, wordName, width, flagIndex, place, size, intervalSize, slot, intervalWord, rowWord}
+use Rattle.rulebook.specs.Layout.{Word, flag, figure, padding, present, rowTable, wordName, width, flagIndex, place, size, intervalSize, slot, intervalWord, slotStart, rowWord}
 use Rattle.rulebook.specs.File.{Row, rowAt, accountAt, dayAt, countAt, valuesPos, numberOf, figureOf, rowPos, rowsIn, sectionRows, fileRows, meterPos, residualPos, nccPos}
 use Rattle.rulebook.specs.Submit.{wordOf, entry, rowStored, rowsStored}
 use Rattle.rulebook.specs.laws.TestLaws.{T-path, and-left, and-right, all-at}
@@ -126,8 +126,8 @@ grid-same start stride m f g (suc n) w h =
 
 module _ (o : Terms) (sec : Section) (a d : ℕ) where
   -- a row starts at its place in its day's slot
-  pub row-start : {x y a′ d′ : ℕ} → x ≡ intervalWord o (slot o d′) 0 0 → y ≡ place sec a′ 0 → a′ ≡ a → d′ ≡ d → x + y ≡ rowWord o sec a d 0 0
-  unfolding rowWord intervalWord
+  pub row-start : {x y a′ d′ : ℕ} → x ≡ slotStart o d′ → y ≡ place sec a′ 0 → a′ ≡ a → d′ ≡ d → x + y ≡ rowWord o sec a d 0 0
+  unfolding slotStart rowWord intervalWord
   row-start ex ey ea ed = rw (ex, ey, ea, ed) (omega arith)
 
   last-interval : rowWord o sec a d (intervals - 1) 0 ≡ rowWord o sec a d 0 0 + (intervals - 1) * intervalSize o

@@ -6,7 +6,7 @@ use borrow.Author.Needs.{needs}
 use Rattle.rulebook.specs.Units.{intervals}
 use Rattle.rulebook.specs.Shares.{mostAccounts}
 use Rattle.rulebook.specs.Terms.{mostLag, mostHorizon}
-use Rattle.rulebook.specs.Layout.{intervalLength, base, ring, slot, intervalWord}
+use Rattle.rulebook.specs.Layout.{intervalLength, base, ring, slot, intervalWord, slotStart}
 use Rattle.book.proofs.places.slot_start.Statement.{statement}
 use Rattle.book.proofs.places.slot_start.Tie as tie
 
@@ -46,7 +46,7 @@ add-result-2 : tie.Need-add-result-2
 add-result-2 c = omega (arith, small c)
 
 returns : tie.Need-returns
-unfolding intervalWord base slot ring
+unfolding slotStart intervalWord base slot ring
 returns c = rw (← c .interval-size .ensures .0) (omega arith)
 
 pub slot-start-spec : {M : Type 1} → statement M

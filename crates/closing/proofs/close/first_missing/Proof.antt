@@ -5,8 +5,9 @@ use mathlib.Core.List.{List}
 use Prim.Native.Nat.{ℕ}
 use native.Mathlib.Omega.{arith}
 use lib.IntN.{ℤ}
+use Rattle.rulebook.specs.Layout.{slotStart}
 use Rattle.closing.specs.Search.{firstAbsent}
-use Rattle.closing.specs.Slots.{slotStart, thenDay}
+use Rattle.closing.specs.Slots.{thenDay}
 use Rattle.closing.specs.laws.SlotsLaws.{slot-sized, then-late}
 use Rattle.closing.specs.laws.SearchSameLaws.{search-same}
 use borrow.Author.Needs.{needs}
@@ -25,20 +26,15 @@ slot-start-requires-2 c κs = let s = c .before .before in (s .pre .inTerms, rw 
 is-due-requires : tie.Need-is-due-requires
 is-due-requires c κs = search needs
 
--- where the two slots start
-today : (c : tie.After-slot-start) → c .slot-start .result ≡ slotStart (c .before .args .terms) (c .before .args .day)
-unfolding slotStart
-today c = c .slot-start .ensures
-
+-- where the second slot starts
 then : (c : tie.After-slot-start2) → c .slot-start2 .result ≡ slotStart (c .before .before .before .args .terms) (thenDay (c .before .before .before .args .terms) (c .before .before .before .args .day))
-unfolding slotStart
 then c = c .slot-start2 .ensures ∙ ap (slotStart (c .before .before .before .args .terms)) (c .before .then-day .ensures)
 
 first-absent-requires : tie.Need-first-absent-requires
 first-absent-requires c κs =
     let s = c .before .before .before .before in
     let o = s .args .terms in (
-      omega (arith, today (c .before .before .before), slot-sized o (s .args .day) (s .pre .inTerms), s .pre .room),
+      omega (arith, c .before .before .before .slot-start .ensures, slot-sized o (s .args .day) (s .pre .inTerms), s .pre .room),
       λ e. omega (arith, then (c .before), slot-sized o (thenDay o (s .args .day)) (s .pre .inTerms), s .pre .room),
       s .pre .inTerms .accountsTo,
     )
@@ -51,7 +47,7 @@ returns c =
     let d = c .before in
     let s = d .before .before .before .before in
     c .first-absent .ensures
-    ∙ absent-cong (s .args .book .now) (s .args .terms .accounts) (today (d .before .before .before)) (then (d .before)) (d .is-due .ensures)
+    ∙ absent-cong (s .args .book .now) (s .args .terms .accounts) (d .before .before .before .slot-start .ensures) (then (d .before)) (d .is-due .ensures)
     ∙ search-same (s .args .terms) (s .args .book .now) (s .args .day)
 
 pub first-missing-spec : {M : Type 1} → statement M

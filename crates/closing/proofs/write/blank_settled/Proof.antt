@@ -6,7 +6,6 @@ use borrow.Author.Tests.{leb-true}
 use Rattle.rulebook.specs.DayAmount.{residualDue}
 use Rattle.rulebook.specs.Layout.{size}
 use Rattle.rulebook.specs.Close.{slotBlanked}
-use Rattle.closing.specs.Slots.{slotStart}
 use Rattle.closing.specs.laws.SlotsLaws.{slot-sized}
 use Rattle.closing.specs.laws.SettlingLaws.{slot-blanked}
 use borrow.Author.Needs.{needs}
@@ -28,7 +27,6 @@ slot-start-requires c κs =
 
 -- the slot lies within the book
 inside : (c : tie.After-slot-length) → c .before .slot-start .result + c .slot-length .result ≤ size (c .before .before .before .before .before .args .terms)
-unfolding slotStart
 inside c =
     let s = c .before .before .before .before .before in
     omega (arith, slot-sized (s .args .terms) (s .args .day - s .args .terms .lag) (s .pre .0), c .before .slot-start .ensures, c .slot-length .ensures)
@@ -58,12 +56,11 @@ same-length : tie.Need-same-length
 same-length c = search needs
 
 returns : tie.Need-returns
-unfolding slotStart
 returns c =
     let n = c .before .before .before in
     let s = n .before .before .before .before .before in
     rw (c .before .clear .ensures)
-    (slot-blanked (s .args .terms) (s .args .book .now) (s .args .day) (s .args .book .now) (s .pre .0) (s .pre .2)
+    (slot-blanked (s .args .terms) (s .args .day) (s .args .book .now) (s .pre .0) (s .pre .2)
     (sym (n .before .before .before .before .is-due .ensures) ∙ n .before .before .before .if1 .taken) (n .before .slot-start .ensures) (n .slot-length .ensures))
 
 returns-2 : tie.Need-returns-2

@@ -1,7 +1,7 @@
 -- `write_book` meets its contract: all sums fit, and step by step the words are the rule book's.
-use mathlib.Core.Path.{_≡_, refl, ap, _∙_}
+use mathlib.Core.Path.{_≡_, ap, _∙_}
 use mathlib.Core.List.{List}
-use Prim.Native.Nat.{ℕ, _+_}
+use Prim.Native.Nat.{_+_}
 use native.Mathlib.Omega.{arith}
 use lib.IntN.{ℤ, pos, _+ℤ_}
 use lib.ListN.{set}
@@ -9,7 +9,6 @@ use mir.Syntax.{w64}
 use mir.Val.{toZ, ofZ}
 use Rattle.integer.specs.Bits.{got}
 use Rattle.integer.specs.Words.{word}
-use Rattle.rulebook.specs.declared.Terms.{Terms}
 use Rattle.rulebook.specs.Layout.{msslWord, nextDayWord}
 use Rattle.rulebook.specs.Close.{slotBlanked}
 use Rattle.closing.specs.laws.SettlingLaws.{balances-room, credit-room, book-same}
@@ -58,11 +57,6 @@ same-length c = search needs
 credited : (c : tie.After-grow) → c .grow .last .0 ≡ set (c .before .before .before .before .grow-balances .last .0) msslWord (word (c .before .before .before .before .grow-balances .last .0) msslWord +ℤ word (c .before .before .before .before .before .before .args .statement .now) (c .before .before .before .before .before .before .args .terms .accounts))
 credited c = c .grow .ensures ∙ ap (λ (z : ℤ). set (c .before .before .before .before .grow-balances .last .0) msslWord (word (c .before .before .before .before .grow-balances .last .0) msslWord +ℤ z)) (amount (c .before))
 
--- what blanking does goes by the days alone
-blanked : (o : Terms) (v w : List ℤ) (D : ℕ) → slotBlanked o v D v ≡ slotBlanked o w D v
-unfolding slotBlanked
-blanked o v w D = refl
-
 returns : tie.Need-returns
 returns c =
     let p = c .before .before .before .before in
@@ -72,8 +66,7 @@ returns c =
     let a = s .args in
     let n = p .before in
     c .before .blank-settled .ensures
-    ∙ blanked (a .terms) (p .put-word .last .0) (a .book .now) (a .day)
-    ∙ ap (slotBlanked (a .terms) (a .book .now) (a .day))
+    ∙ ap (slotBlanked (a .terms) (a .day))
     (p .put-word .ensures
     ∙ ap (set (w .grow .last .0) nextDayWord) (got (n .signed .result) (n .signed .ok) ∙ n .signed .ensures)
     ∙ ap (λ (v : List ℤ). set v nextDayWord (pos (a .day + 1))) (credited w ∙ ap (λ (v : List ℤ). set v msslWord (word v msslWord +ℤ word (a .statement .now) (a .terms .accounts))) (g .grow-balances .ensures)))

@@ -9,9 +9,10 @@ use lib.ListN.{length, take, drop}
 use Rattle.integer.specs.Words.{part, filled}
 use Rattle.integer.specs.laws.WordsLaws.{lent}
 use Rattle.rulebook.specs.DayAmount.{residualDue}
+use Rattle.rulebook.specs.Layout.{slotStart}
 use Rattle.amounts.specs.declared.day.Residuals.{Residuals}
 use Rattle.amounts.specs.Day.{DaysRanged, slotPosted}
-use Rattle.closing.specs.Slots.{slotStart, slotWords, thenDay, residualsDue}
+use Rattle.closing.specs.Slots.{slotWords, thenDay, residualsDue}
 use Rattle.closing.specs.laws.SlotsLaws.{slot-sized, then-late}
 use Rattle.closing.specs.Written.{Small, withMssl}
 use Rattle.closing.specs.laws.SettlingLaws.{settling-ranged, amounts-small, amounts-room, statement-same}
@@ -32,20 +33,15 @@ slot-start-requires c κs = search needs
 abbrev s₀ : tie.After-post-amounts → tie.Start
 s₀ c = c .before .before .before .before .before .before .before .before .before .before .before
 
--- where the slot of D starts, and that of r
-today : (c : tie.After-slot-start) → c .slot-start .result ≡ slotStart (c .before .before .before .args .terms) (c .before .before .before .args .day)
-unfolding slotStart
-today c = c .slot-start .ensures
-
+-- where the slot of r starts
 then : (c : tie.After-slot-start2) → c .slot-start2 .result ≡ slotStart (c .before .before .before .before .before .args .terms) (thenDay (c .before .before .before .before .before .args .terms) (c .before .before .before .before .before .args .day))
-unfolding slotStart
 then c = c .slot-start2 .ensures ∙ ap (slotStart (c .before .before .before .before .before .args .terms)) (c .before .then-day .ensures)
 
 -- they end within the book
 today-fits : (c : tie.After-slot-start) → c .slot-start .result + c .before .before .slot-length .result ≤ length (c .before .before .before .args .book .now)
 today-fits c =
     let s = c .before .before .before in
-    omega (arith, today c, c .before .before .slot-length .ensures, slot-sized (s .args .terms) (s .args .day) (s .pre .0 .book .inTerms), s .pre .0 .book .room)
+    omega (arith, c .slot-start .ensures, c .before .before .slot-length .ensures, slot-sized (s .args .terms) (s .args .day) (s .pre .0 .book .inTerms), s .pre .0 .book .room)
 
 then-fits : (c : tie.After-slot-start2) → c .slot-start2 .result + c .before .before .before .before .slot-length .result ≤ length (c .before .before .before .before .before .args .book .now)
 then-fits c =
@@ -139,7 +135,7 @@ post-amounts-requires c κs =
     let n = t .before .before in
     let s = n .before in
     let w = s .args .book .now in (
-      ranged-cong (part-is w (today t) (n .slot-length .ensures)) (part-is w (then b) (n .slot-length .ensures)) (t .before .is-due .ensures) (residuals r) (settling-ranged w (s .args .terms) (s .args .day) (s .pre .0)),
+      ranged-cong (part-is w (t .slot-start .ensures) (n .slot-length .ensures)) (part-is w (then b) (n .slot-length .ensures)) (t .before .is-due .ensures) (residuals r) (settling-ranged w (s .args .terms) (s .args .day) (s .pre .0)),
       s .pre .0 .book .inTerms .accountsTo,
       omega (arith, s .pre .1),
     )
@@ -158,7 +154,7 @@ posted c =
     let n = t .before .before in
     let w = n .before .args .book .now in
     c .post-amounts .ensures
-    ∙ posted-cong (n .before .args .terms .accounts) (n .before .args .statement .now) (part-is w (today t) (n .slot-length .ensures)) (part-is w (then b) (n .slot-length .ensures)) (t .before .is-due .ensures) (residuals r)
+    ∙ posted-cong (n .before .args .terms .accounts) (n .before .args .statement .now) (part-is w (t .slot-start .ensures) (n .slot-length .ensures)) (part-is w (then b) (n .slot-length .ensures)) (t .before .is-due .ensures) (residuals r)
 
 post-mssl-requires : tie.Need-post-mssl-requires
 post-mssl-requires c κs =
