@@ -1,5 +1,5 @@
 -- Laws of the input: what each test tells of an item. Assumes nothing.
-use mathlib.Core.Path.{_≡_, refl, sym, ap, _∙_}
+use mathlib.Core.Path.{_≡_, refl, sym, ap, subst, _∙_}
 use mathlib.Core.Bool.{Bool, true, false, cond, _&&_, and-false}
 use mathlib.Core.Logic.{⊎-elim}
 use mathlib.Core.List.{List}
@@ -8,7 +8,8 @@ use native.Mathlib.Omega.{arith}
 use borrow.Author.Tests.{eqb-true, eqb-false, leb-true, eq-eqb, ne-eqb, le-leb, lt-leb}
 use lib.Dec.{eqb, leb}
 use lib.ListN.{length, getD, List·getD-eq-default}
-use Rattle.integer.specs.laws.BelowLaws.{either, lt-or-le}
+use Rattle.integer.specs.laws.BelowLaws.{lt-or-le, and-true}
+use Rattle.console.specs.declared.input.Item.{Item}
 use Rattle.console.specs.declared.input.Item.the-variants.{Close, Submit, Bad, End}
 use Rattle.console.specs.Input.{closeCommand, submitCommand, longestFile, fileLength, fileWhole, itemOf, wanted}
 
@@ -75,66 +76,47 @@ module _ (s : List ℕ) where
 
 -- ---- A submission's file is there
 
-both-right : (a b : Bool) → a && b ≡ true → b ≡ true
-both-right true b h = h
-both-right false b h = let z : _≡_ {A = ℕ} 0 1 = cc in absurd (omega arith)
-
-both-left : (a b : Bool) → a && b ≡ true → a ≡ true
-both-left true b h = refl
-both-left false b h = h
+whole-both : (s : List ℕ) → fileWhole s ≡ true → (leb (fileLength s) longestFile ≡ true) × (leb (3 + fileLength s) (length s) ≡ true)
+whole-both s h = and-true (leb (fileLength s) longestFile) (leb (3 + fileLength s) (length s)) (sym (whole-is s (whole-length s h)) ∙ h)
 
 whole-allowed : (s : List ℕ) → fileWhole s ≡ true → fileLength s ≤ longestFile
-whole-allowed s h = leb-true (fileLength s) longestFile (both-left _ (leb (3 + fileLength s) (length s)) (sym (whole-is s (whole-length s h)) ∙ h))
+whole-allowed s h = leb-true (fileLength s) longestFile (whole-both s h .0)
 
 whole-file : (s : List ℕ) → fileWhole s ≡ true → 3 + fileLength s ≤ length s
-whole-file s h = leb-true (3 + fileLength s) (length s) (both-right (leb (fileLength s) longestFile) _ (sym (whole-is s (whole-length s h)) ∙ h))
+whole-file s h = leb-true (3 + fileLength s) (length s) (whole-both s h .1)
+
+-- ---- What an item tells of the input
+
+abbrev Tells : List ℕ → Item → Type 0
+Tells s Close = (1 ≤ length s) × (getD s 0 0 ≡ closeCommand)
+Tells s (Submit n) = (getD s 0 0 ≡ submitCommand) × (fileWhole s ≡ true) × (n ≡ fileLength s)
+Tells s (Bad k) = k ≤ 1
+Tells s End = length s ≡ 0
+
+item-tells : (s : List ℕ) (i : Item) → itemOf s ≡ i → Tells s i
+unfolding itemOf
+item-tells s i h =
+    subst (Tells s) h
+    (by (eqb (length s) 0) (eqb (getD s 0 0) closeCommand) (eqb (getD s 0 0) submitCommand) (fileWhole s) refl refl refl refl)
+  where
+    by : (a b c d : Bool) → eqb (length s) 0 ≡ a → eqb (getD s 0 0) closeCommand ≡ b → eqb (getD s 0 0) submitCommand ≡ c → fileWhole s ≡ d
+        → Tells s (cond a End (cond b Close (cond c (cond d (Submit (fileLength s)) (Bad 1)) (Bad 0))))
+    by true b c d x y z w = eqb-true (length s) 0 x
+    by false true c d x y z w = (omega (arith, eqb-false (length s) 0 x), eqb-true (getD s 0 0) closeCommand y)
+    by false false true true x y z w = (eqb-true (getD s 0 0) submitCommand z, w, refl)
+    by false false true false x y z w = omega arith
+    by false false false d x y z w = omega arith
 
 pub submit-fits : (s : List ℕ) (n : ℕ) → itemOf s ≡ Submit n → 3 + n ≤ length s
-unfolding itemOf
-submit-fits s n h =
-    fits (eqb (length s) 0) (eqb (getD s 0 0) closeCommand) (eqb (getD s 0 0) submitCommand) (fileWhole s) refl h
-  where
-    fits : (a b c d : Bool) → fileWhole s ≡ d → cond a End (cond b Close (cond c (cond d (Submit (fileLength s)) (Bad 1)) (Bad 0))) ≡ Submit n → 3 + n ≤ length s
-    fits true b c d w e = let z : _≡_ {A = ℕ} 0 1 = cc in absurd (omega arith)
-    fits false true c d w e = let z : _≡_ {A = ℕ} 0 1 = cc in absurd (omega arith)
-    fits false false true true w e = let z : n ≡ fileLength s = cc in omega (arith, whole-file s w)
-    fits false false true false w e = let z : _≡_ {A = ℕ} 0 1 = cc in absurd (omega arith)
-    fits false false false d w e = let z : _≡_ {A = ℕ} 0 1 = cc in absurd (omega arith)
+submit-fits s n h = let t = item-tells s (Submit n) h in omega (arith, whole-file s (t .1), t .2)
 
 pub submit-wanted : (s : List ℕ) (n : ℕ) → itemOf s ≡ Submit n → wanted s ≡ 3 + n
-unfolding itemOf
-submit-wanted s n h = by (eqb (length s) 0) (eqb (getD s 0 0) closeCommand) (eqb (getD s 0 0) submitCommand) (fileWhole s) refl refl h
-  where
-    by : (a b c d : Bool) → eqb (getD s 0 0) submitCommand ≡ c → fileWhole s ≡ d → cond a End (cond b Close (cond c (cond d (Submit (fileLength s)) (Bad 1)) (Bad 0))) ≡ Submit n → wanted s ≡ 3 + n
-    by true b c d x w e = let z : _≡_ {A = ℕ} 0 1 = cc in absurd (omega arith)
-    by false true c d x w e = let z : _≡_ {A = ℕ} 0 1 = cc in absurd (omega arith)
-    by false false true true x w e =
-        let z : n ≡ fileLength s = cc in
-        wanted-file s (eqb-true (getD s 0 0) submitCommand x) (whole-length s w) (whole-allowed s w) ∙ ap (λ (m : ℕ). 3 + m) (sym z)
-    by false false true false x w e = let z : _≡_ {A = ℕ} 0 1 = cc in absurd (omega arith)
-    by false false false d x w e = let z : _≡_ {A = ℕ} 0 1 = cc in absurd (omega arith)
+submit-wanted s n h =
+    let t = item-tells s (Submit n) h in
+    wanted-file s (t .0) (whole-length s (t .1)) (whole-allowed s (t .1)) ∙ ap (λ (m : ℕ). 3 + m) (sym (t .2))
 
 pub close-wanted : (s : List ℕ) → itemOf s ≡ Close → (wanted s ≡ 1) × (1 ≤ length s)
-unfolding itemOf
-close-wanted s h = by (eqb (length s) 0) (eqb (getD s 0 0) closeCommand) (eqb (getD s 0 0) submitCommand) (fileWhole s) refl refl h
-  where
-    by : (a b c d : Bool) → eqb (length s) 0 ≡ a → eqb (getD s 0 0) closeCommand ≡ b → cond a End (cond b Close (cond c (cond d (Submit (fileLength s)) (Bad 1)) (Bad 0))) ≡ Close → (wanted s ≡ 1) × (1 ≤ length s)
-    by true b c d x y e = let z : _≡_ {A = ℕ} 0 1 = cc in absurd (omega arith)
-    by false true c d x y e =
-        let k = eqb-true (getD s 0 0) closeCommand y in
-        (wanted-command s (λ m. omega arith), omega (arith, eqb-false (length s) 0 x))
-    by false false true true x y e = let z : _≡_ {A = ℕ} 0 1 = cc in absurd (omega arith)
-    by false false true false x y e = let z : _≡_ {A = ℕ} 0 1 = cc in absurd (omega arith)
-    by false false false d x y e = let z : _≡_ {A = ℕ} 0 1 = cc in absurd (omega arith)
+close-wanted s h = let t = item-tells s Close h in (wanted-command s (λ m. omega (arith, t .1)), t .0)
 
 pub bad-near : (s : List ℕ) (k : ℕ) → itemOf s ≡ Bad k → k ≤ 1
-unfolding itemOf
-bad-near s k h =
-    near (eqb (length s) 0) (eqb (getD s 0 0) closeCommand) (eqb (getD s 0 0) submitCommand) (fileWhole s) h
-  where
-    near : (a b c d : Bool) → cond a End (cond b Close (cond c (cond d (Submit (fileLength s)) (Bad 1)) (Bad 0))) ≡ Bad k → k ≤ 1
-    near true b c d e = let z : _≡_ {A = ℕ} 0 1 = cc in absurd (omega arith)
-    near false true c d e = let z : _≡_ {A = ℕ} 0 1 = cc in absurd (omega arith)
-    near false false true true e = let z : _≡_ {A = ℕ} 0 1 = cc in absurd (omega arith)
-    near false false true false e = let z : k ≡ 1 = cc in omega arith
-    near false false false d e = let z : k ≡ 0 = cc in omega arith
+bad-near s k h = item-tells s (Bad k) h
