@@ -28,7 +28,7 @@ module _ (o : Terms) (w : List ℤ) (d : ℕ) where
 
     -- word j of the vesting row, and of the meter row, by its index k in the cell
     pub vesting-at : (j k : ℕ) → j ≡ k → k < 9 → word w (rowWord o Vesting a d i j) ≡ word cell k
-    vesting-at j k e h = ap (λ (j : ℕ). word w (rowWord o Vesting a d i j)) e ∙ vesting-word o w d a i ha hi k h
+    vesting-at j k e h = ap (λ (j : ℕ). word w (rowWord o Vesting a d i j)) e ∙ vesting-word o w d a i ha hi k h ∙ ap (word cell) (omega arith)
 
     meter-at : (j k : ℕ) → j < 9 → flagAt Meter + j ≡ k → word w (rowWord o Meter a d i j) ≡ word cell k
     meter-at j k h e = meter-word o w d a i ha hi j h ∙ ap (word cell) e

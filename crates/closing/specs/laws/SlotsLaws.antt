@@ -1,5 +1,5 @@
 -- Slots lie in a well-formed book, and their words are the book's. Assumes nothing.
-use mathlib.Core.Path.{_≡_, sym, ap, _∙_}
+use mathlib.Core.Path.{_≡_, refl, sym, ap, _∙_}
 use mathlib.Core.Bool.{Bool, true, false, cond}
 use mathlib.Core.List.{List}
 use Prim.Native.Nat.{ℕ, _+_, _-_, _*_, _≤_, _<_}
@@ -10,11 +10,12 @@ use lib.IntN.{ℤ, pos}
 use lib.ListN.{length}
 use Rattle.integer.specs.Words.{word}
 use Rattle.integer.specs.laws.WordsLaws.{row-fits, length-part, getD-part}
+use Rattle.rulebook.specs.declared.Section.{Section}
 use Rattle.rulebook.specs.declared.Section.the-variants.{Vesting, Meter, Residual, Ncc}
 use Rattle.rulebook.specs.declared.Terms.{Terms}
 use Rattle.rulebook.specs.Terms.{InTerms}
 use Rattle.rulebook.specs.DayAmount.{residualDue}
-use Rattle.rulebook.specs.Layout.{ring, size, slot, intervalSize, intervalWord, rowWord, place, intervalWords, accountWords, intervalLength, slotLength, slotStart, accountPlace, flagAt}
+use Rattle.rulebook.specs.Layout.{width, ring, size, slot, intervalSize, intervalWord, rowWord, place, intervalWords, accountWords, intervalLength, slotLength, slotStart, accountPlace, flagAt}
 use Rattle.rulebook.specs.Units.{intervals}
 use Rattle.rulebook.specs.BookData.{termsOf}
 use Rattle.rulebook.specs.WellFormed.{wellFormed}
@@ -76,33 +77,33 @@ module _ (o : Terms) (w : List ℤ) (d : ℕ) where
         step : slotStart o d + (i * intervalLength (o .accounts) + (intervalWords + a * accountWords) + k) ≡ slotStart o d + (i * intervalLength (o .accounts) + accountPlace a k)
         step = omega arith
 
-    pub vesting-index : (j : ℕ) → j < 9 → rowWord o Vesting a d i j ≡ intervalWord o (slot o d) i (accountPlace a j)
-    unfolding rowWord
-    vesting-index j h = ap (intervalWord o (slot o d) i) (place-run Vesting a j h ∙ e)
-      where
-        e : place Vesting a 0 + j ≡ accountPlace a j
-        e = omega arith
+    -- a row in the cell: where its word 0 stands, its word j stands j further
+    module _ (sec : Section) (own : place sec a 0 ≡ accountPlace a (flagAt sec)) where
+      row-index : (j : ℕ) → j < width sec → rowWord o sec a d i j ≡ intervalWord o (slot o d) i (accountPlace a (flagAt sec + j))
+      unfolding rowWord
+      row-index j h = ap (intervalWord o (slot o d) i) (place-run sec a j h ∙ e)
+        where
+          e : place sec a 0 + j ≡ accountPlace a (flagAt sec + j)
+          e = omega (arith, own)
+
+      -- the book's words of the row, read in the cell
+      row-word : flagAt sec + width sec ≤ accountWords → (j : ℕ) → j < width sec → word w (rowWord o sec a d i j) ≡ word (cellAt (o .accounts) (slotWords o w d) a i) (flagAt sec + j)
+      row-word fits j h = ap (word w) (row-index j h) ∙ sym (cell-word (flagAt sec + j) (omega arith))
+
+    pub vesting-index : (j : ℕ) → j < 9 → rowWord o Vesting a d i j ≡ intervalWord o (slot o d) i (accountPlace a (flagAt Vesting + j))
+    vesting-index = row-index Vesting refl
 
     pub meter-index : (j : ℕ) → j < 9 → rowWord o Meter a d i j ≡ intervalWord o (slot o d) i (accountPlace a (flagAt Meter + j))
-    unfolding rowWord
-    meter-index j h = ap (intervalWord o (slot o d) i) (place-run Meter a j h ∙ e)
-      where
-        e : place Meter a 0 + j ≡ accountPlace a (flagAt Meter + j)
-        e = omega arith
+    meter-index = row-index Meter refl
 
     pub residual-index : (j : ℕ) → j < 5 → rowWord o Residual a d i j ≡ intervalWord o (slot o d) i (accountPlace a (flagAt Residual + j))
-    unfolding rowWord
-    residual-index j h = ap (intervalWord o (slot o d) i) (place-run Residual a j h ∙ e)
-      where
-        e : place Residual a 0 + j ≡ accountPlace a (flagAt Residual + j)
-        e = omega arith
+    residual-index = row-index Residual refl
 
-    -- the book's words of a row, read in the cell
-    pub vesting-word : (j : ℕ) → j < 9 → word w (rowWord o Vesting a d i j) ≡ word (cellAt (o .accounts) (slotWords o w d) a i) j
-    vesting-word j h = ap (word w) (vesting-index j h) ∙ sym (cell-word j (omega arith))
+    pub vesting-word : (j : ℕ) → j < 9 → word w (rowWord o Vesting a d i j) ≡ word (cellAt (o .accounts) (slotWords o w d) a i) (flagAt Vesting + j)
+    vesting-word = row-word Vesting refl (omega arith)
 
     pub meter-word : (j : ℕ) → j < 9 → word w (rowWord o Meter a d i j) ≡ word (cellAt (o .accounts) (slotWords o w d) a i) (flagAt Meter + j)
-    meter-word j h = ap (word w) (meter-index j h) ∙ sym (cell-word (flagAt Meter + j) (omega arith))
+    meter-word = row-word Meter refl (omega arith)
 
     pub residual-word : (j : ℕ) → j < 5 → word w (rowWord o Residual a d i j) ≡ word (cellAt (o .accounts) (slotWords o w d) a i) (flagAt Residual + j)
-    residual-word j h = ap (word w) (residual-index j h) ∙ sym (cell-word (flagAt Residual + j) (omega arith))
+    residual-word = row-word Residual refl (omega arith)
