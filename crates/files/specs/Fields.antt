@@ -9,7 +9,7 @@ use Rattle.rulebook.specs.declared.Why.the-variants.{NotWhole}
 use Rattle.rulebook.specs.declared.Verdict.{Verdict}
 use Rattle.rulebook.specs.declared.Verdict.the-variants.{Accepted, Refused}
 use Rattle.rulebook.specs.File.{num}
-use Rattle.rulebook.specs.Judging.{require, _andThen_}
+use Rattle.rulebook.specs.Judging.{numberIn}
 use Rattle.files.specs.declared.fields.Field.{Field}
 use Rattle.files.specs.declared.fields.Field.the-variants.{Whole, Cut}
 use Rattle.files.specs.declared.fields.Outcome.{Outcome}
@@ -51,5 +51,5 @@ headingAt n m s at = headingOf (fieldAt n s at) (fieldAt 2 s (past n s at)) (fie
 
 -- a field that was read at `at`: whole, and from low to high
 abbrev pub fieldOutcome : Field → ℕ → ℕ → ℕ → Why → Outcome
-fieldOutcome (Whole v next) at low high why = outcome (require (leb low v) why at andThen require (leb v high) why at) v
+fieldOutcome (Whole v next) at low high why = outcome (numberIn low high why v at) v
 fieldOutcome Cut at low high why = Stopped NotWhole at

@@ -1,18 +1,17 @@
 -- What the bytes of a frame's fields spell, little-endian. Assumes nothing.
 use mathlib.Core.Path.{_≡_}
-use mathlib.Core.Bool.{cond}
 use mathlib.Core.List.{List}
 use Prim.Native.Nat.{ℕ, _*_}
-use lib.Dec.{ltb}
-use lib.IntN.{ℤ, pos, subℕ}
+use lib.IntN.{ℤ}
 use lib.ListN.{take, drop}
+use Rattle.integer.specs.Integer.{twosComplement}
 use Rattle.integer.specs.Below.{tabulate}
 use Rattle.rulebook.specs.File.{num}
 use Rattle.replay.specs.Counts.{Counts}
 
--- n below 2 ^ 64, read in two's complement: n, or n less 2 ^ 64 from 2 ^ 63 on
-unfoldable pub signed64 : ℕ → ℤ
-signed64 n = cond (ltb n 9223372036854775808) (pos n) (subℕ n 18446744073709551616)
+-- n below 2 ^ 64, read in two's complement
+abbrev pub signed64 : ℕ → ℤ
+signed64 n = twosComplement 64 n
 
 -- a word: eight bytes
 unfoldable pub wordIn : List ℕ → ℕ → ℤ

@@ -3,8 +3,9 @@ use mathlib.Core.Bool.{cond}
 use mathlib.Core.List.{List, _++_}
 use Prim.Native.Nat.{ℕ, zero, suc, _+_, _*_}
 use lib.Dec.{ltb}
-use lib.IntN.{ℤ, pos, subℕ}
+use lib.IntN.{ℤ, pos}
 use lib.ListN.{getD}
+use Rattle.integer.specs.Integer.{twosComplement}
 use Rattle.integer.specs.Below.{turns, tabulate}
 use Rattle.integer.specs.Words.{word}
 use Rattle.rulebook.specs.declared.Section.{Section}
@@ -21,9 +22,9 @@ unfoldable pub num : ℕ → List ℕ → ℕ → ℕ
 num zero s at = 0
 num (suc n) s at = getD s at 0 + 256 * num n s (at + 1)
 
--- n below 2 ^ 32, read in two's complement: n, or n less 2 ^ 32 from 2 ^ 31 on
-unfoldable pub signed32 : ℕ → ℤ
-signed32 n = cond (ltb n 2147483648) (pos n) (subℕ n 4294967296)
+-- n below 2 ^ 32, read in two's complement
+abbrev pub signed32 : ℕ → ℤ
+signed32 n = twosComplement 32 n
 
 -- a value: four bytes
 unfoldable pub valueAt : List ℕ → ℕ → ℤ

@@ -1,9 +1,10 @@
 -- Document 01, "A submission file": how it is judged, its fields in file order, the first refusal standing. Assumes nothing.
-use mathlib.Core.Bool.{Bool, true, false, not, _&&_, _||_}
+use mathlib.Core.Bool.{Bool, true, false, not, _&&_}
 use mathlib.Core.List.{List}
-use Prim.Native.Nat.{ℕ, zero, suc, _+_, _*_, _-_}
+use Prim.Native.Nat.{ℕ, _+_, _*_, _-_}
 use lib.Dec.{eqb, leb}
 use lib.ListN.{length}
+use Rattle.integer.specs.Below.{fold, any}
 use Rattle.rulebook.specs.declared.Section.{Section}
 use Rattle.rulebook.specs.declared.Section.the-variants.{Vesting, Meter, Residual, Ncc}
 use Rattle.rulebook.specs.declared.Terms.{Terms}
@@ -31,9 +32,8 @@ Accepted andThen y = y
 (Refused w at) andThen y = Refused w at
 
 -- checks 0 to n - 1
-unfoldable pub upTo : ℕ → (ℕ → Verdict) → Verdict
-upTo zero f = Accepted
-upTo (suc n) f = upTo n f andThen f n
+abbrev pub upTo : ℕ → (ℕ → Verdict) → Verdict
+upTo n f = fold _andThen_ Accepted n f
 
 -- ---- Limits
 
@@ -59,12 +59,13 @@ limitsOf o C = record {
 abbrev pub whole : ℕ → List ℕ → ℕ → Verdict
 whole n s at = require (leb (at + n) (length s)) NotWhole at
 
--- a field of n bytes at `at`: whole, and from low to high, else refused for `why`
+-- the number v, read at `at`: from low to high, else refused for `why`
+abbrev pub numberIn : ℕ → ℕ → Why → ℕ → ℕ → Verdict
+numberIn low high why v at = require (leb low v) why at andThen require (leb v high) why at
+
+-- a field of n bytes at `at`: whole, and so
 unfoldable pub fieldIn : ℕ → ℕ → ℕ → Why → List ℕ → ℕ → Verdict
-fieldIn n low high why s at =
-    whole n s at
-    andThen require (leb low (num n s at)) why at
-    andThen require (leb (num n s at) high) why at
+fieldIn n low high why s at = whole n s at andThen numberIn low high why (num n s at) at
 
 -- value k of a row whose values start at `from`: whole, in range
 unfoldable pub value : Section → List ℕ → ℕ → ℕ → Verdict
@@ -82,9 +83,7 @@ key l sec s at =
 
 -- some row before row i of the section has account a and day d
 unfoldable pub given : Section → List ℕ → ℕ → ℕ → ℕ → ℕ → Bool
-given sec s first zero a d = false
-given sec s first (suc i) a d =
-    given sec s first i a d || (eqb (accountAt sec s (rowPos sec s first i)) a && eqb (dayAt sec s (rowPos sec s first i)) d)
+given sec s first i a d = any i (λ j. eqb (accountAt sec s (rowPos sec s first j)) a && eqb (dayAt sec s (rowPos sec s first j)) d)
 
 -- the rest of the row at `at`: count, then the values
 unfoldable pub rest : Section → List ℕ → ℕ → Verdict

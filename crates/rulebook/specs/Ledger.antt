@@ -24,7 +24,7 @@ use Rattle.rulebook.specs.BookData.{Entries, termsOf, nextDay, entriesOf
 use Rattle.rulebook.specs.WellFormed.{dayBound}
 use Rattle.rulebook.specs.WindowWalk.{windowSlot}
 use Rattle.rulebook.specs.File.{Row}
-use Rattle.rulebook.specs.Submit.{entry}
+use Rattle.rulebook.specs.Submit.{entry, entryOr}
 use Rattle.rulebook.specs.History.{Event, closes, RowsInForce, isFor, inForce, residualCounts, formulaBalance}
 use Rattle.rulebook.specs.Demand3.{EachReported}
 
@@ -40,8 +40,7 @@ pub record Ledger : Type 0 where
 
 -- what stands in a row's words; a row that is not there is all zeros
 abbrev pub entryOf : Option Row → ℕ → ℕ → ℤ
-entryOf none i j = pos 0
-entryOf (some r) i j = entry r i j
+entryOf x = entryOr x (λ i j. pos 0)
 
 abbrev pub entriesIn : RowsInForce → Entries
 entriesIn rows s a d i j = entryOf (rows s a d) i j

@@ -6,12 +6,13 @@ use mathlib.Core.Logic.{⊎-elim}
 use Prim.Native.Nat.{ℕ, _+_, _*_, _-_, _%_, _≤_, _<_}
 use native.Mathlib.Omega.{arith}
 use borrow.Author.Tests.{ltb-true, ltb-false, eqb-true, eqb-false, eq-eqb}
-use lib.Dec.{T, ltb, eqb, le→leb, lt→ltb}
+use lib.Dec.{ltb, eqb, le→leb, lt→ltb}
 use lib.IntN.{ℤ, pos, negsuc}
 use lib.ListN.{length}
 use lib.Signed.{_≤ℤ_, _<ℤ_, leZ, ltZ, leZ-yes, ltZ-yes}
 use Rattle.integer.specs.Integer.{positive}
 use Rattle.integer.specs.Words.{word}
+use Rattle.integer.specs.laws.IntegerLaws.{T-path}
 use Rattle.integer.specs.laws.BelowLaws.{either, all-of}
 use Rattle.integer.specs.declared.Found.{Found}
 use Rattle.integer.specs.declared.Found.the-variants.{At, Nothing}
@@ -53,10 +54,6 @@ pub record Ascending (holidays : List ℤ) : Type 0 where
   pub to : (i : ℕ) → i < length holidays → word holidays i ≤ℤ pos lastDay
   pub later : (i j : ℕ) → i < j → j < length holidays → word holidays i <ℤ word holidays j
 
-is-true : (t : Bool) → T t → t ≡ true
-is-true true h = refl
-is-true false h = absurd h
-
 pub proper-ascending : (holidays : List ℤ) → isProper holidays ≡ true → Ascending holidays
 proper-ascending holidays p =
     record {
@@ -72,11 +69,11 @@ ascending-proper holidays a = all-of (length holidays) (inPlace holidays) each
     first-or-later : (i : ℕ) → i < length holidays → (eqb i 0 || ltZ (word holidays (i - 1)) (word holidays i)) ≡ true
     first-or-later i l =
         ⊎-elim (λ e. rw e)
-        (λ (e : eqb i 0 ≡ false). rw e (is-true (ltZ (word holidays (i - 1)) (word holidays i)) (a .later (i - 1) i (omega (arith, eqb-false i 0 e)) l .lt)))
+        (λ (e : eqb i 0 ≡ false). rw e (T-path (ltZ (word holidays (i - 1)) (word holidays i)) (a .later (i - 1) i (omega (arith, eqb-false i 0 e)) l .lt)))
         (either (eqb i 0))
 
     each : (i : ℕ) → i < length holidays → inPlace holidays i ≡ true
-    each i l = rw (is-true (leZ (pos 0) (word holidays i)) (a .from i l .le), is-true (leZ (word holidays i) (pos lastDay)) (a .to i l .le)) (first-or-later i l)
+    each i l = rw (T-path (leZ (pos 0) (word holidays i)) (a .from i l .le), T-path (leZ (word holidays i) (pos lastDay)) (a .to i l .le)) (first-or-later i l)
 
 entry-is : (z : ℤ) (d : ℕ) → isEntry z d ≡ true → z ≡ pos d
 entry-is (pos n) d e = ap pos (eqb-true n d e)

@@ -2,18 +2,16 @@
 use mathlib.Core.Path.{_≡_, refl}
 use mathlib.Core.List.{List}
 use mathlib.Core.Logic.{⊎-elim}
-use Prim.Native.Nat.{ℕ, zero, suc, _+_, _≤_, _<_}
-use native.Mathlib.Nat.{not-suc-le-zero}
-use native.Mathlib.Numerals.{add-one}
+use Prim.Native.Nat.{ℕ, _+_, _≤_, _<_}
 use native.Mathlib.Omega.{arith}
 use borrow.Author.Tests.{lt-leb, le-leb}
 use lib.ListN.{length}
-use Rattle.integer.specs.laws.BelowLaws.{lt-or-le}
+use Rattle.integer.specs.laws.BelowLaws.{lt-or-le, fold-zero, fold-suc, fold-stop}
 use Rattle.rulebook.specs.declared.Why.{Why}
 use Rattle.rulebook.specs.declared.Verdict.{Verdict}
 use Rattle.rulebook.specs.declared.Verdict.the-variants.{Accepted, Refused}
 use Rattle.rulebook.specs.File.{num}
-use Rattle.rulebook.specs.Judging.{upTo, fieldIn}
+use Rattle.rulebook.specs.Judging.{_andThen_, upTo, fieldIn}
 use Rattle.files.specs.declared.fields.Field.the-variants.{Whole, Cut}
 use Rattle.files.specs.declared.fields.Outcome.the-variants.{Passed, Stopped}
 use Rattle.files.specs.Fields.{outcome, fieldAt, fieldOutcome}
@@ -31,22 +29,15 @@ outcome-stopped (Refused v q) n w p e = cc
 -- ---- upTo
 
 pub up-none : (f : ℕ → Verdict) → upTo 0 f ≡ Accepted
-unfolding upTo
-up-none f = refl
+up-none = fold-zero _andThen_ Accepted
 
 -- one more check that is accepted
 pub up-more : (n : ℕ) (f : ℕ → Verdict) → upTo n f ≡ Accepted → f n ≡ Accepted → upTo (n + 1) f ≡ Accepted
-unfolding upTo
-up-more n f h t = rw (add-one, h, t)
+up-more n f h t = rw (fold-suc _andThen_ Accepted n f, h, t)
 
 -- the first check that is refused
 pub up-stops : (n : ℕ) (f : ℕ → Verdict) (i : ℕ) (w : Why) (p : ℕ) → i < n → upTo i f ≡ Accepted → f i ≡ Refused w p → upTo n f ≡ Refused w p
-unfolding upTo
-up-stops zero f i w p l h t = absurd (not-suc-le-zero l)
-up-stops (suc n) f i w p l h t =
-    ⊎-elim (λ b. rw (up-stops n f i w p b h t))
-    (λ b. let e : i ≡ n = omega arith in rw (← e, h, t))
-    (lt-or-le i n)
+up-stops n f i w p l h t = fold-stop _andThen_ Accepted (Refused w p) (λ y. refl) n f i l (rw (h, t))
 
 -- ---- fieldAt
 

@@ -10,7 +10,7 @@ use borrow.Author.Tests.{eqb-true, eq-eqb}
 use lib.Dec.{eqb}
 use lib.ListN.{length, getD, set}
 use lib.Seq.{getD-set-same, getD-set-other}
-use Rattle.integer.specs.Below.{tabulate}
+use Rattle.integer.specs.Below.{fold, tabulate}
 use Rattle.integer.specs.laws.BelowLaws.{either, and-true, length-tabulate}
 use Rattle.rulebook.specs.declared.Section.{Section}
 use Rattle.rulebook.specs.declared.Limits.{Limits}
@@ -56,13 +56,13 @@ length-unmarked n = length-tabulate n (λ _. 0)
 
 module _ (l : Limits) (sec : Section) (s : List ℕ) (first : ℕ) where
   pub marked-none : (n : ℕ) → Marked l sec s first 0 (unmarked n)
-  unfolding Marked given unmarked
+  unfolding Marked given fold unmarked
   marked-none n a d p q r = rw (zeros n (mark (openFrom l sec) a d))
 
   -- one row more, its account and day accepted
   pub marked-more : (i : ℕ) (marks : List ℕ) → Judgeable l (length marks) → key l sec s (rowPos sec s first i) ≡ Accepted → Marked l sec s first i marks
       → Marked l sec s first (i + 1) (set marks (markOf l sec s (rowPos sec s first i)) 1)
-  unfolding Marked given
+  unfolding Marked given fold
   marked-more i marks b e m a d p q r =
       let k = keyed l sec s (rowPos sec s first i) e in
       let a' : ℕ = accountAt sec s (rowPos sec s first i) in

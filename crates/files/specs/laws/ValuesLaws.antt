@@ -7,31 +7,29 @@ use Prim.Native.Nat.{ℕ, zero, suc, _+_, _*_, _-_, _≤_, _<_, min}
 use native.Mathlib.Nat.{add-assoc}
 use native.Mathlib.Omega.{arith}
 use borrow.Author.Tests.{lt-ltb, le-ltb, lt-leb, le-leb}
-use lib.ListN.{length, getD, take, drop, length-drop}
-use lib.Seq.{getD-take, getD-drop, length-take-le}
+use lib.ListN.{length, getD, take, drop}
+use lib.Seq.{getD-take, getD-drop}
 use lib.Signed.{mag}
+use Rattle.integer.specs.Integer.{twosComplement}
 use Rattle.integer.specs.laws.BelowLaws.{lt-or-le}
+use Rattle.integer.specs.laws.WordsLaws.{length-of-part}
 use Rattle.rulebook.specs.declared.Section.{Section}
 use Rattle.rulebook.specs.declared.Why.the-variants.{NotWhole, OutOfRange}
 use Rattle.rulebook.specs.declared.Verdict.the-variants.{Accepted, Refused}
 use Rattle.rulebook.specs.Units.{inRange}
 use Rattle.rulebook.specs.Sections.{kindOf}
-use Rattle.rulebook.specs.File.{num, signed32, valueAt}
+use Rattle.rulebook.specs.File.{signed32, valueAt}
 use Rattle.rulebook.specs.Judging.{upTo, value}
+use Rattle.rulebook.specs.laws.FileLaws.{num-four}
 use Rattle.rulebook.specs.laws.JudgingLaws.{up-each, value-says}
 use Rattle.rulebook.specs.laws.VerdictLaws.{up-cong}
 use Rattle.files.specs.Values.{valueIn}
 
 -- ---- Bytes
 
-pub num-four : (s : List ℕ) (at : ℕ)
-    → num 4 s at ≡ getD s at 0 + 256 * getD s (at + 1) 0 + 65536 * getD s (at + 2) 0 + 16777216 * getD s (at + 3) 0
-unfolding num
-num-four s at = rw (add-assoc (at + 1) 1 1, add-assoc at 1 1, add-assoc at 1 2) (omega arith)
-
 -- two's complement: from -2 ^ 31 to 2 ^ 31 - 1
 pub signed32-range : (n : ℕ) → n < 4294967296 → mag (signed32 n) < 2147483648
-unfolding signed32
+unfolding twosComplement
 signed32-range n h =
     ⊎-elim (λ l. rw (lt-ltb n 2147483648 l) l)
     (λ l. rw (le-ltb n 2147483648 l, lt-ltb n 4294967296 h) (omega arith))
@@ -57,7 +55,7 @@ module _ (sec : Section) (part : List ℕ) (from k : ℕ) where
 
 module _ (sec : Section) (s : List ℕ) (a e n : ℕ) (inside : a ≤ length s) (cut : e ≡ min (a + 4 * n) (length s)) where
   part-length : length (take (e - a) (drop a s)) ≡ e - a
-  part-length = length-take-le (e - a) (drop a s) (simp length-drop (omega arith))
+  part-length = length-of-part a e s (omega arith) (omega arith)
 
   part-byte : (k : ℕ) → k < e - a → getD (take (e - a) (drop a s)) k 0 ≡ getD s (a + k) 0
   part-byte k l = getD-take (e - a) (drop a s) k 0 l ∙ getD-drop a s k 0

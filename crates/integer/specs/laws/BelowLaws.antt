@@ -50,6 +50,29 @@ fold-cong op e (suc n) f g h =
     let y = h n (omega arith) in
     cc
 
+-- where the unit joined to itself is the unit, units join to it
+pub fold-unit {ℓ} : {A : Type ℓ} (op : A → A → A) (e : A) → op e e ≡ e → (n : ℕ) (f : ℕ → A) → ((i : ℕ) → i < n → f i ≡ e) → fold op e n f ≡ e
+unfolding fold
+fold-unit op e u zero f h = refl
+fold-unit op e u (suc n) f h = rw (fold-unit op e u n f (λ i l. h i (omega arith)), h n (omega arith)) u
+
+-- where nothing but units joins to the unit, each of what joined to it is one
+pub fold-each {ℓ} : {A : Type ℓ} (op : A → A → A) (e : A) → ((x y : A) → op x y ≡ e → (x ≡ e) × (y ≡ e))
+    → (n : ℕ) (f : ℕ → A) → fold op e n f ≡ e → (i : ℕ) → i < n → f i ≡ e
+unfolding fold
+fold-each op e both zero f t i l = absurd (not-suc-le-zero l)
+fold-each op e both (suc n) f t i l =
+    let s = both (fold op e n f) (f n) t in
+    ⊎-elim (λ h. fold-each op e both n f (s .0) i h) (λ h. let q : i ≡ n = omega arith in rw q (s .1)) (lt-or-le i n)
+
+-- the turn at which a loop is left: nothing that is joined to its result changes it
+pub fold-stop {ℓ} : {A : Type ℓ} (op : A → A → A) (e x : A) → ((y : A) → op x y ≡ x)
+    → (n : ℕ) (f : ℕ → A) (i : ℕ) → i < n → op (fold op e i f) (f i) ≡ x → fold op e n f ≡ x
+unfolding fold
+fold-stop op e x stays zero f i l t = absurd (not-suc-le-zero l)
+fold-stop op e x stays (suc n) f i l t =
+    ⊎-elim (λ h. rw (fold-stop op e x stays n f i h t) (stays (f n))) (λ h. let q : i ≡ n = omega arith in rw (← q) t) (lt-or-le i n)
+
 -- ---- sumℕ, sumℤ
 
 pub sumℕ-cong : (n : ℕ) (f g : ℕ → ℕ) → ((i : ℕ) → i < n → f i ≡ g i) → sumℕ n f ≡ sumℕ n g
@@ -120,12 +143,7 @@ all-more n p h t = rw (all-suc n p, h, t)
 
 -- the turn at which it is left
 pub all-fails : (n : ℕ) (p : ℕ → Bool) (i : ℕ) → i < n → p i ≡ false → all n p ≡ false
-unfolding fold
-all-fails zero p i l t = absurd (not-suc-le-zero l)
-all-fails (suc n) p i l t =
-    ⊎-elim (λ h. rw (all-fails n p i h t))
-    (λ h. let e : i ≡ n = omega arith in rw (← e, t) (and-false (all i p)))
-    (lt-or-le i n)
+all-fails n p i l t = fold-stop _&&_ true false (λ y. refl) n p i l (rw t (and-false (all i p)))
 
 pub and-true : (a b : Bool) → (a && b) ≡ true → (a ≡ true) × (b ≡ true)
 and-true true b e = (refl, e)
@@ -133,16 +151,10 @@ and-true false b e = let z : _≡_ {A = ℕ} 0 1 = cc in absurd (omega arith)
 
 -- what passed everywhere passed at each
 pub all-at : (n : ℕ) (p : ℕ → Bool) → all n p ≡ true → (i : ℕ) → i < n → p i ≡ true
-unfolding fold
-all-at zero p h i l = absurd (not-suc-le-zero l)
-all-at (suc n) p h i l =
-    let b = and-true (all n p) (p n) h in
-    ⊎-elim (λ k. all-at n p (b .0) i k) (λ k. let e : i ≡ n = omega arith in rw e (b .1)) (lt-or-le i n)
+all-at = fold-each _&&_ true and-true
 
 pub all-of : (n : ℕ) (p : ℕ → Bool) → ((i : ℕ) → i < n → p i ≡ true) → all n p ≡ true
-unfolding fold
-all-of zero p h = refl
-all-of (suc n) p h = rw (all-of n p (λ i l. h i (omega arith)), h n (omega arith))
+all-of = fold-unit _&&_ true refl
 
 -- ---- first
 
@@ -153,12 +165,8 @@ first-more n f h t = rw (add-one, h, t)
 
 -- the turn at which it is left
 pub first-stops : (n : ℕ) (f : ℕ → Found) (i : ℕ) (x : ℕ) → i < n → first i f ≡ Nothing → f i ≡ At x → first n f ≡ At x
-unfolding fold orElse
-first-stops zero f i x l h t = absurd (not-suc-le-zero l)
-first-stops (suc n) f i x l h t =
-    ⊎-elim (λ b. rw (first-stops n f i x b h t))
-    (λ b. let e : i ≡ n = omega arith in rw (← e, h, t))
-    (lt-or-le i n)
+unfolding orElse
+first-stops n f i x l h t = fold-stop orElse Nothing (At x) (λ y. refl) n f i l (rw (h, t))
 
 -- what one search after another found
 pub orElse-at : (o y : Found) (x : ℕ) → orElse o y ≡ At x → (o ≡ At x) ⊎ ((o ≡ Nothing) × (y ≡ At x))
@@ -180,16 +188,11 @@ first-cong = fold-cong orElse Nothing
 
 -- where nothing was found no turn found any, and the converse
 pub first-nothing : (n : ℕ) (f : ℕ → Found) → first n f ≡ Nothing → (i : ℕ) → i < n → f i ≡ Nothing
-unfolding fold
-first-nothing zero f e i l = absurd (not-suc-le-zero l)
-first-nothing (suc n) f e i l =
-    let s = orElse-nothing (first n f) (f n) e in
-    ⊎-elim (λ h. first-nothing n f (s .0) i h) (λ h. let q : i ≡ n = omega arith in rw q (s .1)) (lt-or-le i n)
+first-nothing = fold-each orElse Nothing orElse-nothing
 
 pub nothing-first : (n : ℕ) (f : ℕ → Found) → ((i : ℕ) → i < n → f i ≡ Nothing) → first n f ≡ Nothing
-unfolding fold orElse
-nothing-first zero f h = refl
-nothing-first (suc n) f h = rw (nothing-first n f (λ i l. h i (omega arith)), h n (omega arith))
+unfolding orElse
+nothing-first = fold-unit orElse Nothing refl
 
 -- what was found was found at some turn, and at none before it
 pub first-at : (n : ℕ) (f : ℕ → Found) (x : ℕ) → first n f ≡ At x → (i : ℕ) × (i < n) × (f i ≡ At x) × ((j : ℕ) → j < i → f j ≡ Nothing)

@@ -3,10 +3,9 @@ use mathlib.Core.Path.{_≡_, refl, ap, _∙_}
 use mathlib.Core.Bool.{Bool, true, false, cond, _||_, or-true}
 use mathlib.Core.Logic.{⊎-elim}
 use Prim.Native.Nat.{ℕ, zero, suc, _+_, _-_, _≤_, _<_}
-use native.Mathlib.Nat.{not-suc-le-zero}
 use native.Mathlib.Omega.{arith}
 use Rattle.integer.specs.Below.{fold, sumℕ, any, count}
-use Rattle.integer.specs.laws.BelowLaws.{either, lt-or-le, fold-suc}
+use Rattle.integer.specs.laws.BelowLaws.{either, lt-or-le, fold-suc, fold-unit, fold-each, fold-stop}
 
 -- ---- Sums
 
@@ -56,17 +55,20 @@ or-right : (a b : Bool) → a ≡ false → (a || b) ≡ true → b ≡ true
 or-right true b f e = absurd (let z : _≡_ {A = ℕ} 0 1 = cc in omega arith)
 or-right false b f e = e
 
+or-both : (a b : Bool) → (a || b) ≡ false → (a ≡ false) × (b ≡ false)
+or-both true b e = absurd (let z : _≡_ {A = ℕ} 0 1 = cc in omega arith)
+or-both false b e = (refl, e)
+
 -- the turn at which it passes
 pub any-at : (n : ℕ) (p : ℕ → Bool) (i : ℕ) → i < n → p i ≡ true → any n p ≡ true
-unfolding fold
-any-at zero p i l t = absurd (not-suc-le-zero l)
-any-at (suc n) p i l t =
-    ⊎-elim (λ h. rw (any-at n p i h t)) (λ h. let e : i ≡ n = omega arith in rw (← e, t) (or-true (any i p))) (lt-or-le i n)
+any-at n p i l t = fold-stop _||_ false true (λ y. refl) n p i l (rw t (or-true (any i p)))
+
+-- what passed nowhere failed at each, and the converse
+pub any-each : (n : ℕ) (p : ℕ → Bool) → any n p ≡ false → (i : ℕ) → i < n → p i ≡ false
+any-each = fold-each _||_ false or-both
 
 pub any-none : (n : ℕ) (p : ℕ → Bool) → ((i : ℕ) → i < n → p i ≡ false) → any n p ≡ false
-unfolding fold
-any-none zero p h = refl
-any-none (suc n) p h = rw (any-none n p (λ i l. h i (omega arith)), h n (omega arith))
+any-none = fold-unit _||_ false refl
 
 -- what passed somewhere passed at some turn
 pub any-some : (n : ℕ) (p : ℕ → Bool) → any n p ≡ true → (i : ℕ) × (i < n) × (p i ≡ true)

@@ -77,15 +77,16 @@ nle-test (pos a) (negsuc b) e = omega arith
 nle-test (negsuc a) (pos b) e = absurd (subst T e tt)
 nle-test (negsuc a) (negsuc b) e = let h = leb-false b a e in omega arith
 
-is-true : (t : Bool) → T t → t ≡ true
-is-true true h = refl
-is-true false h = absurd h
+-- a test that passes is true
+pub T-path : (b : Bool) → T b → b ≡ true
+T-path true t = refl
+T-path false t = absurd t
 
 pub le-parts : {a b : ℤ} → a ≤ℤ b → positive a + negative b ≤ positive b + negative a
-le-parts {a} {b} h = le-test a b (is-true (leZ a b) (h .le))
+le-parts {a} {b} h = le-test a b (T-path (leZ a b) (h .le))
 
 pub lt-parts : {a b : ℤ} → a <ℤ b → positive a + negative b < positive b + negative a
-lt-parts {a} {b} h = lt-test a b (is-true (ltZ a b) (h .lt))
+lt-parts {a} {b} h = lt-test a b (T-path (ltZ a b) (h .lt))
 
 le-bool : (a b : ℤ) → positive a + negative b ≤ positive b + negative a → T (leZ a b)
 le-bool (pos a) (pos b) h = le→leb a b (omega arith)
@@ -106,7 +107,7 @@ pub parts-lt : {a b : ℤ} → positive a + negative b < positive b + negative a
 parts-lt {a} {b} h = record { lt = lt-bool a b h }
 
 pub le-true : (a b : ℤ) → positive a + negative b ≤ positive b + negative a → leZ a b ≡ true
-le-true a b h = is-true (leZ a b) (le-bool a b h)
+le-true a b h = T-path (leZ a b) (le-bool a b h)
 
 pub le-false : (a b : ℤ) → positive b + negative a < positive a + negative b → leZ a b ≡ false
 le-false a b h = go (leZ a b) (le-test a b)

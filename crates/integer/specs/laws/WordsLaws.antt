@@ -91,12 +91,12 @@ getD-past xs ys n k d l h =
     let e : k ≡ length xs + (k - n) = omega arith in
     ap (λ j. getD (xs ++ ys) j d) e ∙ getD-append-add xs ys (k - n) d
 
+pub length-of-part {ℓ} : {A : Type ℓ} (a e : ℕ) (xs : List A) → a ≤ e → e ≤ length xs → length (take (e - a) (drop a xs)) ≡ e - a
+length-of-part a e xs le fit = length-take-le (e - a) (drop a xs) (simp length-drop (omega arith))
+
 module _ {ℓ} {A : Type ℓ} (a e : ℕ) (g : List A → List A) (xs : List A) (d : A) (le : a ≤ e) (fit : e ≤ length xs) where
   len-a : length (take a xs) ≡ a
   len-a = length-take-le a xs (omega arith)
-
-  pub length-of-part : length (take (e - a) (drop a xs)) ≡ e - a
-  length-of-part = length-take-le (e - a) (drop a xs) (simp length-drop (omega arith))
 
   pub length-onPart : length (g (take (e - a) (drop a xs))) ≡ e - a → length (onPart a e g xs) ≡ length xs
   length-onPart l = simp (length-append, length-drop, len-a, l) (omega arith)
@@ -121,7 +121,7 @@ module _ {ℓ} {A : Type ℓ} (a e : ℕ) (g : List A → List A) (xs : List A) 
 pub part-patched {ℓ} : {A : Type ℓ} (d : A) (a e : ℕ) (f : ℕ → A) (xs : List A) → a ≤ e → e ≤ length xs → onPart a e (λ p. tabulate (length p) f) xs ≡ patched d a e (λ k. f (k - a)) xs
 part-patched {A = A} d a e f xs le fit =
     let g : List A → List A = λ p. tabulate (length p) f in
-    let n = length-of-part a e g xs d le fit in
+    let n = length-of-part a e xs le fit in
     let l = length-tabulate (length (take (e - a) (drop a xs))) f ∙ n in
     tabulate-of d _ (length xs) _ (length-onPart a e g xs d le fit l)
     (λ k b.

@@ -9,15 +9,15 @@ use lib.IntN.{ℤ, pos, negℤ}
 use lib.ListN.{length, take, drop, length-replicate}
 use Rattle.integer.specs.Words.{part, word}
 use Rattle.integer.specs.Below.{fold, sumℤ, orElse, tabulate, turns}
-use Rattle.integer.specs.Integer.{minus, withSign}
+use Rattle.integer.specs.Integer.{twosComplement, minus, withSign}
 use Rattle.rulebook.specs.declared.Terms.{Terms}
 use Rattle.rulebook.specs.Units.{nearest}
 use Rattle.rulebook.specs.ReferencePrice.{average, referencePrice}
 use Rattle.rulebook.specs.DayAmount.{referencePriceOf, vestedQuantity, tenderAmount, vestingAmount, residualLoad, rvq, residualAmount, residualDue, intervalAmount, exactAmount, postedAmount}
 use Rattle.rulebook.specs.Terms.{termsFit}
 use Rattle.rulebook.specs.Layout.{base, ring, intervalSize, size, slot, intervalWord, rowWord}
-use Rattle.rulebook.specs.File.{num, signed32, valueAt, rowEnd, rowPos, sectionEnd, sectionRows, fileRows, numberOf, figureOf}
-use Rattle.rulebook.specs.Judging.{upTo, fieldIn, value, key, given, rest, rowAfter, judgedRow, judgedSection, judged}
+use Rattle.rulebook.specs.File.{num, valueAt, rowEnd, rowPos, sectionEnd, sectionRows, fileRows, numberOf, figureOf}
+use Rattle.rulebook.specs.Judging.{fieldIn, value, key, given, rest, rowAfter, judgedRow, judgedSection, judged}
 use Rattle.rulebook.specs.Opening.{newBook, opened}
 use Rattle.rulebook.specs.Submit.{submitted}
 use Rattle.rulebook.specs.Close.{closed}
@@ -106,12 +106,12 @@ submit-first : (n position : ℕ) (s file : List ℕ) (k : ℕ) (number digit : 
 submit-first n position s file k number digit e f d = printed-submit one in-one [] book new n position s k e ∙ rw (f, d) refl
 
 zeros-told : (submitLine (submitTold one [] (zeros 8)) ≡ submitText 48 48 []) × (submitLine (submitTold one [] (zeros 2)) ≡ submitText 52 50 [])
-unfolding judged judgedSection upTo num rowPos sectionEnd turns digitsWithin decimal spaced lineOf answerLine submitLine
+unfolding judged judgedSection fold num rowPos sectionEnd turns digitsWithin decimal spaced lineOf answerLine submitLine
 zeros-told = (refl, refl)
 
 -- a refused file leaves the book as it was
 two-refused : submitted book (zeros 2) .words ≡ book
-unfolding judged judgedSection upTo num rowPos sectionEnd turns
+unfolding judged judgedSection fold num rowPos sectionEnd turns
 two-refused = let c = submit-tells one in-one [] book new (zeros 2) in c .refused (λ e. let z = sym (ap (λ (a : Answer). a .number) (c .answered)) ∙ e in absurd (omega (arith, z)))
 
 -- ---- A day of two accounts
@@ -123,7 +123,7 @@ new-two : State two [] bookOfTwo
 new-two = new-state two in-two newWords (omega (arith, many, places .sizeTwo))
 
 day-judged : submitTold two [] dayFile ≡ numbered 0 0
-unfolding judged judgedSection judgedRow rowAfter rest given key fieldIn value upTo num rowEnd rowPos sectionEnd turns valueAt signed32 closes
+unfolding judged judgedSection judgedRow rowAfter rest given key fieldIn value fold num rowEnd rowPos sectionEnd turns valueAt twosComplement closes
 day-judged = refl
 
 abbrev history : List Event
@@ -140,12 +140,12 @@ abbrev dayAnswer : Answer
 dayAnswer = record { number = 0; position = 0; day = 9497; count = 0 }
 
 day-closed : closeTold two history newStatement ≡ dayAnswer
-unfolding closeTold firstLacking searched residualCount inForce latest lastFor acceptedRows closes residualDue fold orElse fileRows sectionRows tabulate num rowEnd rowPos sectionEnd turns valueAt signed32 numberOf figureOf base ring intervalSize slot intervalWord rowWord
+unfolding closeTold firstLacking searched residualCount inForce latest lastFor acceptedRows closes residualDue fold orElse fileRows sectionRows tabulate num rowEnd rowPos sectionEnd turns valueAt twosComplement numberOf figureOf base ring intervalSize slot intervalWord rowWord
 day-closed = refl
 
 -- the accounts' amounts, and the MSSL's
 day-amount : (formulaAmount two history 0 ≡ pos 2000) × (formulaAmount two history 1 ≡ minus 7)
-unfolding formulaAmount postedAmount exactAmount intervalAmount tenderAmount vestingAmount vestedQuantity residualLoad rvq residualAmount residualDue referencePriceOf referencePrice average nearest withSign inForce latest lastFor acceptedRows closes fold fileRows sectionRows tabulate num rowEnd rowPos sectionEnd turns valueAt signed32 numberOf figureOf
+unfolding formulaAmount postedAmount exactAmount intervalAmount tenderAmount vestingAmount vestedQuantity residualLoad rvq residualAmount residualDue referencePriceOf referencePrice average nearest withSign inForce latest lastFor acceptedRows closes fold fileRows sectionRows tabulate num rowEnd rowPos sectionEnd turns valueAt twosComplement numberOf figureOf
 day-amount = (refl, refl)
 
 day-mssl : negℤ (sumℤ 2 (formulaAmount two history)) ≡ minus 1993

@@ -6,13 +6,9 @@ use native.Mathlib.Omega.{arith}
 use native.Mathlib.Nat.{add-assoc}
 use borrow.Author.Tests.{lt-ltb, le-ltb}
 use lib.IntN.{ℤ, pos, negsuc, _+ℤ_}
-use lib.ListN.{getD}
+use Rattle.integer.specs.Integer.{twosComplement}
 use Rattle.rulebook.specs.File.{num}
 use Rattle.replay.specs.Fields.{signed64}
-
-pub num-four : (s : List ℕ) (at : ℕ) → num 4 s at ≡ getD s at 0 + 256 * getD s (at + 1) 0 + 65536 * getD s (at + 2) 0 + 16777216 * getD s (at + 3) 0
-unfolding num
-num-four s at = simp add-assoc (omega arith)
 
 pub num-eight : (s : List ℕ) (at : ℕ) → num 8 s at ≡ num 4 s at + 4294967296 * num 4 s (at + 4)
 unfolding num
@@ -20,13 +16,13 @@ num-eight s at = simp add-assoc (omega arith)
 
 -- the two branches of the code, by the upper half
 pub signed-below : (low high : ℕ) → low < 4294967296 → high < 2147483648 → signed64 (low + 4294967296 * high) ≡ pos (low + 4294967296 * high)
-unfolding signed64
+unfolding twosComplement
 signed-below low high l h = rw (lt-ltb (low + 4294967296 * high) 9223372036854775808 (omega arith))
 
 pub signed-above : (low high : ℕ)
     → low < 4294967296 → 2147483648 ≤ high → high < 4294967296
     → signed64 (low + 4294967296 * high) ≡ negsuc 9223372036854775807 +ℤ pos (low + 4294967296 * (high - 2147483648))
-unfolding signed64
+unfolding twosComplement
 signed-above low high l g h =
     let n = low + 4294967296 * high in
     let m = low + 4294967296 * (high - 2147483648) in

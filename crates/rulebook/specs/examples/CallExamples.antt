@@ -9,7 +9,7 @@ use lib.Dec.{T}
 use lib.IntN.{ℤ, pos, natAbs}
 use lib.ListN.{length, set}
 use lib.Seq.{getD-set-same, getD-set-other}
-use Rattle.integer.specs.Below.{tabulate, turns}
+use Rattle.integer.specs.Below.{fold, tabulate, turns}
 use Rattle.integer.specs.Words.{word}
 use Rattle.rulebook.specs.declared.Terms.{Terms}
 use Rattle.rulebook.specs.Units.{lastDay, positive}
@@ -19,7 +19,7 @@ use Rattle.rulebook.specs.WellFormed.{headerFits, fits, wellFormed}
 use Rattle.rulebook.specs.Layout.{size}
 use Rattle.rulebook.specs.Opening.{newBook, opened}
 use Rattle.rulebook.specs.File.{num, rowPos, sectionEnd, sectionRows, fileRows}
-use Rattle.rulebook.specs.Judging.{upTo, judgedSection, judged}
+use Rattle.rulebook.specs.Judging.{judgedSection, judged}
 use Rattle.rulebook.specs.Submit.{rowsStored, submitted}
 use Rattle.rulebook.specs.Close.{closed}
 use Rattle.rulebook.specs.Numbers.{numbered, ofOpen, ofSubmit, ofClose}
@@ -124,5 +124,5 @@ lent-books = record {
   eighthWord = λ lent l. eighth-word lent (omega (arith, places .sizeTwo));
   finished = λ w statement t e. rw (T-path (wellFormed w) t, e) refl;
   noRoom = λ w statement t left short. rw (T-path (wellFormed w) t, le-ltb lastDay (nextDay w) left, lt-ltb (length statement) (termsOf w .accounts + 1) (omega arith)) refl;
-  eightZeros = λ w t. unfold judged judgedSection upTo num rowPos sectionEnd turns fileRows sectionRows tabulate rowsStored in rw (T-path (wellFormed w) t) (refl, refl);
+  eightZeros = λ w t. unfold judged judgedSection fold num rowPos sectionEnd turns fileRows sectionRows tabulate rowsStored in rw (T-path (wellFormed w) t) (refl, refl);
 }

@@ -4,11 +4,11 @@ use mathlib.Core.List.{List, [], _∷_, _++_}
 use Prim.Native.Nat.{ℕ, _*_}
 use lib.IntN.{ℤ, pos}
 use lib.ListN.{replicate}
-use Rattle.integer.specs.Integer.{minus}
+use Rattle.integer.specs.Integer.{twosComplement, minus}
 use Rattle.integer.specs.Below.{turns, tabulate}
 use Rattle.rulebook.specs.declared.Section.{Section}
 use Rattle.rulebook.specs.declared.Section.the-variants.{Vesting, Meter, Residual, Ncc}
-use Rattle.rulebook.specs.File.{num, signed32, valueAt, rowEnd, rowPos, sectionEnd, sectionRows, fileRows, Row, numberOf, Figure, BVQ, BVP, TVQ, TVP, MEP, IEQ, UEGQ, MQ, RVP1, RVP2, NccLoad, figureOf}
+use Rattle.rulebook.specs.File.{num, valueAt, rowEnd, rowPos, sectionEnd, sectionRows, fileRows, Row, numberOf, Figure, BVQ, BVP, TVQ, TVP, MEP, IEQ, UEGQ, MQ, RVP1, RVP2, NccLoad, figureOf}
 use Rattle.rulebook.specs.examples.Examples.{zeros}
 
 -- ---- Bytes
@@ -25,7 +25,7 @@ pub record BytesRead : Type 0 where
   pub noRows : fileRows (zeros 8) ≡ []
 
 pub bytes-read : BytesRead
-unfolding fileRows sectionRows tabulate num rowEnd rowPos sectionEnd turns valueAt signed32
+unfolding fileRows sectionRows tabulate num rowEnd rowPos sectionEnd turns valueAt twosComplement
 bytes-read = record { minusOne = refl; most = refl; least = refl; row = refl; noRows = refl }
 
 -- ---- Figures, at the first interval, at the last, and of names that the row does not have

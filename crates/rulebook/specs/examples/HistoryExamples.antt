@@ -8,6 +8,7 @@ use borrow.Author.Tests.{lt-ltb, le-ltb}
 use lib.Dec.{ltb}
 use lib.IntN.{ℤ, pos}
 use lib.ListN.{length, replicate}
+use Rattle.integer.specs.Integer.{twosComplement}
 use Rattle.integer.specs.Below.{fold, orElse, tabulate, turns}
 use Rattle.rulebook.specs.declared.Section.the-variants.{Ncc}
 use Rattle.rulebook.specs.declared.Terms.{Terms}
@@ -15,7 +16,7 @@ use Rattle.rulebook.specs.DayAmount.{residualDue}
 use Rattle.rulebook.specs.Terms.{InTerms}
 use Rattle.rulebook.specs.Layout.{size, base, ring, intervalSize, slot, intervalWord, rowWord}
 use Rattle.rulebook.specs.Opening.{newBook}
-use Rattle.rulebook.specs.File.{num, signed32, valueAt, rowEnd, rowPos, sectionEnd, sectionRows, fileRows, numberOf, figureOf, NccLoad}
+use Rattle.rulebook.specs.File.{num, valueAt, rowEnd, rowPos, sectionEnd, sectionRows, fileRows, numberOf, figureOf, NccLoad}
 use Rattle.rulebook.specs.Close.{searched, residualCount, closed}
 use Rattle.rulebook.specs.Numbers.{numbered, ofClose}
 use Rattle.rulebook.specs.History.{Event, submit, close, closes, latest, lastFor, acceptedRows, inForce, figureIn}
@@ -108,7 +109,7 @@ pub record Closes : Type 0 where
   pub notRevised : figureIn (inForce (refused (nccFile 5) ∷ taken (nccFile 3) ∷ []) Ncc 0 9497) 0 NccLoad ≡ pos 3
 
 pub closes-told : Closes
-unfolding closeTold residualCount firstLacking searched inForce latest lastFor acceptedRows closes residualDue fold orElse fileRows sectionRows tabulate num rowEnd rowPos sectionEnd turns valueAt signed32 numberOf figureOf base ring intervalSize slot intervalWord rowWord
+unfolding closeTold residualCount firstLacking searched inForce latest lastFor acceptedRows closes residualDue fold orElse fileRows sectionRows tabulate num rowEnd rowPos sectionEnd turns valueAt twosComplement numberOf figureOf base ring intervalSize slot intervalWord rowWord
 closes-told = record {
   noRoom = refl;
   nothing = refl;

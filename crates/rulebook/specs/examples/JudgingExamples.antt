@@ -2,9 +2,10 @@
 use mathlib.Core.Path.{_≡_, refl}
 use mathlib.Core.List.{List, [], _∷_, _++_}
 use Prim.Native.Nat.{ℕ}
-use Rattle.integer.specs.Below.{turns}
-use Rattle.rulebook.specs.File.{num, signed32, valueAt, rowEnd, rowPos, sectionEnd}
-use Rattle.rulebook.specs.Judging.{upTo, fieldIn, value, key, given, rest, rowAfter, judgedRow, judgedSection, limitsOf, judged}
+use Rattle.integer.specs.Integer.{twosComplement}
+use Rattle.integer.specs.Below.{fold, turns}
+use Rattle.rulebook.specs.File.{num, valueAt, rowEnd, rowPos, sectionEnd}
+use Rattle.rulebook.specs.Judging.{fieldIn, value, key, given, rest, rowAfter, judgedRow, judgedSection, limitsOf, judged}
 use Rattle.rulebook.specs.Numbers.{numbered, ofVerdict}
 use Rattle.rulebook.specs.examples.Examples.{three, zeros}
 
@@ -51,7 +52,7 @@ pub record FileWindows : Type 0 where
   pub nccTooLate : returns 36525 (nccDay 0xAA 0x8E) 6 8
 
 pub file-windows : FileWindows
-unfolding judged judgedSection judgedRow rowAfter rest given key fieldIn value upTo num rowEnd rowPos sectionEnd turns valueAt signed32
+unfolding judged judgedSection judgedRow rowAfter rest given key fieldIn value fold num rowEnd rowPos sectionEnd turns valueAt twosComplement
 file-windows = record {
   meterBefore = refl;
   meterFrom = refl;
@@ -100,7 +101,7 @@ pub record Keys : Type 0 where
   pub oneOfMany : returns 9500 (zeros 6 ++ (1 ∷ 1 ∷ nccRow 0x1C)) 4 202
 
 pub keys : Keys
-unfolding judged judgedSection judgedRow rowAfter rest given key fieldIn value upTo num rowEnd rowPos sectionEnd turns valueAt signed32
+unfolding judged judgedSection judgedRow rowAfter rest given key fieldIn value fold num rowEnd rowPos sectionEnd turns valueAt twosComplement
 keys = record {
   twoDays = refl;
   twoNccDays = refl;

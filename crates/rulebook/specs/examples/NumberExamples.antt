@@ -2,13 +2,14 @@
 use mathlib.Core.Path.{_≡_, refl}
 use mathlib.Core.List.{List, [], _∷_, _++_}
 use Prim.Native.Nat.{ℕ}
-use Rattle.integer.specs.Below.{turns}
+use Rattle.integer.specs.Integer.{twosComplement}
+use Rattle.integer.specs.Below.{fold, turns}
 use Rattle.rulebook.specs.declared.Why.the-variants.{NotWhole, OutOfRange, DayNotOpen, Repeated, Excess}
 use Rattle.rulebook.specs.declared.OpenAnswer.the-variants.{Opened, BadTerms, TooShort}
 use Rattle.rulebook.specs.declared.SubmitAnswer.the-variants.{Taken, IllFormed, FileRefused}
 use Rattle.rulebook.specs.declared.CloseAnswer.the-variants.{Closed, BookIllFormed, Finished, NoRoom, DatumMissing}
-use Rattle.rulebook.specs.File.{num, signed32, valueAt, rowEnd, rowPos, sectionEnd}
-use Rattle.rulebook.specs.Judging.{upTo, fieldIn, value, key, given, rest, rowAfter, judgedRow, judgedSection, limitsOf, judged}
+use Rattle.rulebook.specs.File.{num, valueAt, rowEnd, rowPos, sectionEnd}
+use Rattle.rulebook.specs.Judging.{fieldIn, value, key, given, rest, rowAfter, judgedRow, judgedSection, limitsOf, judged}
 use Rattle.rulebook.specs.Numbers.{ofOpen, ofVerdict, ofSubmit, ofClose, numbered, dayNotOpen}
 use Rattle.rulebook.specs.examples.Examples.{two, three, zeros}
 
@@ -126,7 +127,7 @@ pub record ThreeAccounts : Type 0 where
   pub manyRows : returnsThree (0 ∷ 1 ∷ zeros 6) 6 3
 
 pub refusals : Refusals
-unfolding judged judgedSection judgedRow rowAfter rest given key fieldIn value upTo num rowEnd rowPos sectionEnd turns valueAt signed32
+unfolding judged judgedSection judgedRow rowAfter rest given key fieldIn value fold num rowEnd rowPos sectionEnd turns valueAt twosComplement
 refusals = record {
   empty = refl;
   threeTranches = refl;
@@ -146,7 +147,7 @@ refusals = record {
 }
 
 pub table : Table
-unfolding judged judgedSection judgedRow rowAfter rest given key fieldIn value upTo num rowEnd rowPos sectionEnd turns valueAt signed32
+unfolding judged judgedSection judgedRow rowAfter rest given key fieldIn value fold num rowEnd rowPos sectionEnd turns valueAt twosComplement
 table = record {
   sevenZeros = refl;
   eightZeros = refl;
@@ -164,7 +165,7 @@ table = record {
 }
 
 pub three-accounts : ThreeAccounts
-unfolding judged judgedSection judgedRow rowAfter rest given key fieldIn value upTo num rowEnd rowPos sectionEnd turns valueAt signed32
+unfolding judged judgedSection judgedRow rowAfter rest given key fieldIn value fold num rowEnd rowPos sectionEnd turns valueAt twosComplement
 three-accounts = record {
   sameDay = refl;
   noFourth = refl;

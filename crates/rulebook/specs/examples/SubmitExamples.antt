@@ -7,7 +7,8 @@ use native.Mathlib.Omega.{arith}
 use lib.Dec.{T}
 use lib.IntN.{ℤ, pos}
 use lib.ListN.{length, replicate}
-use Rattle.integer.specs.Below.{tabulate, turns}
+use Rattle.integer.specs.Integer.{twosComplement}
+use Rattle.integer.specs.Below.{fold, tabulate, turns}
 use Rattle.integer.specs.laws.BelowLaws.{length-tabulate, getD-tabulate, tabulate-of}
 use Rattle.integer.specs.Words.{word}
 use Rattle.rulebook.specs.declared.Section.{Section}
@@ -19,8 +20,8 @@ use Rattle.rulebook.specs.Layout.{width, base, ring, intervalSize, slot,
 use Rattle.rulebook.specs.BookData.{termsOf, nextDay, entriesOf}
 use Rattle.rulebook.specs.WellFormed.{wellFormed}
 use Rattle.rulebook.specs.Opening.{newBook}
-use Rattle.rulebook.specs.File.{num, signed32, valueAt, rowEnd, rowPos, sectionEnd, sectionRows, fileRows, Row, numberOf, figureOf}
-use Rattle.rulebook.specs.Judging.{upTo, fieldIn, value, key, given, rest, rowAfter, judgedRow, judgedSection, limitsOf, judged}
+use Rattle.rulebook.specs.File.{num, valueAt, rowEnd, rowPos, sectionEnd, sectionRows, fileRows, Row, numberOf, figureOf}
+use Rattle.rulebook.specs.Judging.{fieldIn, value, key, given, rest, rowAfter, judgedRow, judgedSection, limitsOf, judged}
 use Rattle.rulebook.specs.Submit.{entry, entryStored, rowStored, rowsStored, submitted, entryOr}
 use Rattle.rulebook.specs.History.{closes, latest, lastFor}
 use Rattle.rulebook.specs.examples.Examples.{one, two, in-two, zeros}
@@ -221,7 +222,7 @@ pub record SubmittedFile : Type 0 where
   pub otherSection : (w : List ℤ) → Begun w → wordsFrom 117 9 (after w) ≡ wordsFrom 117 9 w
 
 file-accepted : judged (limitsOf two 9497) file ≡ Accepted
-unfolding judged judgedSection judgedRow rowAfter rest given key fieldIn value upTo num rowEnd rowPos sectionEnd turns valueAt signed32
+unfolding judged judgedSection judgedRow rowAfter rest given key fieldIn value fold num rowEnd rowPos sectionEnd turns valueAt twosComplement
 file-accepted = refl
 
 -- what is true of two's terms and 9,497 is true of the book's terms and next day
@@ -242,7 +243,7 @@ module _ (w : List ℤ) (b : Begun w) (s : Section) (a i : ℕ) (ha : a < accoun
       (λ j hj. ap (word (after w)) (omega (arith, e, row-run two s a 9497 i j hj)) ∙ after-word j hj)
 
 pub submitted-file : SubmittedFile
-unfolding tabulate entry figureOf numberOf base ring intervalSize slot intervalWord rowWord closes lastFor latest fileRows sectionRows num rowEnd rowPos sectionEnd turns valueAt signed32
+unfolding tabulate entry figureOf numberOf base ring intervalSize slot intervalWord rowWord closes lastFor latest fileRows sectionRows num rowEnd rowPos sectionEnd turns valueAt twosComplement
 submitted-file = record {
   newBook = λ lent l. let h = new-state two in-two lent (omega (arith, places .sizeTwo)) in record {
     formed = new-formed two in-two lent (omega (arith, places .sizeTwo));

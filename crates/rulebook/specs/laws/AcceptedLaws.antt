@@ -1,15 +1,15 @@
 -- A file of bytes is accepted exactly if it is the file of proper rows. Assumes nothing.
 use mathlib.Core.Path.{_≡_, refl, subst}
-use mathlib.Core.Bool.{Bool, true, false, _&&_, _||_}
+use mathlib.Core.Bool.{false, _&&_}
 use mathlib.Core.List.{List, [], _∷_, _++_}
-use mathlib.Core.Logic.{_↔_, ⊎-elim}
+use mathlib.Core.Logic.{_↔_}
 use Prim.Native.Nat.{ℕ, zero, suc, _+_, _*_, _-_, _≤_, _<_}
-use native.Mathlib.Nat.{not-suc-le-zero}
 use native.Mathlib.Omega.{arith}
 use lib.Dec.{eqb}
 use lib.ListN.{length}
 use Rattle.integer.specs.Below.{tabulate, Each}
-use Rattle.integer.specs.laws.BelowLaws.{lt-or-le, length-tabulate, each-tabulate, each-append}
+use Rattle.integer.specs.laws.BelowLaws.{length-tabulate, each-tabulate, each-append}
+use Rattle.integer.specs.laws.CountLaws.{any-each}
 use Rattle.integer.specs.laws.WordsLaws.{row-fits}
 use Rattle.rulebook.specs.declared.Section.{Section}
 use Rattle.rulebook.specs.declared.Section.the-variants.{Vesting, Meter, Residual, Ncc}
@@ -74,14 +74,7 @@ row-proper o C sec s p terms f =
 not-given : (sec : Section) (s : List ℕ) (first i a d : ℕ) → given sec s first i a d ≡ false → (j : ℕ) → j < i
     → eqb (accountAt sec s (rowPos sec s first j)) a && eqb (dayAt sec s (rowPos sec s first j)) d ≡ false
 unfolding given
-not-given sec s first zero a d e j l = absurd (not-suc-le-zero l)
-not-given sec s first (suc i) a d e j l =
-    let p = or-both (given sec s first i a d) _ e in
-    ⊎-elim (λ h. not-given sec s first i a d (p .0) j h) (λ h. let q : j ≡ i = omega arith in rw q (p .1)) (lt-or-le j i)
-  where
-    or-both : (x y : Bool) → x || y ≡ false → (x ≡ false) × (y ≡ false)
-    or-both true y e = absurd (let z : _≡_ {A = ℕ} 0 1 = cc in omega arith)
-    or-both false y e = (refl, e)
+not-given sec s first i a d e j l = any-each i _ e j l
 
 once-table : (n : ℕ) (f : ℕ → NamedRow) → ((j i : ℕ) → j < i → i < n → sameKey (f j) (f i) ≡ false) → Once (tabulate n f)
 unfolding Once tabulate

@@ -11,6 +11,7 @@ use lib.IntN.{pos}
 use lib.ListN.{length, getD, drop, length-drop}
 use lib.Seq.{drop-cons, drop-length}
 use Rattle.integer.specs.Below.{tabulate, Each}
+use Rattle.integer.specs.laws.CountLaws.{any-none}
 use Rattle.rulebook.specs.declared.Section.{Section}
 use Rattle.rulebook.specs.declared.Section.the-variants.{Vesting, Meter, Residual, Ncc}
 use Rattle.rulebook.specs.declared.Terms.{Terms}
@@ -48,8 +49,7 @@ not-given : (sec : Section) (s : List ℕ) (first i a d : ℕ)
     → ((j : ℕ) → j < i → eqb (accountAt sec s (rowPos sec s first j)) a && eqb (dayAt sec s (rowPos sec s first j)) d ≡ false)
     → given sec s first i a d ≡ false
 unfolding given
-not-given sec s first zero a d h = refl
-not-given sec s first (suc i) a d h = rw (not-given sec s first i a d (λ j l. h j (omega arith)), h i (omega arith))
+not-given sec s first i a d h = any-none i _ h
 
 alike-table : (rs : List NamedRow) (f : ℕ → NamedRow) → ((i : ℕ) → i < length rs → Alike (f i) (nth rs i)) → AllAlike (tabulate (length rs) f) rs
 unfolding AllAlike tabulate

@@ -2,13 +2,21 @@
 use mathlib.Core.Path.{_≡_}
 use mathlib.Core.List.{List}
 use Prim.Native.Nat.{ℕ, _+_, _*_, _<_}
+use native.Mathlib.Nat.{add-assoc}
+use native.Mathlib.Omega.{arith}
 use borrow.Author.Tests.{lt-ltb}
 use lib.Arith.{digits-lt}
 use lib.IntN.{pos}
+use lib.ListN.{getD}
 use Rattle.integer.specs.laws.BelowLaws.{getD-tabulate}
 use Rattle.rulebook.specs.declared.Section.{Section}
 use Rattle.rulebook.specs.Sections.{perInterval}
-use Rattle.rulebook.specs.File.{numberOf, rowAt, countAt, valuesPos, valuesIn, valueAt}
+use Rattle.rulebook.specs.File.{num, numberOf, rowAt, countAt, valuesPos, valuesIn, valueAt}
+
+-- a field of four bytes
+pub num-four : (s : List ℕ) (at : ℕ) → num 4 s at ≡ getD s at 0 + 256 * getD s (at + 1) 0 + 65536 * getD s (at + 2) 0 + 16777216 * getD s (at + 3) 0
+unfolding num
+num-four s at = simp add-assoc (omega arith)
 
 -- number k of interval i is the value at the row's i * perInterval + k
 pub number-at : (sec : Section) (s : List ℕ) (at i k : ℕ) → i < 48 → k < perInterval sec (countAt sec s at)

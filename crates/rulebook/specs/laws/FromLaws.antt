@@ -8,6 +8,7 @@ use lib.IntN.{ℤ, pos, negsuc}
 use lib.Signed.{mag}
 use lib.ListN.{length, getD, drop, length-drop}
 use lib.Seq.{drop-drop, getD-drop}
+use Rattle.integer.specs.Integer.{twosComplement}
 use Rattle.integer.specs.Below.{tabulate}
 use Rattle.rulebook.specs.File.{num, signed32, valueAt}
 use Rattle.rulebook.specs.Encoding.{bytes, twos, valueBytes}
@@ -57,7 +58,7 @@ from-two s v at xs h f = from-number s 2 v at xs (omega arith) f
 -- ---- Values
 
 signed-twos : (v : ℤ) → mag v < 2147483648 → signed32 (twos v) ≡ v
-unfolding signed32 twos
+unfolding twosComplement twos
 signed-twos (pos n) h = rw (lt-ltb n 2147483648 h)
 signed-twos (negsuc n) h =
     rw (le-ltb (4294967296 - suc n) 2147483648 (omega arith), lt-ltb (4294967296 - suc n) 4294967296 (omega arith)) (ap negsuc (omega arith))

@@ -1,14 +1,13 @@
 -- What an accepted field, row, section and file say. Assumes nothing.
 use mathlib.Core.Path.{_≡_, refl}
-use mathlib.Core.Logic.{_⊎_, inl, inr}
 use mathlib.Core.Bool.{Bool, true, false, not}
 use mathlib.Core.List.{List}
-use Prim.Native.Nat.{ℕ, zero, suc, _+_, _*_, _-_, _≤_, _<_}
-use native.Mathlib.Nat.{not-suc-le-zero}
+use Prim.Native.Nat.{ℕ, _+_, _*_, _-_, _≤_, _<_}
 use native.Mathlib.Omega.{arith}
 use borrow.Author.Tests.{leb-true, not-true}
 use lib.Dec.{leb}
 use lib.ListN.{length}
+use Rattle.integer.specs.laws.BelowLaws.{fold-each}
 use Rattle.rulebook.specs.declared.Section.{Section}
 use Rattle.rulebook.specs.declared.Section.the-variants.{Vesting, Meter, Residual, Ncc}
 use Rattle.rulebook.specs.declared.Limits.{Limits}
@@ -20,7 +19,6 @@ use Rattle.rulebook.specs.Units.{inRange}
 use Rattle.rulebook.specs.Sections.{leastCount, mostCount, kindOf}
 use Rattle.rulebook.specs.File.{num, accountBytes, countBytes, dayPos, countPos, valuesPos, accountAt, dayAt, valuesIn, valueAt, rowPos, rowsIn, meterPos, residualPos, nccPos, endPos}
 use Rattle.rulebook.specs.Judging.{openFrom, require, _andThen_, upTo, fieldIn, value, key, given, rest, rowAfter, judgedRow, judgedSection, judged}
-use Rattle.rulebook.specs.laws.TestLaws.{below-suc}
 
 -- ---- Checks
 
@@ -39,13 +37,7 @@ checked false w p y e = absurd (let z : _≡_ {A = ℕ} 0 1 = cc in omega arith)
 
 -- where all were accepted, each was
 pub up-each : (n : ℕ) (f : ℕ → Verdict) → upTo n f ≡ Accepted → (i : ℕ) → i < n → f i ≡ Accepted
-unfolding upTo
-up-each zero f e i l = absurd (not-suc-le-zero l)
-up-each (suc n) f e i l = go (λ x. up-each n f (then-both (upTo n f) (f n) e .0) i x) (below-suc l)
-  where
-    go : (i < n → f i ≡ Accepted) → (i < n) ⊎ (i ≡ n) → f i ≡ Accepted
-    go ih (inl x) = ih x
-    go ih (inr x) = rw x (then-both (upTo n f) (f n) e .1)
+up-each = fold-each _andThen_ Accepted then-both
 
 -- ---- Fields
 

@@ -15,7 +15,7 @@ use Rattle.rulebook.specs.Units.{between, positive}
 use Rattle.rulebook.specs.Sections.{leastCount, mostCount, perInterval, valueInRange, figurePlace}
 use Rattle.rulebook.specs.Layout.{Word, flag, figure, padding, isFlag, present, width, wordName, flagIndex}
 use Rattle.rulebook.specs.WellFormed.{isZero, rowBlank, wordFits, rowCounts, rowFits}
-use Rattle.rulebook.specs.laws.TestLaws.{tests-same, and-left, and-right, and-both, or-left, or-right, or-cases, between-yes, all-yes, any-yes, all-at, any-at}
+use Rattle.rulebook.specs.laws.TestLaws.{tests-same, and-left, and-right, and-both, or-left, or-right, or-cases, between-yes, all-yes, any-yes, all-at, any-some}
 use Rattle.rulebook.specs.laws.RowWordLaws.{flag-inside, flag-named}
 use Rattle.rulebook.specs.laws.SlotLaws.{is-zero, is-number}
 
@@ -135,7 +135,7 @@ module _ (s : Section) (f : ℕ → ℤ) where
   to x = or-cases (rowBlank s f) (any (suc (mostCount s)) (rowCounts s f)) x
       (λ b. let z : f (flagIndex s) ≡ pos 0 = is-zero (f (flagIndex s)) (all-at (width s) (λ j. isZero (f j)) b (flagIndex s) (flag-inside s)) in
       flagged-row 0 z (omega arith) (λ j h. blank-word s (wordName s j) (f j) (all-at (width s) (λ j. isZero (f j)) b j h)))
-      (λ a. let c = any-at (suc (mostCount s)) (rowCounts s f) a in
+      (λ a. let c = any-some (suc (mostCount s)) (rowCounts s f) a in
       let w = all-at (width s) (λ j. wordFits s (c .0) (wordName s j) (f j)) (and-right (leb (leastCount s) (c .0)) (all (width s) (λ j. wordFits s (c .0) (wordName s j) (f j))) (c .2)) in
       let z : f (flagIndex s) ≡ pos (present s (c .0)) = is-number (present s (c .0)) (f (flagIndex s)) (subst (λ (n : Word). T (wordFits s (c .0) n (f (flagIndex s)))) (flag-named s) (w (flagIndex s) (flag-inside s))) in
       flagged-row (present s (c .0)) z (present-most s (c .0) (omega (arith, c .1))) (λ j h. to-flag s (c .0) (wordName s j) (f j) (w j h)))

@@ -2,16 +2,17 @@
 use mathlib.Core.Path.{_≡_, refl, sym, ap, _∙_, subst}
 use mathlib.Core.Bool.{Bool, true, false, cond}
 use mathlib.Core.List.{List, [], _∷_, _++_, append-nil}
-use Prim.Native.Nat.{ℕ, zero, suc, _+_}
+use Prim.Native.Nat.{ℕ, zero, suc}
 use lib.Dec.{T}
 use Rattle.integer.specs.Below.{tabulate, Each}
 use Rattle.rulebook.specs.declared.Section.{Section}
 use Rattle.rulebook.specs.declared.Section.the-variants.{Vesting, Meter, Residual, Ncc}
 use Rattle.rulebook.specs.Sections.{sameSection}
-use Rattle.rulebook.specs.File.{rowAt, rowPos, rowsIn, sectionRows, fileRows, meterPos, residualPos, nccPos}
-use Rattle.rulebook.specs.NamedRows.{NamedRow, named, namedRows}
+use Rattle.rulebook.specs.File.{rowsIn, sectionRows, fileRows, meterPos, residualPos, nccPos}
+use Rattle.rulebook.specs.NamedRows.{NamedRow, namedRows}
 use Rattle.rulebook.specs.Encoding.{rowsOf}
 use Rattle.rulebook.specs.Proper.{sameKey, Once}
+use Rattle.rulebook.specs.FileTable.{rowOf}
 use Rattle.rulebook.specs.laws.TestLaws.{T-path}
 use Rattle.rulebook.specs.laws.SectionsLaws.{same-section, section-self}
 use Rattle.rulebook.specs.laws.ListLaws.{map-tabulate, map-append}
@@ -74,7 +75,7 @@ of-own sec (r ∷ rs) = by (sameSection sec (r .section)) (λ e. sym (same-secti
 
 -- those of section `sec` at `at`
 unfoldable pub sectionOf : List ℕ → Section → ℕ → List NamedRow
-sectionOf s sec at = tabulate (rowsIn s at) (λ i. named (rowAt sec s (rowPos sec s (at + 2) i)))
+sectionOf s sec at = tabulate (rowsIn s at) (rowOf sec s at)
 
 pub rows-are : (s : List ℕ) → namedRows s ≡ sectionOf s Vesting 0 ++ (sectionOf s Meter (meterPos s) ++ (sectionOf s Residual (residualPos s) ++ sectionOf s Ncc (nccPos s)))
 unfolding namedRows fileRows sectionRows sectionOf

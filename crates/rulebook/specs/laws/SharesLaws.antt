@@ -12,7 +12,7 @@ use lib.Signed.{leZ}
 use Rattle.integer.specs.Integer.{positive}
 use Rattle.integer.specs.laws.IntegerLaws.{int, parts, le-true, le-false, neg-parts}
 use Rattle.integer.specs.Below.{fold, sumℕ}
-use Rattle.integer.specs.laws.BelowLaws.{lt-or-le, sumℕ-cong}
+use Rattle.integer.specs.laws.BelowLaws.{lt-or-le, fold-unit, sumℕ-cong}
 use Rattle.rulebook.specs.Shares.{shareOf, share, RuleShare, ShareTotal}
 
 -- ---- The three cases
@@ -112,18 +112,13 @@ quotients-say (suc n) r s u h =
     let c = suc-mul n s in
     (omega (arith, x .0, y .0), omega (arith, x .1, y .1))
 
-sum-zeros : (n : ℕ) (f : ℕ → ℕ) → ((a : ℕ) → a < n → f a ≡ 0) → sumℕ n f ≡ 0
-unfolding fold
-sum-zeros zero f h = refl
-sum-zeros (suc n) f h = rw (sum-zeros n f (λ a l. h a (omega arith)), h n (omega arith))
-
 pub share-total : (r : ℤ) (n : ℕ) (uegq : ℕ → ℕ) → ShareTotal r n uegq
 unfolding share
 share-total r n uegq = ⊎-elim none (λ k. ⊎-elim (part (k .0)) (full (k .1)) (lt-or-le (positive r) (sumℕ n uegq))) (none-or-some r (sumℕ n uegq))
   where
     none : (positive r ≡ 0) ⊎ (sumℕ n uegq ≡ 0) → ShareTotal r n uegq
     none k =
-        let e = sum-zeros n (λ a. shareOf r (sumℕ n uegq) (uegq a)) (λ a l. share-none r (sumℕ n uegq) (uegq a) k) in
+        let e = fold-unit _+_ 0 refl n (λ a. shareOf r (sumℕ n uegq) (uegq a)) (λ a l. share-none r (sumℕ n uegq) (uegq a) k) in
         record {
           spare = omega arith;
           residual = omega arith;

@@ -17,7 +17,7 @@ use Rattle.rulebook.specs.Layout.{width, place, ring, intervalSize, slot
 use Rattle.rulebook.specs.BookData.{entriesOf}
 use Rattle.rulebook.specs.WellFormed.{isZero, rowBlank, wordFits, rowCounts, rowFits, intervalFits, intervalAt, datedFits, dayFits}
 use Rattle.rulebook.specs.WindowWalk.{windowSlotFits}
-use Rattle.rulebook.specs.laws.TestLaws.{and-left, and-right, or-cases, all-at, any-at}
+use Rattle.rulebook.specs.laws.TestLaws.{and-left, and-right, or-cases, all-at, any-some}
 use Rattle.rulebook.specs.laws.RowWordLaws.{Usable, figure-word, flag-inside}
 use Rattle.rulebook.specs.laws.LayoutLaws.{row-inside}
 use Rattle.rulebook.specs.laws.WalkLaws.{walk-day}
@@ -43,7 +43,7 @@ pub fit-words : (s : Section) (f : ℕ → ℤ) → T (rowFits s f)
 unfolding rowFits rowBlank rowCounts
 fit-words s f t = or-cases (rowBlank s f) (any (suc (mostCount s)) (rowCounts s f)) t
     (λ x. inl (all-at (width s) (λ j. isZero (f j)) x))
-    (λ x. let c = any-at (suc (mostCount s)) (rowCounts s f) x in
+    (λ x. let c = any-some (suc (mostCount s)) (rowCounts s f) x in
     inr (c .0, c .1, all-at (width s) (λ j. wordFits s (c .0) (wordName s j) (f j)) (and-right (leb (leastCount s) (c .0)) (all (width s) (λ j. wordFits s (c .0) (wordName s j) (f j))) (c .2))))
 
 -- a row that fits has its figures in range

@@ -46,7 +46,8 @@ kind-turn Meter c i k = ap (λ (x : ℕ). cond (eqb x 0) Price Injection) (even-
 kind-turn Residual c i k = let f : (i * 4 + k) % 4 ≡ k % 4 = omega arith in ap (λ (x : ℕ). cond (ltb x 2) Quantity Price) f
 kind-turn Ncc c i k = refl
 
-account-below : (n : ℕ) (sec : Section) (s : List ℕ) (at : ℕ) → 1 ≤ n → accountAt sec s at ≤ n - 1 → accountAt sec s at < accountsOf sec n
+-- an accepted account is one of its section's
+pub account-below : (n : ℕ) (sec : Section) (s : List ℕ) (at : ℕ) → 1 ≤ n → accountAt sec s at ≤ n - 1 → accountAt sec s at < accountsOf sec n
 unfolding num
 account-below n Vesting s at h l = omega arith
 account-below n Meter s at h l = omega arith

@@ -23,6 +23,7 @@ use Rattle.rulebook.specs.Judging.{require, _andThen_, upTo, openFrom, l
 use Rattle.rulebook.specs.NamedRows.{NamedRow}
 use Rattle.rulebook.specs.Proper.{sameKey}
 use Rattle.rulebook.specs.FileTable.{Field, EndOfFile, rowOf, headingFields, intervalFields, rowFields, sectionFields, fieldsOf}
+use Rattle.rulebook.specs.laws.TestLaws.{any-same}
 use Rattle.rulebook.specs.laws.SoundLaws.{kind-turn}
 use Rattle.rulebook.specs.laws.ListLaws.{map-tabulate}
 use Rattle.rulebook.specs.laws.VerdictLaws.{then-assoc, then-accepted, then-same, up-cong, up-front, up-rows, field-cut}
@@ -41,12 +42,12 @@ module _ (o : Terms) (C : ℕ) (s : List ℕ) where
 
   verdicts-table : (n : ℕ) (f : ℕ → Field) → verdicts o C s (tabulate n f) ≡ upTo n (λ i. verdictAt o C s (f i))
   unfolding tabulate verdicts
-  verdicts-table zero f = unfold upTo in refl
+  verdicts-table zero f = unfold fold in refl
   verdicts-table (suc n) f = ap (λ x. verdictAt o C s (f 0) andThen x) (verdicts-table n (λ k. f (suc k))) ∙ sym (up-front n (λ i. verdictAt o C s (f i)))
 
   verdicts-parts : (f : ℕ → List Field) (n : ℕ) (g : ℕ → ℕ) → verdicts o C s (flatMap f (tabulate n g)) ≡ upTo n (λ i. verdicts o C s (f (g i)))
   unfolding flatMap tabulate
-  verdicts-parts f zero g = unfold verdicts upTo in refl
+  verdicts-parts f zero g = unfold verdicts fold in refl
   verdicts-parts f (suc n) g =
       verdicts-append (f (g 0)) _ ∙ ap (λ x. verdicts o C s (f (g 0)) andThen x) (verdicts-parts f n (λ k. g (suc k))) ∙ sym (up-front n (λ i. verdicts o C s (f (g i))))
 
@@ -72,9 +73,8 @@ module _ (o : Terms) (C : ℕ) (s : List ℕ) where
 
   given-any : (sec : Section) (at i k : ℕ) → given sec s (at + 2) i (accountAt sec s (rowPos sec s (at + 2) k)) (dayAt sec s (rowPos sec s (at + 2) k))
       ≡ any i (λ j. sameKey (rowOf sec s at j) (rowOf sec s at k))
-  unfolding given fold
-  given-any sec at zero k = refl
-  given-any sec at (suc i) k = rw (given-any sec at i k, same-self sec)
+  unfolding given
+  given-any sec at i k = any-same i _ _ (λ j l. rw (same-self sec))
 
   -- a field of no bytes adds nothing
   no-field : (high : ℕ) (why : Why) (p : ℕ) (y : Verdict) → (length s < p → y ≡ Refused NotWhole p) → fieldIn 0 0 high why s p andThen y ≡ y

@@ -1,15 +1,18 @@
 -- A test over the numbers below n, and the statement that it decides. Assumes nothing.
-use mathlib.Core.Path.{_≡_, refl, sym, subst}
+use mathlib.Core.Path.{_≡_, refl, sym}
 use mathlib.Core.Logic.{_⊎_, inl, inr}
 use mathlib.Core.Bool.{Bool, true, false, cond, _&&_, _||_, not}
 use Prim.Native.Nat.{ℕ, zero, suc, _≤_, _<_}
-use native.Mathlib.Nat.{not-suc-le-zero, le-suc-iff}
+use native.Mathlib.Nat.{le-suc-iff}
 use native.Mathlib.Omega.{arith}
 use borrow.Author.Tests.{le-ltb}
 use lib.IntN.{pos}
 use lib.Dec.{T, leb, ltb, le→leb}
 use Rattle.integer.specs.Below.{fold, all, any}
+use Rattle.integer.specs.laws.BelowLaws.{fold-cong, fold-each, and-true, all-of}
+use Rattle.integer.specs.laws.CountLaws.{any-at}
 use Rattle.rulebook.specs.Units.{between}
+pub use Rattle.integer.specs.laws.IntegerLaws.{T-path}
 
 -- below n + 1: below n, or n
 pub below-suc : {i n : ℕ} → i < suc n → (i < n) ⊎ (i ≡ n)
@@ -20,10 +23,6 @@ below-suc {i} {n} h = go (le-suc-iff .0 h)
     go (inr x) = inr (omega arith)
 
 -- ---- One test
-
-pub T-path : (b : Bool) → T b → b ≡ true
-T-path true t = refl
-T-path false t = absurd t
 
 pub and-left : (a b : Bool) → T (a && b) → T a
 and-left true b t = tt
@@ -67,18 +66,10 @@ tests-same false false f g = refl
 -- ---- Tests over the numbers below n
 
 pub all-yes : (n : ℕ) (p : ℕ → Bool) → ((i : ℕ) → i < n → T (p i)) → T (all n p)
-unfolding fold
-all-yes zero p h = tt
-all-yes (suc n) p h = and-both (all n p) (p n) (all-yes n p (λ i x. h i (omega arith))) (h n (omega arith))
+all-yes n p h = rw (all-of n p (λ i l. T-path (p i) (h i l))) tt
 
 pub any-yes : (n : ℕ) (p : ℕ → Bool) (i : ℕ) → i < n → T (p i) → T (any n p)
-unfolding fold
-any-yes zero p i h t = absurd (not-suc-le-zero h)
-any-yes (suc n) p i h t = go (λ x. any-yes n p i x t) (below-suc h)
-  where
-    go : (i < n → T (any n p)) → (i < n) ⊎ (i ≡ n) → T (any n p || p n)
-    go ih (inl x) = or-left (any n p) (p n) (ih x)
-    go ih (inr x) = or-right (any n p) (p n) (subst (λ (y : ℕ). T (p y)) x t)
+any-yes n p i h t = rw (any-at n p i h (T-path (p i) t)) tt
 
 pub not-ltb : (m n : ℕ) → n ≤ m → T (not (ltb m n))
 not-ltb m n h = rw (le-ltb m n h) tt
@@ -92,25 +83,15 @@ cond-yes true a b f g = f tt
 cond-yes false a b f g = g tt
 
 pub all-same : (n : ℕ) (p q : ℕ → Bool) → ((i : ℕ) → i < n → p i ≡ q i) → all n p ≡ all n q
-unfolding fold
-all-same zero p q h = refl
-all-same (suc n) p q h = rw (all-same n p q (λ i x. h i (omega arith)), h n (omega arith))
+all-same = fold-cong _&&_ true
 
 pub any-same : (n : ℕ) (p q : ℕ → Bool) → ((i : ℕ) → i < n → p i ≡ q i) → any n p ≡ any n q
-unfolding fold
-any-same zero p q h = refl
-any-same (suc n) p q h = rw (any-same n p q (λ i x. h i (omega arith)), h n (omega arith))
+any-same = fold-cong _||_ false
 
 pub all-at : (n : ℕ) (p : ℕ → Bool) → T (all n p) → (i : ℕ) → i < n → T (p i)
-unfolding fold
-all-at zero p t i h = absurd (not-suc-le-zero h)
-all-at (suc n) p t i h = go (λ x. all-at n p (and-left (all n p) (p n) t) i x) (below-suc h)
-  where
-    go : (i < n → T (p i)) → (i < n) ⊎ (i ≡ n) → T (p i)
-    go ih (inl x) = ih x
-    go ih (inr x) = subst (λ (y : ℕ). T (p y)) (sym x) (and-right (all n p) (p n) t)
+all-at n p t i h = rw (fold-each _&&_ true and-true n p (T-path (all n p) t) i h) tt
 
-pub any-at : (n : ℕ) (p : ℕ → Bool) → T (any n p) → (i : ℕ) × (i < n) × T (p i)
+pub any-some : (n : ℕ) (p : ℕ → Bool) → T (any n p) → (i : ℕ) × (i < n) × T (p i)
 unfolding fold
-any-at zero p t = absurd t
-any-at (suc n) p t = or-cases (any n p) (p n) t (λ x. let y = any-at n p x in (y .0, omega (arith, y .1), y .2)) (λ x. (n, omega arith, x))
+any-some zero p t = absurd t
+any-some (suc n) p t = or-cases (any n p) (p n) t (λ x. let y = any-some n p x in (y .0, omega (arith, y .1), y .2)) (λ x. (n, omega arith, x))

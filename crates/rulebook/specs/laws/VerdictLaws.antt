@@ -6,6 +6,8 @@ use native.Mathlib.Nat.{suc-mul}
 use native.Mathlib.Omega.{arith}
 use borrow.Author.Tests.{le-leb, lt-leb}
 use lib.ListN.{length}
+use Rattle.integer.specs.Below.{fold}
+use Rattle.integer.specs.laws.BelowLaws.{fold-cong, fold-unit}
 use Rattle.rulebook.specs.declared.Why.{Why}
 use Rattle.rulebook.specs.declared.Why.the-variants.{NotWhole}
 use Rattle.rulebook.specs.declared.Verdict.{Verdict}
@@ -31,29 +33,25 @@ then-same (Refused w p) y z h = refl
 -- ---- upTo
 
 pub up-all : (n : ℕ) (f : ℕ → Verdict) → ((i : ℕ) → i < n → f i ≡ Accepted) → upTo n f ≡ Accepted
-unfolding upTo
-up-all zero f h = refl
-up-all (suc n) f h = rw (up-all n f (λ i l. h i (omega arith)), h n (omega arith))
+up-all = fold-unit _andThen_ Accepted refl
 
 pub up-cong : (n : ℕ) (f g : ℕ → Verdict) → ((i : ℕ) → i < n → f i ≡ g i) → upTo n f ≡ upTo n g
-unfolding upTo
-up-cong zero f g h = refl
-up-cong (suc n) f g h = rw (up-cong n f g (λ i l. h i (omega arith)), h n (omega arith))
+up-cong = fold-cong _andThen_ Accepted
 
 -- the first of n checks first
 pub up-front : (n : ℕ) (f : ℕ → Verdict) → upTo (suc n) f ≡ f 0 andThen upTo n (λ i. f (suc i))
-unfolding upTo
+unfolding fold
 up-front zero f = sym (then-accepted (f 0))
 up-front (suc n) f = ap (λ x. x andThen f (suc n)) (up-front n f) ∙ then-assoc (f 0) _ _
 
 up-add : (n m : ℕ) (f : ℕ → Verdict) → upTo (n + m) f ≡ upTo n f andThen upTo m (λ i. f (n + i))
-unfolding upTo
+unfolding fold
 up-add n zero f = let z : n + 0 ≡ n = omega arith in rw z (sym (then-accepted (upTo n f)))
 up-add n (suc m) f = let z : n + suc m ≡ suc (n + m) = omega arith in rw (z, up-add n m f) (then-assoc (upTo n f) _ _)
 
 -- m times w checks
 pub up-rows : (m w : ℕ) (f : ℕ → Verdict) → upTo (m * w) f ≡ upTo m (λ h. upTo w (λ i. f (h * w + i)))
-unfolding upTo
+unfolding fold
 up-rows zero w f = let z : 0 * w ≡ 0 = omega arith in rw z
 up-rows (suc m) w f = rw (suc-mul m w, up-add (m * w) w f, up-rows m w f)
 

@@ -14,7 +14,7 @@ use Rattle.rulebook.specs.Units.{lastDay}
 use Rattle.rulebook.specs.Layout.{ring, slot, windowFrom, windowDays, InWindow}
 use Rattle.rulebook.specs.WellFormed.{slotBlank, datedFits, dayFits, isDated, daysFit}
 use Rattle.rulebook.specs.WindowWalk.{windowSlot, windowSlotFits, windowPlace}
-use Rattle.rulebook.specs.laws.TestLaws.{and-left, and-right, and-both, or-left, or-right, or-cases, nor-left, nor-right, cond-yes, all-yes, any-yes, all-at, any-at, tests-same}
+use Rattle.rulebook.specs.laws.TestLaws.{and-left, and-right, and-both, or-left, or-right, or-cases, nor-left, nor-right, cond-yes, all-yes, any-yes, all-at, any-some, tests-same}
 use Rattle.rulebook.specs.laws.RingLaws.{turn-inside, turned, places-apart, place-slot, place-day, placeOf, day-place}
 
 -- ---- One place
@@ -98,7 +98,7 @@ module _ (o : Terms) (w : List ℤ) (k : ℕ) (p : 1 ≤ o .horizon) where
     undated : (u : ℕ) → u < ring o → ((d : ℕ) → InWindow o k d → d ≤ lastDay → placeOf o k d ≡ u → ⊥) → T (slotBlank o w (windowSlot o k u))
     unfolding isDated
     undated u h none = or-cases (isDated o (o .first + k) (windowSlot o k u)) (slotBlank o w (windowSlot o k u)) (each-slot (windowSlot o k u) slot-inside)
-        (λ x. let i = any-at (windowDays o (o .first + k)) (λ i. eqb (slot o (windowFrom o (o .first + k) + i)) (windowSlot o k u)) x in
+        (λ x. let i = any-some (windowDays o (o .first + k)) (λ i. eqb (slot o (windowFrom o (o .first + k) + i)) (windowSlot o k u)) x in
         absurd (shared (i .0) (i .1) (eqb→eq (slot o (windowFrom o (o .first + k) + i .0)) (windowSlot o k u) (i .2)))) (λ x. x)
       where
         slot-inside : windowSlot o k u < ring o

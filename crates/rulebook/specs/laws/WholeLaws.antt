@@ -9,6 +9,7 @@ use native.Mathlib.Omega.{arith}
 use borrow.Author.Tests.{lt-ltb, le-ltb}
 use lib.ListN.{length, getD, drop, drop-of-length-le}
 use lib.Seq.{drop-cons}
+use Rattle.integer.specs.Integer.{twosComplement}
 use Rattle.integer.specs.Below.{tabulate}
 use Rattle.integer.specs.laws.BelowLaws.{lt-or-le, length-tabulate}
 use Rattle.integer.specs.laws.WordsLaws.{row-fits}
@@ -61,7 +62,7 @@ byte-at (b ∷ s) e zero = e .0
 byte-at (b ∷ s) e (suc k) = byte-at s (e .1) k
 
 twos-signed : (n : ℕ) → n < 4294967296 → twos (signed32 n) ≡ n
-unfolding twos signed32
+unfolding twos twosComplement
 twos-signed n h =
     ⊎-elim (λ l. rw (lt-ltb n 2147483648 l))
     (λ l. rw (le-ltb n 2147483648 l, lt-ltb n 4294967296 h) (omega arith))

@@ -16,7 +16,7 @@ use Rattle.rulebook.specs.Layout.{ring, slot, windowFrom, windowDays, In
 use Rattle.rulebook.specs.WellFormed.{slotBlank, dayFits, isDated, daysFit}
 use Rattle.rulebook.specs.FormedBook.{WindowDay, SlotDay, ofDay, ofNone}
 use Rattle.rulebook.specs.WindowWalk.{windowPlace}
-use Rattle.rulebook.specs.laws.TestLaws.{and-left, and-right, and-both, or-left, or-right, or-cases, all-yes, any-yes, all-at, any-at}
+use Rattle.rulebook.specs.laws.TestLaws.{and-left, and-right, and-both, or-left, or-right, or-cases, all-yes, any-yes, all-at, any-some}
 use Rattle.rulebook.specs.laws.LayoutLaws.{days-apart}
 use Rattle.rulebook.specs.laws.RingLaws.{turn-inside, turned, places-apart, place-slot, place-day, placeOf, day-place}
 
@@ -80,7 +80,7 @@ module _ (o : Terms) (w : List ℤ) (C : ℕ) where
         let e : windowFrom o C + (d - windowFrom o C) ≡ d = omega (arith, h .from) in
         subst (λ (y : ℕ). T (dayFits o w C y)) e (all-at (windowDays o C) (λ i. dayFits o w C (windowFrom o C + i)) (and-left (all (windowDays o C) (λ i. dayFits o w C (windowFrom o C + i))) (all (ring o) (λ v. isDated o C v || slotBlank o w v)) t) (d - windowFrom o C) (omega (arith, h .from, h .to)));
     others = λ v h none. or-cases (isDated o C v) (slotBlank o w v) (all-at (ring o) (λ v. isDated o C v || slotBlank o w v) (and-right (all (windowDays o C) (λ i. dayFits o w C (windowFrom o C + i))) (all (ring o) (λ v. isDated o C v || slotBlank o w v)) t) v h)
-        (λ x. let i = any-at (windowDays o C) (λ i. eqb (slot o (windowFrom o C + i)) v) x in
+        (λ x. let i = any-some (windowDays o C) (λ i. eqb (slot o (windowFrom o C + i)) v) x in
         absurd (none (windowFrom o C + i .0) (record { from = omega arith; to = omega (arith, i .1) }) (eqb→eq (slot o (windowFrom o C + i .0)) v (i .2)))) (λ x. x);
   }
 

@@ -1,12 +1,10 @@
 -- The table that is lent to the judge serves, an accepted file's rows may be stored, and what is answered and left then is the promise. Assumes nothing.
-use mathlib.Core.Path.{_≡_, refl, sym, ap, _∙_}
+use mathlib.Core.Path.{_≡_, sym, ap, _∙_}
 use mathlib.Core.Bool.{false}
 use mathlib.Core.List.{List}
-use Prim.Native.Nat.{ℕ, zero, suc, _+_, _*_, _≤_, _<_}
+use Prim.Native.Nat.{ℕ, _+_, _≤_}
 use native.Mathlib.Omega.{arith}
-use lib.Dec.{T}
 use lib.IntN.{ℤ}
-use lib.ListN.{length}
 use Rattle.rulebook.specs.declared.Section.{Section}
 use Rattle.rulebook.specs.declared.Section.the-variants.{Vesting, Meter, Residual, Ncc}
 use Rattle.rulebook.specs.declared.Terms.{Terms}
@@ -14,12 +12,12 @@ use Rattle.rulebook.specs.declared.Why.{Why}
 use Rattle.rulebook.specs.declared.Verdict.the-variants.{Accepted, Refused}
 use Rattle.rulebook.specs.declared.SubmitAnswer.the-variants.{Taken, IllFormed, FileRefused}
 use Rattle.rulebook.specs.Terms.{InTerms}
-use Rattle.rulebook.specs.Sections.{accountsOf}
 use Rattle.rulebook.specs.BookData.{termsOf, nextDay}
 use Rattle.rulebook.specs.WellFormed.{wellFormed}
-use Rattle.rulebook.specs.File.{num, accountAt, rowPos, fileRows}
+use Rattle.rulebook.specs.File.{rowPos, fileRows}
 use Rattle.rulebook.specs.Judging.{openFrom, limitsOf, judgedSection, judged}
 use Rattle.rulebook.specs.laws.JudgingLaws.{Fine, section-start, section-row, sections}
+use Rattle.rulebook.specs.laws.SoundLaws.{account-below}
 use Rattle.rulebook.specs.laws.PositionLaws.{row-end}
 use Rattle.rulebook.specs.Submit.{rowsStored, submitted}
 use Rattle.rulebook.specs.Promises.{SubmitPromise}
@@ -42,13 +40,6 @@ marks-enough o C h = record { some = h .accountsFrom; few = h .accountsTo; room 
 
 -- ---- An accepted file
 
-account-below : (n : ℕ) (sec : Section) (s : List ℕ) (at : ℕ) → 1 ≤ n → accountAt sec s at < n → accountAt sec s at < accountsOf sec n
-unfolding num
-account-below n Vesting s at h l = l
-account-below n Meter s at h l = l
-account-below n Residual s at h l = l
-account-below n Ncc s at h l = omega arith
-
 module _ (o : Terms) (C : ℕ) (some : 1 ≤ o .accounts) (begun : o .first ≤ C) where
   -- no section's open days begin before the book's first
   open-late : (sec : Section) → o .first ≤ openFrom (limitsOf o C) sec
@@ -59,7 +50,7 @@ module _ (o : Terms) (C : ℕ) (some : 1 ≤ o .accounts) (begun : o .first ≤ 
 
   row-fits : (sec : Section) (s : List ℕ) (at : ℕ) → Fine (limitsOf o C) sec s at → RowFits o sec s at
   row-fits sec s at h = record {
-    account = account-below (o .accounts) sec s at some (omega (arith, h .named .account .to));
+    account = account-below (o .accounts) sec s at some (h .named .account .to);
     day = omega (arith, open-late sec, h .named .day .from);
     count = h .count .to;
     whole = row-end (limitsOf o C) sec s at h;

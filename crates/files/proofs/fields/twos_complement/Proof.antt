@@ -9,6 +9,7 @@ use lib.IntN.{pos, _-ℤ_}
 use mir.Syntax.{w64}
 use mir.Val.{toZ}
 use mir.Facts.{toZ-pos, toZ-ofZ}
+use Rattle.integer.specs.Integer.{twosComplement}
 use Rattle.integer.specs.laws.BelowLaws.{lt-or-le}
 use Rattle.rulebook.specs.File.{signed32}
 use Rattle.files.specs.laws.ValuesLaws.{signed32-range}
@@ -19,14 +20,14 @@ read : (n : ℕ) → toZ w64 ((n + 2147483648) % 4294967296) ≡ pos ((n + 21474
 read n = toZ-pos w64 (omega arith)
 
 below : (n : ℕ) → n < 2147483648 → pos ((n + 2147483648) % 4294967296) -ℤ pos 2147483648 ≡ signed32 n
-unfolding signed32
+unfolding twosComplement
 below n l =
     let e : (n + 2147483648) % 4294967296 ≡ n + 2147483648 = omega arith in
     let d : n + 2147483648 - 2147483648 ≡ n = omega arith in
     rw (e, le-ltb (n + 2147483648) 2147483648 (omega arith), lt-ltb n 2147483648 l, d)
 
 above : (n : ℕ) → n < 4294967296 → 2147483648 ≤ n → pos ((n + 2147483648) % 4294967296) -ℤ pos 2147483648 ≡ signed32 n
-unfolding signed32
+unfolding twosComplement
 above n h l =
     let e : (n + 2147483648) % 4294967296 ≡ n - 2147483648 = omega arith in
     let d : 2147483648 - suc (n - 2147483648) ≡ 4294967296 - suc n = omega arith in

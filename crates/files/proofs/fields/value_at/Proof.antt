@@ -2,7 +2,7 @@
 use borrow.Author.Needs.{needs}
 use Rattle.integer.specs.Bits.{got}
 use Rattle.rulebook.specs.File.{valueAt}
-use Rattle.files.specs.laws.ValuesLaws.{num-four}
+use Rattle.rulebook.specs.laws.FileLaws.{num-four}
 use Rattle.files.proofs.fields.value_at.Statement.{statement}
 use Rattle.files.proofs.fields.value_at.Tie as tie
 
