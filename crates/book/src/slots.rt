@@ -13,9 +13,9 @@ ghost use Rattle.rulebook.specs.Units.{intervals, lastDay};
 ghost use Rattle.rulebook.specs.Shares.{mostAccounts};
 ghost use Rattle.rulebook.specs.Layout.{intervalLength, slotLength, ring};
 ghost use Rattle.rulebook.specs.Terms.{InTerms};
-ghost use Rattle.rulebook.specs.WindowWalk.{windowPlace};
+ghost use Rattle.rulebook.specs.WindowWalk.{windowPlace, placeDated};
 ghost use Rattle.book.specs.Parts.{intervalsFit, slotFits};
-ghost use Rattle.book.specs.Slots.{isDay, slotsFit};
+ghost use Rattle.book.specs.Slots.{slotsFit};
 
 // A day's 48 intervals.
 fn intervals_fit(slot: &[i64], n: usize, closed: bool) -> bool
@@ -54,9 +54,9 @@ fn window_place(terms: Terms, closes: usize, v: usize) -> usize
 }
 
 // The place is of a day from F to 36,524.
-fn is_day(terms: Terms, closes: usize, place: usize) -> bool
+fn place_dated(terms: Terms, closes: usize, place: usize) -> bool
     requires { ⌜ InTerms terms × (closes ≤ lastDay) × (place < ring terms) ⌝ }
-    ensures { λ r. ⌜ r ≡ isDay terms closes place ⌝ }
+    ensures { λ r. ⌜ r ≡ placeDated terms closes place ⌝ }
 {
     let at = closes + place;
     if at < terms.lag {
@@ -82,7 +82,7 @@ pub fn slots_fit(slots: &[i64], terms: Terms, closes: usize) -> bool
             & slot_fits(
                 &slots[i..e],
                 n,
-                is_day(terms, closes, place),
+                place_dated(terms, closes, place),
                 place < terms.lag,
             );
     }

@@ -1,8 +1,7 @@
 -- The slots as they lie are the days of the window: each slot has one place in the window, and each place one slot. Assumes nothing.
 use mathlib.Core.Path.{_≡_, refl, sym, _∙_, subst}
-use mathlib.Core.Bool.{Bool, true, false, cond, not, _||_}
 use mathlib.Core.List.{List}
-use Prim.Native.Nat.{ℕ, zero, _+_, _-_, _*_, _≤_, _<_}
+use Prim.Native.Nat.{ℕ, _+_, _*_, _≤_, _<_}
 use native.Mathlib.Nat.{mod-lt, mul-assoc, mul-comm}
 use native.Mathlib.Omega.{arith}
 use lib.Dec.{T, ltb}
@@ -12,21 +11,17 @@ use Rattle.integer.specs.Below.{all}
 use Rattle.integer.specs.Words.{word, part}
 use Rattle.integer.specs.laws.WordsLaws.{row-fits, length-part}
 use Rattle.rulebook.specs.declared.Terms.{Terms}
-use Rattle.rulebook.specs.Units.{lastDay, intervals}
+use Rattle.rulebook.specs.Units.{intervals}
 use Rattle.rulebook.specs.Layout.{balanceWord, intervalLength, slotLength, intervalSize, ring, base, size}
 use Rattle.rulebook.specs.laws.TestLaws.{all-same, all-yes, all-at, tests-same}
-use Rattle.rulebook.specs.WindowWalk.{windowSlot, windowSlotFits, windowPlace}
-use Rattle.rulebook.specs.laws.RingLaws.{turn-inside, turned, places-apart}
+use Rattle.rulebook.specs.WindowWalk.{windowSlot, windowPlace, placeDated, windowSlotFits}
+use Rattle.rulebook.specs.laws.RingLaws.{ring-some, turn-inside, turned, places-apart}
 use Rattle.rulebook.specs.laws.WalkLaws.{days-are-places}
-use Rattle.rulebook.specs.WellFormed.{slotBlank, datedFits, daysFit}
+use Rattle.rulebook.specs.WellFormed.{daysFit}
 use Rattle.book.specs.Parts.{slotFits}
-use Rattle.book.specs.Slots.{isDay, slotsFit}
+use Rattle.book.specs.Slots.{slotsFit}
 use Rattle.book.specs.laws.LoopLaws.{word-part}
 use Rattle.book.specs.laws.SlotLaws.{slot-is}
-
-cond-not : {A : Type 0} (b : Bool) (x y : A) → cond (not b) x y ≡ cond b y x
-cond-not true x y = refl
-cond-not false x y = refl
 
 -- the slots lie from base on to the size
 pub base-is : (o : Terms) → base o ≡ balanceWord (o .accounts)
@@ -38,22 +33,18 @@ unfolding size base intervalSize
 size-by-slots o = rw (mul-comm intervals (ring o), mul-assoc (ring o) intervals (intervalLength (o .accounts)))
 
 module _ (o : Terms) (w : List ℤ) (k : ℕ) (p : 1 ≤ o .horizon) where
-  ring-some : zero < ring o
-  unfolding ring
-  ring-some = omega arith
-
   -- place by place is slot by slot
   slots-are-places : all (ring o) (windowSlotFits o w k) ≡ all (ring o) (λ v. windowSlotFits o w k (windowPlace o k v))
   slots-are-places = tests-same _ _
-      (λ t. all-yes (ring o) (λ v. windowSlotFits o w k (windowPlace o k v)) (λ v h. all-at (ring o) (windowSlotFits o w k) t (windowPlace o k v) (turn-inside o ring-some k v)))
+      (λ t. all-yes (ring o) (λ v. windowSlotFits o w k (windowPlace o k v)) (λ v h. all-at (ring o) (windowSlotFits o w k) t (windowPlace o k v) (turn-inside o (ring-some o p) k v)))
       (λ t. all-yes (ring o) (windowSlotFits o w k) (λ u h.
       subst (λ (x : ℕ). T (windowSlotFits o w k x)) (back u h) (all-at (ring o) (λ v. windowSlotFits o w k (windowPlace o k v)) t (windowSlot o k u) (slot-inside u))))
     where
       slot-inside : (u : ℕ) → windowSlot o k u < ring o
-      slot-inside u = unfold windowSlot in mod-lt _ ring-some
+      slot-inside u = unfold windowSlot in mod-lt _ (ring-some o p)
 
       back : (u : ℕ) → u < ring o → windowPlace o k (windowSlot o k u) ≡ u
-      back u h = places-apart o ring-some k (windowPlace o k (windowSlot o k u)) u (turn-inside o ring-some k (windowSlot o k u)) h (turned o ring-some k (windowSlot o k u) (slot-inside u))
+      back u h = places-apart o (ring-some o p) k (windowPlace o k (windowSlot o k u)) u (turn-inside o (ring-some o p) k (windowSlot o k u)) h (turned o (ring-some o p) k (windowSlot o k u) (slot-inside u))
 
   module _ (l : size o ≤ length w) where
     abbrev slots : List ℤ
@@ -72,12 +63,10 @@ module _ (o : Terms) (w : List ℤ) (k : ℕ) (p : 1 ≤ o .horizon) where
         length-part slots (v * slotLength (o .accounts)) (slotLength (o .accounts)) (omega (arith, row-fits v (ring o) (slotLength (o .accounts)) hv))
 
     slot-at : (v : ℕ) → v < ring o
-        → slotFits (o .accounts) (isDay o k (windowPlace o k v)) (ltb (windowPlace o k v) (o .lag)) (part slots (v * slotLength (o .accounts)) (slotLength (o .accounts))) ≡ windowSlotFits o w k (windowPlace o k v)
-    unfolding isDay windowSlotFits
-    slot-at v hv = rw (turned o ring-some k v hv)
-        (slot-is o w v (part slots (v * slotLength (o .accounts)) (slotLength (o .accounts))) (slot-words v hv) (slot-long v hv) (isDay o k (windowPlace o k v)) (ltb (windowPlace o k v) (o .lag))
-        ∙ cond-not (ltb (k + windowPlace o k v) (o .lag) || ltb lastDay (o .first + (k + windowPlace o k v - o .lag)))
-        (datedFits o w (ltb (windowPlace o k v) (o .lag)) v) (slotBlank o w v))
+        → slotFits (o .accounts) (placeDated o k (windowPlace o k v)) (ltb (windowPlace o k v) (o .lag)) (part slots (v * slotLength (o .accounts)) (slotLength (o .accounts))) ≡ windowSlotFits o w k (windowPlace o k v)
+    unfolding windowSlotFits
+    slot-at v hv = rw (turned o (ring-some o p) k v hv)
+        (slot-is o w v (part slots (v * slotLength (o .accounts)) (slotLength (o .accounts))) (slot-words v hv) (slot-long v hv) (placeDated o k (windowPlace o k v)) (ltb (windowPlace o k v) (o .lag)))
 
     -- the slots of the book fit exactly if its days do
     pub slots-are-days : slotsFit o k slots ≡ daysFit o w (o .first + k)

@@ -1,13 +1,13 @@
 -- A book that holds a fitting ledger is well formed. Assumes nothing.
 use mathlib.Core.Path.{_≡_, refl, ap, _∙_}
-use mathlib.Core.Bool.{_||_, not}
+use mathlib.Core.Logic.{⊎-elim}
+use mathlib.Core.Bool.{not}
 use mathlib.Core.List.{List}
 use Prim.Native.Nat.{ℕ, zero, suc, _+_, _-_, _*_, _≤_, _<_}
 use native.Mathlib.Nat.{mod-lt, add-sub-cancel-left, one-mul}
 use native.Mathlib.Omega.{arith}
-use native.Mathlib.Decide.{decLe}
 use lib.IntN.{ℤ, pos, natAbs}
-use lib.Dec.{T, ltb, le→leb, ltb→lt, nltb→le}
+use lib.Dec.{T, ltb, le→leb, ltb→lt}
 use lib.ListN.{length}
 use Rattle.integer.specs.Below.{all}
 use Rattle.integer.specs.Words.{word}
@@ -20,18 +20,17 @@ use Rattle.rulebook.specs.Sections.{accountsOf}
 use Rattle.rulebook.specs.Layout.{width, place, intervalLength, intervalSize, ring, size, slot, intervalWord, rowWord, intervalTable, accountTable, intervalWords, accountWords, accountPlace, flagIndex, msslWord, markWord, accountsWord, lagWord, horizonWord, firstDayWord, nextDayWord, balanceWord, balancePadding, headerPadding, headerPaddingWords, balancePaddingWords, InWindow}
 use Rattle.rulebook.specs.BookData.{termsOf, nextDay}
 use Rattle.rulebook.specs.WellFormed.{isZero, rowFits, paddingZero, rowsThere, accountFits, nccFits, intervalFits, intervalBlank, intervalAt, slotBlank, datedFits, balanceWordsFit, balanceFits, headerFits, fits, wellFormed, dayBound}
-use Rattle.rulebook.specs.WindowWalk.{windowSlot, windowSlotFits}
+use Rattle.rulebook.specs.WindowWalk.{windowSlot, placeDated, windowSlotFits}
 use Rattle.rulebook.specs.Ledger.{Ledger, HoldsLedger, Padding, ofInterval, ofAccount}
-use Rattle.rulebook.specs.laws.TestLaws.{all-yes, between-yes, cond-yes, and-both, or-cases, nor-left}
+use Rattle.rulebook.specs.laws.TestLaws.{all-yes, between-yes, cond-yes, and-both}
 use Rattle.rulebook.specs.laws.RowWordLaws.{flag-inside}
-use Rattle.rulebook.specs.laws.RingLaws.{place-slot, place-day}
-use Rattle.rulebook.specs.laws.WalkLaws.{walk-days}
+use Rattle.rulebook.specs.laws.RingLaws.{ring-some, place-slot, place-day}
+use Rattle.rulebook.specs.laws.WalkLaws.{dated-says, undated-says, walk-days}
 use Rattle.rulebook.specs.laws.CoverLaws.{Cover, ofRow, ofPadding, cover}
 use Rattle.rulebook.specs.laws.FitsLaws.{row-same, padding-yes, account-yes, interval-yes}
 
 pub ring-pos : (o : Terms) → InTerms o → zero < ring o
-unfolding ring
-ring-pos o t = omega arith
+ring-pos o t = ring-some o (t .horizonFrom)
 
 pub zero-yes : {z : ℤ} → z ≡ pos 0 → T (isZero z)
 zero-yes e = rw e tt
@@ -117,15 +116,9 @@ module _ (o : Terms) (t : InTerms o) (b : Ledger) (w : List ℤ) (h : HoldsLedge
 
   window-fits : (u : ℕ) → u < ring o → T (windowSlotFits o w k u)
   unfolding windowSlotFits intervalSize day
-  window-fits u hu = cond-yes (ltb (k + u) (o .lag) || ltb lastDay (o .first + (k + u - o .lag))) (slotBlank o w (windowSlot o k u)) (datedFits o w (ltb u (o .lag)) (windowSlot o k u)) blank
-      (λ x. dated-fits u hu (nltb→le (k + u) (o .lag) (nor-left (ltb (k + u) (o .lag)) (ltb lastDay (o .first + (k + u - o .lag))) x)))
-    where
-      outside : T (ltb lastDay (o .first + (k + u - o .lag))) → Dec (o .lag ≤ k + u) → T (slotBlank o w (windowSlot o k u))
-      outside x (yes y) = blank-yes u (λ i m hi hm. past-blank u hu y (ltb→lt _ _ x) i m hi hm)
-      outside x (no y) = blank-yes u (λ i m hi hm. h .early u i m (omega arith) hi hm)
-
-      blank : T (ltb (k + u) (o .lag) || ltb lastDay (o .first + (k + u - o .lag))) → T (slotBlank o w (windowSlot o k u))
-      blank x = or-cases (ltb (k + u) (o .lag)) (ltb lastDay (o .first + (k + u - o .lag))) x (λ y. blank-yes u (λ i m hi hm. h .early u i m (ltb→lt (k + u) (o .lag) y) hi hm)) (λ y. outside y (decLe (o .lag) (k + u)))
+  window-fits u hu = cond-yes (placeDated o k u) (datedFits o w (ltb u (o .lag)) (windowSlot o k u)) (slotBlank o w (windowSlot o k u))
+      (λ x. dated-fits u hu (dated-says o k u x .0))
+      (λ x. ⊎-elim (λ y. blank-yes u (λ i m hi hm. h .early u i m y hi hm)) (λ y. blank-yes u (λ i m hi hm. past-blank u hu (y .0) (y .1) i m hi hm)) (undated-says o k u x))
 
   header-fits : T (headerFits w)
   unfolding headerFits

@@ -1,6 +1,6 @@
 -- A well-formed book, any that is lent, holds the ledger that its words tell: the facts that a close's arithmetic needs. Assumes nothing.
 use mathlib.Core.Path.{_≡_, refl, sym, ap, _∙_, subst}
-use mathlib.Core.Bool.{Bool, true, false, cond, _||_}
+use mathlib.Core.Bool.{Bool, true, false, cond}
 use mathlib.Core.List.{List}
 use Prim.Native.Nat.{ℕ, zero, _+_, _-_, _*_, _≤_, _<_}
 use native.Mathlib.Nat.{one-mul, add-sub-of-le}
@@ -19,7 +19,7 @@ use Rattle.rulebook.specs.Sections.{accountsOf}
 use Rattle.rulebook.specs.Layout.{width, place, ring, size, intervalLength, intervalSize, slot, intervalWord, rowWord, markWord, accountsWord, lagWord, horizonWord, firstDayWord, nextDayWord, msslWord, balanceWord, balancePadding, headerPadding, headerPaddingWords, balancePaddingWords, InWindow}
 use Rattle.rulebook.specs.BookData.{termsOf, nextDay, entriesOf}
 use Rattle.rulebook.specs.WellFormed.{isZero, rowFits, intervalFits, intervalBlank, intervalAt, slotBlank, datedFits, balanceWordsFit, balanceFits, headerFits, fits, wellFormed, dayBound, daysFit}
-use Rattle.rulebook.specs.WindowWalk.{windowSlot, windowSlotFits, windowPlace}
+use Rattle.rulebook.specs.WindowWalk.{windowSlot, windowPlace, placeDated, windowSlotFits}
 use Rattle.rulebook.specs.Ledger.{Padding, HoldsLedger, ledgerOf}
 use Rattle.rulebook.specs.laws.TestLaws.{and-left, and-right, all-at}
 use Rattle.rulebook.specs.laws.RingLaws.{turned, turn-inside}
@@ -138,12 +138,12 @@ module _ (o : Terms) (w : List ℤ) (k : ℕ) (t : T (all (ring o) (windowSlotFi
   padding-at : (v i m : ℕ) → v < ring o → i < 48 → Padding (o .accounts) m → word w (intervalWord o v i m) ≡ pos 0
   unfolding windowSlotFits datedFits
   padding-at v i m hv hi hm = subst (λ (y : ℕ). word w (intervalWord o y i m) ≡ pos 0) (turned o p k v hv)
-      (go (ltb (k + windowPlace o k v) (o .lag) || ltb lastDay (o .first + (k + windowPlace o k v - o .lag))) (slot-test (windowPlace o k v) (turn-inside o p k v)))
+      (go (placeDated o k (windowPlace o k v)) (slot-test (windowPlace o k v) (turn-inside o p k v)))
     where
-      go : (a : Bool) → T (cond a (slotBlank o w (windowSlot o k (windowPlace o k v))) (datedFits o w (ltb (windowPlace o k v) (o .lag)) (windowSlot o k (windowPlace o k v))))
+      go : (a : Bool) → T (cond a (datedFits o w (ltb (windowPlace o k v) (o .lag)) (windowSlot o k (windowPlace o k v))) (slotBlank o w (windowSlot o k (windowPlace o k v))))
           → word w (intervalWord o (windowSlot o k (windowPlace o k v)) i m) ≡ pos 0
-      go true x = blank-at o w (windowSlot o k (windowPlace o k v)) i m hi (padding-fits o m hm) x
-      go false x = is-zero (intervalAt o w (windowSlot o k (windowPlace o k v)) i m) (interval-padding (o .accounts) (ltb (windowPlace o k v) (o .lag)) (intervalAt o w (windowSlot o k (windowPlace o k v)) i)
+      go false x = blank-at o w (windowSlot o k (windowPlace o k v)) i m hi (padding-fits o m hm) x
+      go true x = is-zero (intervalAt o w (windowSlot o k (windowPlace o k v)) i m) (interval-padding (o .accounts) (ltb (windowPlace o k v) (o .lag)) (intervalAt o w (windowSlot o k (windowPlace o k v)) i)
           (all-at 48 (λ i. intervalFits (o .accounts) (ltb (windowPlace o k v) (o .lag)) (intervalAt o w (windowSlot o k (windowPlace o k v)) i)) x i hi) m hm)
 
 module _ (w : List ℤ) (t : T (wellFormed w)) where

@@ -8,6 +8,10 @@ use Rattle.rulebook.specs.Layout.{ring, slot, InWindow}
 use Rattle.rulebook.specs.WindowWalk.{windowSlot, windowPlace}
 use Rattle.rulebook.specs.laws.LayoutLaws.{window-apart}
 
+pub ring-some : (o : Terms) → 1 ≤ o .horizon → zero < ring o
+unfolding ring
+ring-some o h = omega arith
+
 module _ (o : Terms) where
   module _ (p : zero < ring o) (k : ℕ) where
     pub turn-inside : (v : ℕ) → windowPlace o k v < ring o

@@ -7,7 +7,7 @@ use native.Mathlib.Nat.{le-suc-iff}
 use native.Mathlib.Omega.{arith}
 use borrow.Author.Tests.{le-ltb}
 use lib.IntN.{pos}
-use lib.Dec.{T, leb, ltb, le→leb}
+use lib.Dec.{T, leb, ltb, le→leb, leb→le, nltb→le}
 use Rattle.integer.specs.Below.{fold, all, any}
 use Rattle.integer.specs.laws.BelowLaws.{fold-cong, fold-each, and-true, all-of}
 use Rattle.integer.specs.laws.CountLaws.{any-at}
@@ -49,14 +49,6 @@ pub or-cases : {X : Type 0} (a b : Bool) → T (a || b) → (T a → X) → (T b
 or-cases true b t f g = f tt
 or-cases false b t f g = g t
 
-pub nor-left : (a b : Bool) → T (not (a || b)) → T (not a)
-nor-left true b t = t
-nor-left false b t = tt
-
-pub nor-right : (a b : Bool) → T (not (a || b)) → T (not b)
-nor-right true b t = absurd t
-nor-right false b t = t
-
 -- two tests that pass alike are one
 pub tests-same : (a b : Bool) → (T a → T b) → (T b → T a) → a ≡ b
 tests-same true b f g = sym (T-path b (f tt))
@@ -73,6 +65,9 @@ any-yes n p i h t = rw (any-at n p i h (T-path (p i) t)) tt
 
 pub not-ltb : (m n : ℕ) → n ≤ m → T (not (ltb m n))
 not-ltb m n h = rw (le-ltb m n h) tt
+
+pub not-ltb-is : (m n : ℕ) → not (ltb m n) ≡ leb n m
+not-ltb-is m n = tests-same (not (ltb m n)) (leb n m) (λ t. le→leb n m (nltb→le m n t)) (λ t. not-ltb m n (leb→le n m t))
 
 pub between-yes : (a b n : ℕ) → a ≤ n → n ≤ b → T (between (pos a) (pos b) (pos n))
 between-yes a b n h k = and-both (leb a n) (leb n b) (le→leb a n h) (le→leb n b k)

@@ -1,41 +1,64 @@
 -- Well formed by days is well formed place by place: each day of the window has its place, and a place of no day a slot of no day. Assumes nothing.
 use mathlib.Core.Path.{_≡_, refl, sym, _∙_, subst}
-use mathlib.Core.Bool.{Bool, true, false, cond, not, _||_}
+use mathlib.Core.Logic.{_⊎_, inl, inr, ⊎-elim}
+use mathlib.Core.Bool.{Bool, true, false, cond, not, _||_, and-false}
 use mathlib.Core.List.{List}
-use Prim.Native.Nat.{ℕ, zero, _+_, _-_, _≤_, _<_}
+use Prim.Native.Nat.{ℕ, _+_, _-_, _≤_, _<_}
 use native.Mathlib.Nat.{mod-lt}
 use native.Mathlib.Omega.{arith}
-use borrow.Author.Tests.{lt-ltb, le-ltb}
-use lib.Dec.{T, ltb, eqb, ltb→lt, nltb→le, lt→ltb, eqb→eq, eqb-refl}
+use borrow.Author.Tests.{le-leb, lt-leb}
+use lib.Dec.{T, leb, ltb, eqb, leb→le, ltb→lt, lt→ltb, eqb→eq, eqb-refl}
 use lib.IntN.{ℤ}
 use Rattle.integer.specs.Below.{all}
+use Rattle.integer.specs.laws.BelowLaws.{lt-or-le}
 use Rattle.rulebook.specs.declared.Terms.{Terms}
 use Rattle.rulebook.specs.Units.{lastDay}
 use Rattle.rulebook.specs.Layout.{ring, slot, windowFrom, windowDays, InWindow}
 use Rattle.rulebook.specs.WellFormed.{slotBlank, datedFits, dayFits, isDated, daysFit}
-use Rattle.rulebook.specs.WindowWalk.{windowSlot, windowSlotFits, windowPlace}
-use Rattle.rulebook.specs.laws.TestLaws.{and-left, and-right, and-both, or-left, or-right, or-cases, nor-left, nor-right, cond-yes, all-yes, any-yes, all-at, any-some, tests-same}
-use Rattle.rulebook.specs.laws.RingLaws.{turn-inside, turned, places-apart, place-slot, place-day, placeOf, day-place}
+use Rattle.rulebook.specs.WindowWalk.{windowSlot, windowPlace, placeDated, windowSlotFits}
+use Rattle.rulebook.specs.laws.TestLaws.{and-left, and-right, and-both, or-left, or-right, or-cases, cond-yes, all-yes, any-yes, all-at, any-some, tests-same}
+use Rattle.rulebook.specs.laws.RingLaws.{ring-some, turn-inside, turned, places-apart, place-slot, place-day, placeOf, day-place}
 
 -- ---- One place
 
+-- of a day; of none, before F or past the last
+module _ (o : Terms) (k u : ℕ) where
+  pub place-dated : o .lag ≤ k + u → o .first + (k + u - o .lag) ≤ lastDay → placeDated o k u ≡ true
+  unfolding placeDated
+  place-dated h l = rw (le-leb (o .lag) (k + u) h, le-leb (o .first + (k + u - o .lag)) lastDay l)
+
+  pub place-early : k + u < o .lag → placeDated o k u ≡ false
+  unfolding placeDated
+  place-early h = rw (lt-leb (o .lag) (k + u) h)
+
+  pub place-late : lastDay < o .first + (k + u - o .lag) → placeDated o k u ≡ false
+  unfolding placeDated
+  place-late h = rw (lt-leb (o .first + (k + u - o .lag)) lastDay h) (and-false (leb (o .lag) (k + u)))
+
+  pub dated-says : T (placeDated o k u) → (o .lag ≤ k + u) × (o .first + (k + u - o .lag) ≤ lastDay)
+  unfolding placeDated
+  dated-says t = (
+    leb→le (o .lag) (k + u) (and-left (leb (o .lag) (k + u)) (leb (o .first + (k + u - o .lag)) lastDay) t),
+    leb→le (o .first + (k + u - o .lag)) lastDay (and-right (leb (o .lag) (k + u)) (leb (o .first + (k + u - o .lag)) lastDay) t),
+  )
+
+  pub undated-says : T (not (placeDated o k u)) → (k + u < o .lag) ⊎ ((o .lag ≤ k + u) × (lastDay < o .first + (k + u - o .lag)))
+  undated-says t = ⊎-elim inl
+      (λ h. ⊎-elim (λ l. inr (h, l)) (λ l. absurd (subst (λ (b : Bool). T (not b)) (place-dated h l) t)) (lt-or-le lastDay (o .first + (k + u - o .lag))))
+      (lt-or-le (k + u) (o .lag))
+
 module _ (o : Terms) (w : List ℤ) (k u : ℕ) where
-  -- of no day: before F, past the last; of a day
   pub early-place : k + u < o .lag → T (windowSlotFits o w k u) → T (slotBlank o w (windowSlot o k u))
   unfolding windowSlotFits
-  early-place h t = rw (lt-ltb (k + u) (o .lag) h) at t
+  early-place h t = rw (place-early o k u h) at t
 
   late-place : lastDay < o .first + (k + u - o .lag) → T (windowSlotFits o w k u) → T (slotBlank o w (windowSlot o k u))
   unfolding windowSlotFits
-  late-place h t = go (ltb (k + u) (o .lag)) (rw (lt-ltb lastDay (o .first + (k + u - o .lag)) h) at t)
-    where
-      go : (b : Bool) → T (cond (b || true) (slotBlank o w (windowSlot o k u)) (datedFits o w (ltb u (o .lag)) (windowSlot o k u))) → T (slotBlank o w (windowSlot o k u))
-      go true x = x
-      go false x = x
+  late-place h t = rw (place-late o k u h) at t
 
   dated-place : o .lag ≤ k + u → o .first + (k + u - o .lag) ≤ lastDay → T (windowSlotFits o w k u) → T (datedFits o w (ltb u (o .lag)) (windowSlot o k u))
   unfolding windowSlotFits
-  dated-place h l t = rw (le-ltb (k + u) (o .lag) h, le-ltb lastDay (o .first + (k + u - o .lag)) l) at t
+  dated-place h l t = rw (place-dated o k u h l) at t
 
   -- a day fits exactly if its place does
   day-is-place : (d : ℕ) → windowSlot o k u ≡ slot o d → (u < o .lag → d < o .first + k) → (d < o .first + k → u < o .lag)
@@ -60,10 +83,6 @@ module _ (o : Terms) (w : List ℤ) (k : ℕ) (t : T (all (ring o) (windowSlotFi
   walk-undated l = let z = day-place o k d hd in subst (λ (v : ℕ). T (slotBlank o w v)) (z .slot-is) (late-place o w k (placeOf o k d) (rw (z .back) l) place-test)
 
 module _ (o : Terms) (w : List ℤ) (k : ℕ) (p : 1 ≤ o .horizon) where
-  ring-some : zero < ring o
-  unfolding ring
-  ring-some = omega arith
-
   -- day i of the window
   window-day : (i : ℕ) → i < windowDays o (o .first + k) → InWindow o k (windowFrom o (o .first + k) + i)
   window-day i h = omega arith
@@ -102,26 +121,23 @@ module _ (o : Terms) (w : List ℤ) (k : ℕ) (p : 1 ≤ o .horizon) where
         absurd (shared (i .0) (i .1) (eqb→eq (slot o (windowFrom o (o .first + k) + i .0)) (windowSlot o k u) (i .2)))) (λ x. x)
       where
         slot-inside : windowSlot o k u < ring o
-        slot-inside = unfold windowSlot in mod-lt _ ring-some
+        slot-inside = unfold windowSlot in mod-lt _ (ring-some o p)
 
         shared : (i : ℕ) → i < windowDays o (o .first + k) → slot o (windowFrom o (o .first + k) + i) ≡ windowSlot o k u → ⊥
         shared i hi e =
             let d : ℕ = windowFrom o (o .first + k) + i in
             let z = day-place o k (windowFrom o (o .first + k) + i) (window-day i hi) in
-            none d (window-day i hi) (window-dated i hi) (places-apart o ring-some k (placeOf o k d) u (z .inside) h (z .slot-is ∙ e))
+            none d (window-day i hi) (window-dated i hi) (places-apart o (ring-some o p) k (placeOf o k d) u (z .inside) h (z .slot-is ∙ e))
 
     place-fits : (u : ℕ) → u < ring o → T (windowSlotFits o w k u)
     unfolding windowSlotFits placeOf
-    place-fits u h = cond-yes (ltb (k + u) (o .lag) || ltb lastDay (o .first + (k + u - o .lag))) (slotBlank o w (windowSlot o k u)) (datedFits o w (ltb u (o .lag)) (windowSlot o k u))
-        (λ x. or-cases (ltb (k + u) (o .lag)) (ltb lastDay (o .first + (k + u - o .lag))) x
-        (λ y. let e = ltb→lt (k + u) (o .lag) y in undated u h (λ d z l q. omega arith))
-        (λ y. let e = ltb→lt lastDay (o .first + (k + u - o .lag)) y in undated u h (λ d z l q. omega arith)))
-        (λ x. let a = nltb→le (k + u) (o .lag) (nor-left (ltb (k + u) (o .lag)) (ltb lastDay (o .first + (k + u - o .lag))) x) in
-        let b = nltb→le lastDay (o .first + (k + u - o .lag)) (nor-right (ltb (k + u) (o .lag)) (ltb lastDay (o .first + (k + u - o .lag))) x) in
+    place-fits u h = cond-yes (placeDated o k u) (datedFits o w (ltb u (o .lag)) (windowSlot o k u)) (slotBlank o w (windowSlot o k u))
+        (λ x. let a = dated-says o k u x .0 in
         let z = place-day o k u h a in
         let d : ℕ = o .first + (k + u - o .lag) in
         subst T (day-is-place o w k u d (place-slot o k u h a) (λ y. omega arith) (λ y. omega arith))
-        (subst (λ (d : ℕ). T (dayFits o w (o .first + k) d)) (index-day d z) (each-day (indexOf d) (index-inside d z b))))
+        (subst (λ (d : ℕ). T (dayFits o w (o .first + k) d)) (index-day d z) (each-day (indexOf d) (index-inside d z (dated-says o k u x .1)))))
+        (λ x. ⊎-elim (λ y. undated u h (λ d z l q. omega arith)) (λ y. undated u h (λ d z l q. omega arith)) (undated-says o k u x))
 
   pub days-walk : T (daysFit o w (o .first + k)) → T (all (ring o) (windowSlotFits o w k))
   days-walk t = all-yes (ring o) (windowSlotFits o w k) (place-fits t)
@@ -131,14 +147,11 @@ module _ (o : Terms) (w : List ℤ) (k : ℕ) (p : 1 ≤ o .horizon) where
   module _ (t : T (all (ring o) (windowSlotFits o w k))) where
     slot-fits : (v : ℕ) → v < ring o → T (isDated o (o .first + k) v || slotBlank o w v)
     unfolding windowSlotFits isDated
-    slot-fits v h = subst (λ (x : ℕ). T (isDated o (o .first + k) x || slotBlank o w x)) (turned o ring-some k v h)
-        (go (ltb (k + u) (o .lag) || ltb lastDay (o .first + (k + u - o .lag))) refl (all-at (ring o) (windowSlotFits o w k) t u (turn-inside o ring-some k v)))
+    slot-fits v h = subst (λ (x : ℕ). T (isDated o (o .first + k) x || slotBlank o w x)) (turned o (ring-some o p) k v h)
+        (go (placeDated o k (windowPlace o k v)) refl (all-at (ring o) (windowSlotFits o w k) t (windowPlace o k v) inside))
       where
-        u : ℕ
-        u = windowPlace o k v
-
         inside : windowPlace o k v < ring o
-        inside = turn-inside o ring-some k v
+        inside = turn-inside o (ring-some o p) k v
 
         dated : o .lag ≤ k + windowPlace o k v → o .first + (k + windowPlace o k v - o .lag) ≤ lastDay → T (isDated o (o .first + k) (windowSlot o k (windowPlace o k v)))
         dated a b =
@@ -148,15 +161,12 @@ module _ (o : Terms) (w : List ℤ) (k : ℕ) (p : 1 ≤ o .horizon) where
             (subst (λ (y : ℕ). T (eqb (slot o y) (windowSlot o k (windowPlace o k v)))) (sym (index-day d z))
             (subst (λ (y : ℕ). T (eqb y (windowSlot o k (windowPlace o k v)))) (place-slot o k (windowPlace o k v) inside a) (eqb-refl (windowSlot o k (windowPlace o k v)))))
 
-        go : (b : Bool) → (ltb (k + windowPlace o k v) (o .lag) || ltb lastDay (o .first + (k + windowPlace o k v - o .lag))) ≡ b
-            → T (cond b (slotBlank o w (windowSlot o k (windowPlace o k v))) (datedFits o w (ltb (windowPlace o k v) (o .lag)) (windowSlot o k (windowPlace o k v))))
+        go : (b : Bool) → placeDated o k (windowPlace o k v) ≡ b
+            → T (cond b (datedFits o w (ltb (windowPlace o k v) (o .lag)) (windowSlot o k (windowPlace o k v))) (slotBlank o w (windowSlot o k (windowPlace o k v))))
             → T (isDated o (o .first + k) (windowSlot o k (windowPlace o k v)) || slotBlank o w (windowSlot o k (windowPlace o k v)))
-        go true e x = or-right (isDated o (o .first + k) (windowSlot o k (windowPlace o k v))) _ x
-        go false e x =
-            let n : T (not (ltb (k + windowPlace o k v) (o .lag) || ltb lastDay (o .first + (k + windowPlace o k v - o .lag)))) = subst (λ (b : Bool). T (not b)) (sym e) tt in
-            or-left (isDated o (o .first + k) (windowSlot o k (windowPlace o k v))) (slotBlank o w (windowSlot o k (windowPlace o k v))) (dated
-            (nltb→le (k + windowPlace o k v) (o .lag) (nor-left (ltb (k + windowPlace o k v) (o .lag)) (ltb lastDay (o .first + (k + windowPlace o k v - o .lag))) n))
-            (nltb→le lastDay (o .first + (k + windowPlace o k v - o .lag)) (nor-right (ltb (k + windowPlace o k v) (o .lag)) (ltb lastDay (o .first + (k + windowPlace o k v - o .lag))) n)))
+        go true e x = let n = dated-says o k (windowPlace o k v) (subst T (sym e) tt) in
+            or-left (isDated o (o .first + k) (windowSlot o k (windowPlace o k v))) (slotBlank o w (windowSlot o k (windowPlace o k v))) (dated (n .0) (n .1))
+        go false e x = or-right (isDated o (o .first + k) (windowSlot o k (windowPlace o k v))) _ x
 
     pub walk-days : T (daysFit o w (o .first + k))
     unfolding daysFit

@@ -3,7 +3,7 @@ use mathlib.Core.Path.{_≡_, sym, _∙_, subst}
 use mathlib.Core.Logic.{_⊎_, inl, inr}
 use mathlib.Core.Bool.{true, false, _||_}
 use mathlib.Core.List.{List}
-use Prim.Native.Nat.{ℕ, zero, _+_, _-_, _≤_, _<_}
+use Prim.Native.Nat.{ℕ, _+_, _-_, _≤_, _<_}
 use native.Mathlib.Omega.{arith}
 use native.Mathlib.Decide.{decLe}
 use lib.Dec.{T, eqb, eqb→eq, eqb-refl}
@@ -18,15 +18,11 @@ use Rattle.rulebook.specs.FormedBook.{WindowDay, SlotDay, ofDay, ofNone}
 use Rattle.rulebook.specs.WindowWalk.{windowPlace}
 use Rattle.rulebook.specs.laws.TestLaws.{and-left, and-right, and-both, or-left, or-right, or-cases, all-yes, any-yes, all-at, any-some}
 use Rattle.rulebook.specs.laws.LayoutLaws.{days-apart}
-use Rattle.rulebook.specs.laws.RingLaws.{turn-inside, turned, places-apart, place-slot, place-day, placeOf, day-place}
+use Rattle.rulebook.specs.laws.RingLaws.{ring-some, turn-inside, turned, places-apart, place-slot, place-day, placeOf, day-place}
 
 module _ (o : Terms) (C : ℕ) (horizon : 1 ≤ o .horizon) (begun : o .first ≤ C) where
   k : ℕ
   k = C - o .first
-
-  ring-some : zero < ring o
-  unfolding ring
-  ring-some = omega arith
 
   in-window : (d : ℕ) → WindowDay o C d → InWindow o k d
   unfolding k
@@ -46,18 +42,18 @@ module _ (o : Terms) (C : ℕ) (horizon : 1 ≤ o .horizon) (begun : o .first �
       u = windowPlace o k v
 
       inside : windowPlace o k v < ring o
-      inside = turn-inside o ring-some k v
+      inside = turn-inside o (ring-some o horizon) k v
 
       -- a day with this slot has this place
       same-place : (d′ : ℕ) → WindowDay o C d′ → slot o d′ ≡ v → placeOf o k d′ ≡ windowPlace o k v
       same-place d′ h′ e =
           let z = day-place o k d′ (in-window d′ h′) in
-          places-apart o ring-some k (placeOf o k d′) (windowPlace o k v) (z .inside) inside (z .slot-is ∙ e ∙ sym (turned o ring-some k v h))
+          places-apart o (ring-some o horizon) k (placeOf o k d′) (windowPlace o k v) (z .inside) inside (z .slot-is ∙ e ∙ sym (turned o (ring-some o horizon) k v h))
 
       go : Dec (o .lag ≤ k + windowPlace o k v) → Dec (o .first + (k + windowPlace o k v - o .lag) ≤ lastDay) → SlotDay o C v
       go (yes a) (yes b) =
           let w = window-day (o .first + (k + windowPlace o k v - o .lag)) (place-day o k (windowPlace o k v) inside a) b in
-          let s : slot o (o .first + (k + windowPlace o k v - o .lag)) ≡ v = sym (place-slot o k (windowPlace o k v) inside a) ∙ turned o ring-some k v h in
+          let s : slot o (o .first + (k + windowPlace o k v - o .lag)) ≡ v = sym (place-slot o k (windowPlace o k v) inside a) ∙ turned o (ring-some o horizon) k v h in
           ofDay (o .first + (k + windowPlace o k v - o .lag)) w s (λ d′ h′ e. window-days-apart d′ (o .first + (k + windowPlace o k v - o .lag)) h′ w (e ∙ sym s))
       go (no a) b = ofNone (λ d′ h′ e. let z = day-place o k d′ (in-window d′ h′) .late in a (omega (arith, same-place d′ h′ e)))
       go (yes a) (no b) = ofNone (λ d′ h′ e.

@@ -13,22 +13,22 @@ use Rattle.integer.specs.laws.WordsLaws.{row-fits, lent}
 use Rattle.integer.specs.Words.{part}
 use Rattle.rulebook.specs.Layout.{slotLength, ring}
 use Rattle.rulebook.specs.declared.Terms.{Terms}
-use Rattle.rulebook.specs.WindowWalk.{windowPlace}
+use Rattle.rulebook.specs.WindowWalk.{windowPlace, placeDated}
 use Rattle.book.specs.laws.LoopLaws.{all-step, length-lent}
 use Rattle.book.specs.Parts.{slotFits}
-use Rattle.book.specs.Slots.{isDay, slotsFit}
+use Rattle.book.specs.Slots.{slotsFit}
 use Rattle.book.proofs.slots.slots_fit.Statement.{statement}
 use Rattle.book.proofs.slots.slots_fit.Tie as tie
 
 -- what `slot_fits` answered, of the slot's place
-slot-told : (o : Terms) (k v p : ℕ) (u : Bool) {r : Bool} (xs : List ℤ) {ys : List ℤ} → r ≡ slotFits (o .accounts) u (ltb p (o .lag)) xs → u ≡ isDay o k p → p ≡ windowPlace o k v → xs ≡ ys
-    → r ≡ slotFits (o .accounts) (isDay o k (windowPlace o k v)) (ltb (windowPlace o k v) (o .lag)) ys
+slot-told : (o : Terms) (k v p : ℕ) (u : Bool) {r : Bool} (xs : List ℤ) {ys : List ℤ} → r ≡ slotFits (o .accounts) u (ltb p (o .lag)) xs → u ≡ placeDated o k p → p ≡ windowPlace o k v → xs ≡ ys
+    → r ≡ slotFits (o .accounts) (placeDated o k (windowPlace o k v)) (ltb (windowPlace o k v) (o .lag)) ys
 slot-told o k v p u xs e f g h = cc
 
 abbrev Inv-loop : tie.InvT-loop
 Inv-loop slots terms closes n r size ok₀ v₀ ok v =
     (n ≡ terms .accounts) × (r ≡ ring terms) × (size ≡ slotLength (terms .accounts)) × (v ≤ ring terms)
-    × (ok ≡ all v (λ v. slotFits (terms .accounts) (isDay terms closes (windowPlace terms closes v)) (ltb (windowPlace terms closes v) (terms .lag)) (part slots (v * slotLength (terms .accounts)) (slotLength (terms .accounts)))))
+    × (ok ≡ all v (λ v. slotFits (terms .accounts) (placeDated terms closes (windowPlace terms closes v)) (ltb (windowPlace terms closes v) (terms .lag)) (part slots (v * slotLength (terms .accounts)) (slotLength (terms .accounts)))))
 
 abbrev μ-loop : tie.MeasureT-loop
 μ-loop slots terms closes n r size ok₀ v₀ ok v = ring terms - v
@@ -73,8 +73,8 @@ part-slot-fits-start c = search needs
 part-slot-fits-end : tie.Need-part-slot-fits-end Inv-loop μ-loop
 part-slot-fits-end c = omega (arith, room (c .before .before .before) (c .before .before .loop .v) (omega arith))
 
-is-day-requires : tie.Need-is-day-requires Inv-loop μ-loop
-is-day-requires c κs = search needs
+place-dated-requires : tie.Need-place-dated-requires Inv-loop μ-loop
+place-dated-requires c κs = search needs
 
 slot-fits-requires : tie.Need-slot-fits-requires Inv-loop μ-loop
 slot-fits-requires c κs =
@@ -98,7 +98,7 @@ loop-again c =
     let a = s .before .before .args in
     let size = s .slot-length .result in
     let e = lent (a .slots .now) (l .v * size) size ∙ ap (λ (n : ℕ). part (a .slots .now) (l .v * n) n) (s .slot-length .ensures) in
-    (refl, refl, s .slot-length .ensures, omega arith, all-step (l .v) _ (l .inv .4) (slot-told (a .terms) (a .closes) (l .v) _ _ _ (c .slot-fits .ensures) (c .before .before .is-day .ensures) (c .before .before .before .before .window-place .ensures .0) e))
+    (refl, refl, s .slot-length .ensures, omega arith, all-step (l .v) _ (l .inv .4) (slot-told (a .terms) (a .closes) (l .v) _ _ _ (c .slot-fits .ensures) (c .before .before .place-dated .ensures) (c .before .before .before .before .window-place .ensures .0) e))
 
 returns : tie.Need-returns Inv-loop μ-loop
 unfolding slotsFit
@@ -120,7 +120,7 @@ slots-fit-spec =
     sub-slot-fits
     part-slot-fits-start
     part-slot-fits-end
-    is-day-requires
+    place-dated-requires
     slot-fits-requires
     add-v
     loop-less
