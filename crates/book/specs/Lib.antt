@@ -1,6 +1,5 @@
 pub mod Parts
 pub mod Slots
-pub mod Header
 pub mod Judged
 -- laws and proofs
 pub mod laws

@@ -8,19 +8,17 @@ use rulebook::layout::interval_length;
 use rulebook::units;
 ghost use mathlib.Core.Path.{_≡_};
 ghost use mathlib.Core.Bool.{true};
-ghost use Prim.Native.Nat.{suc, _+_, _≤_, _<_};
-ghost use lib.IntN.{pos};
+ghost use Prim.Native.Nat.{_+_, _≤_, _<_};
 ghost use lib.ListN.{length};
 ghost use Rattle.integer.specs.Integer.{positive, negative};
 ghost use Rattle.integer.specs.Words.{word};
 ghost use Rattle.integer.specs.Below.{all};
-ghost use Rattle.rulebook.specs.Units.{lastDay, between};
+ghost use Rattle.rulebook.specs.Units.{lastDay};
 ghost use Rattle.rulebook.specs.Shares.{mostAccounts};
-ghost use Rattle.rulebook.specs.Terms.{InTerms};
-ghost use Rattle.rulebook.specs.Layout.{size, headerWords, balanceWords, balanceWord, firstDayWord, nextDayWord, msslWord};
+ghost use Rattle.rulebook.specs.Terms.{termsFit, InTerms};
+ghost use Rattle.rulebook.specs.Layout.{size, headerWords, balanceWords, balanceWord, msslWord};
 ghost use Rattle.rulebook.specs.BookData.{termsOf, nextDay};
-ghost use Rattle.rulebook.specs.WellFormed.{headerFits, balanceFits, balanceWordsFit};
-ghost use Rattle.book.specs.Header.{termsWordsFit};
+ghost use Rattle.rulebook.specs.WellFormed.{nextDayFits, headerFits, balanceFits, balanceWordsFit};
 
 // Limits, as words.
 const BOOK_MARK: i64 = layout::BOOK_MARK as i64;
@@ -37,13 +35,12 @@ const LAST_DAY: i64 = units::LAST_DAY as i64;
 
 const FINISHED: i64 = LAST_DAY + 1;
 
-// Word 0 is 395; then N, L, H, F.
+// N, L, H, F, word by word.
 fn terms_words_fit(book: &[i64]) -> bool
     requires { ⌜ headerWords ≤ length (now book) ⌝ }
-    ensures { λ r. ⌜ r ≡ termsWordsFit (now (book .entry)) ⌝ }
+    ensures { λ r. ⌜ r ≡ termsFit (termsOf (now (book .entry))) ⌝ }
 {
-    between_at(book, layout::MARK, BOOK_MARK, BOOK_MARK)
-        & between_at(book, layout::ACCOUNTS, 1, MOST_ACCOUNTS)
+    between_at(book, layout::ACCOUNTS, 1, MOST_ACCOUNTS)
         & between_at(book, layout::LAG, 1, MOST_LAG)
         & between_at(book, layout::HORIZON, 1, MOST_HORIZON)
         & between_at(book, layout::FIRST_DAY, EARLIEST_FIRST_DAY, LAST_DAY)
@@ -52,7 +49,7 @@ fn terms_words_fit(book: &[i64]) -> bool
 // C is F to 36,525.
 fn next_day_fits(book: &[i64]) -> bool
     requires { ⌜ headerWords ≤ length (now book) ⌝ }
-    ensures { λ r. ⌜ r ≡ between (word (now (book .entry)) firstDayWord) (pos (suc lastDay)) (word (now (book .entry)) nextDayWord) ⌝ }
+    ensures { λ r. ⌜ r ≡ nextDayFits (now (book .entry)) ⌝ }
 {
     let first = book[layout::FIRST_DAY];
     let next = book[layout::NEXT_DAY];
@@ -64,7 +61,8 @@ pub fn header_fits(book: &[i64]) -> bool
     requires { ⌜ headerWords ≤ length (now book) ⌝ }
     ensures { λ r. ⌜ r ≡ headerFits (now (book .entry)) ⌝ }
 {
-    terms_words_fit(book)
+    between_at(book, layout::MARK, BOOK_MARK, BOOK_MARK)
+        & terms_words_fit(book)
         & next_day_fits(book)
         & is_blank(&book[layout::HEADER_SPARES..layout::HEADER_WORDS])
 }

@@ -9,12 +9,13 @@ use crate::slots::slots_fit;
 use rulebook::Terms;
 use rulebook::layout;
 ghost use mathlib.Core.Path.{_≡_};
-ghost use Prim.Native.Nat.{_≤_};
+ghost use Prim.Native.Nat.{_+_, _≤_};
 ghost use lib.ListN.{length};
 ghost use Rattle.rulebook.specs.Units.{lastDay};
 ghost use Rattle.rulebook.specs.Terms.{InTerms};
 ghost use Rattle.rulebook.specs.Layout.{size};
-ghost use Rattle.book.specs.Judged.{contentsFit, judgedBook};
+ghost use Rattle.rulebook.specs.WellFormed.{contentsFit};
+ghost use Rattle.book.specs.Judged.{judgedBook};
 
 // A well-formed book's terms and C, the next day to close.
 pub enum Judged {
@@ -25,7 +26,7 @@ pub enum Judged {
 // The balances and the slots, where the header fits and the words are no fewer than the size.
 fn contents_fit(book: &[i64], terms: Terms, closes: usize) -> bool
     requires { ⌜ InTerms terms × (closes ≤ lastDay) × (size terms ≤ length (now book)) ⌝ }
-    ensures { λ r. ⌜ r ≡ contentsFit terms (now (book .entry)) closes ⌝ }
+    ensures { λ r. ⌜ r ≡ contentsFit terms (now (book .entry)) (terms .first + closes) ⌝ }
 {
     let n = terms.accounts;
     let base = layout::HEADER_WORDS + layout::BALANCE_WORDS * n;

@@ -11,10 +11,9 @@ use Rattle.rulebook.specs.declared.Section.{Section}
 use Rattle.rulebook.specs.declared.Section.the-variants.{Vesting, Meter, Residual, Ncc}
 use Rattle.rulebook.specs.declared.Terms.{Terms}
 use Rattle.rulebook.specs.Units.{lastDay, intervals, between}
-use Rattle.rulebook.specs.Shares.{mostAccounts}
-use Rattle.rulebook.specs.Terms.{mostLag, mostHorizon, earliestFirstDay}
+use Rattle.rulebook.specs.Terms.{termsFit}
 use Rattle.rulebook.specs.Sections.{valueInRange, perInterval, leastCount, mostCount, figurePlace}
-use Rattle.rulebook.specs.Layout.{bookMark, markWord, accountsWord, lagWord, horizonWord, firstDayWord, nextDayWord, msslWord, balanceWord, headerPaddingWords, headerPadding, balancePaddingWords, balancePadding, Word, flag, figure, padding, isPadding, intervalTable, accountTable, accountPlace, present, width, wordName, tablePlace, flagAt, intervalLength, ring, size, intervalWord, slot, windowFrom, windowDays}
+use Rattle.rulebook.specs.Layout.{bookMark, markWord, firstDayWord, nextDayWord, msslWord, balanceWord, headerPaddingWords, headerPadding, balancePaddingWords, balancePadding, Word, flag, figure, padding, isPadding, intervalTable, accountTable, accountPlace, present, width, wordName, tablePlace, flagAt, intervalLength, ring, size, intervalWord, slot, windowFrom, windowDays}
 use Rattle.rulebook.specs.BookData.{termsOf, nextDay}
 
 -- a day's amount is at most so many cents, either way, and can be (`BoundReached`)
@@ -107,19 +106,22 @@ balanceFits n k z = leb (natAbs z) (n * (k * dayBound))
 unfoldable pub balanceWordsFit : List ℤ → ℕ → ℕ → Bool
 balanceWordsFit w k a = balanceFits 1 k (word w (balanceWord a)) && all balancePaddingWords (λ j. isZero (word w (balancePadding a j)))
 
--- 395, N, L, H, F, C from F to 36,525, zeros to word 63
+-- C from F to 36,525
+abbrev pub nextDayFits : List ℤ → Bool
+nextDayFits w = between (word w firstDayWord) (pos (suc lastDay)) (word w nextDayWord)
+
+-- 395; N, L, H, F in the ranges of an opening, which have no 0, as a word below zero is read; C; zeros to word 63
 unfoldable pub headerFits : List ℤ → Bool
-headerFits w = between (pos bookMark) (pos bookMark) (word w markWord)
-    && between (pos 1) (pos mostAccounts) (word w accountsWord) && between (pos 1) (pos mostLag) (word w lagWord) && between (pos 1) (pos mostHorizon) (word w horizonWord)
-    && between (pos earliestFirstDay) (pos lastDay) (word w firstDayWord) && between (word w firstDayWord) (pos (suc lastDay)) (word w nextDayWord)
-    && all headerPaddingWords (λ n. isZero (word w (headerPadding n)))
+headerFits w = between (pos bookMark) (pos bookMark) (word w markWord) && termsFit (termsOf w) && nextDayFits w && all headerPaddingWords (λ n. isZero (word w (headerPadding n)))
 
 -- ---- The book
 
--- with its terms, C the next day to close
+-- with its terms, C the next day to close: balances and days
+unfoldable pub contentsFit : Terms → List ℤ → ℕ → Bool
+contentsFit o w C = balanceFits (o .accounts) (C - o .first) (word w msslWord) && all (o .accounts) (balanceWordsFit w (C - o .first)) && daysFit o w C
+
 unfoldable pub fits : Terms → List ℤ → ℕ → Bool
-fits o w C = headerFits w && leb (size o) (length w) && balanceFits (o .accounts) (C - o .first) (word w msslWord)
-    && all (o .accounts) (balanceWordsFit w (C - o .first)) && daysFit o w C
+fits o w C = headerFits w && leb (size o) (length w) && contentsFit o w C
 
 unfoldable pub wellFormed : List ℤ → Bool
 wellFormed w = fits (termsOf w) w (nextDay w)

@@ -42,6 +42,7 @@ pub mod KeptLaws
 pub mod RangeLaws
 pub mod FigureLaws
 pub mod FitsLaws
+pub mod HeaderLaws
 pub mod FormLaws
 pub mod SlotLaws
 pub mod RowFlagLaws

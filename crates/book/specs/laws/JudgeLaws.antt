@@ -10,9 +10,9 @@ use lib.ListN.{length}
 use Rattle.rulebook.specs.declared.Terms.{Terms}
 use Rattle.rulebook.specs.Layout.{headerWords, balanceWord, base, size}
 use Rattle.rulebook.specs.BookData.{termsOf, nextDay}
-use Rattle.rulebook.specs.WellFormed.{headerFits, fits, wellFormed}
+use Rattle.rulebook.specs.WellFormed.{headerFits, contentsFit, fits, wellFormed}
 use Rattle.book.specs.declared.judge.Judged.the-variants.{IllFormed}
-use Rattle.book.specs.Judged.{judgedBook, contentsFit}
+use Rattle.book.specs.Judged.{judgedBook}
 
 pub header-inside : (o : Terms) → balanceWord (o .accounts) ≤ size o
 unfolding size base
@@ -33,8 +33,8 @@ module _ (w : List ℤ) where
 
   -- left to the balances and the days
   module _ (e : headerFits w ≡ true) (l : size (termsOf w) ≤ length w) (begun : termsOf w .first ≤ nextDay w) where
-    pub contents-left : wellFormed w ≡ contentsFit (termsOf w) w (nextDay w - termsOf w .first)
-    unfolding wellFormed fits contentsFit
+    pub contents-left : wellFormed w ≡ contentsFit (termsOf w) w (termsOf w .first + (nextDay w - termsOf w .first))
+    unfolding wellFormed fits
     contents-left =
         let d : termsOf w .first + (nextDay w - termsOf w .first) ≡ nextDay w = omega arith in
         rw (e, le-leb (size (termsOf w)) (length w) l, d)

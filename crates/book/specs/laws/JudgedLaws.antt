@@ -4,7 +4,7 @@ use mathlib.Core.Bool.{Bool, true, false, cond}
 use mathlib.Core.List.{List}
 use Prim.Native.Nat.{ℕ, suc, _≤_}
 use native.Mathlib.Omega.{arith}
-use lib.Dec.{T, leb→le}
+use lib.Dec.{T}
 use lib.IntN.{ℤ}
 use lib.ListN.{length}
 use Rattle.rulebook.specs.declared.Terms.{Terms}
@@ -12,9 +12,8 @@ use Rattle.rulebook.specs.Units.{lastDay}
 use Rattle.rulebook.specs.Terms.{InTerms}
 use Rattle.rulebook.specs.Layout.{size}
 use Rattle.rulebook.specs.BookData.{termsOf, nextDay}
-use Rattle.rulebook.specs.WellFormed.{fits, wellFormed}
-use Rattle.rulebook.specs.laws.TestLaws.{and-left, and-right}
-use Rattle.rulebook.specs.laws.FormedLaws.{all-fits, opened-of, next-of}
+use Rattle.rulebook.specs.WellFormed.{wellFormed}
+use Rattle.rulebook.specs.laws.FormedLaws.{formed-holds, opened-of, next-of}
 use Rattle.book.specs.declared.judge.Judged.the-variants.{WellFormed, IllFormed}
 use Rattle.book.specs.Judged.{judgedBook}
 
@@ -28,10 +27,6 @@ module _ (w : List ℤ) where
     pub begun : o .first ≤ C
     pub ended : C ≤ suc lastDay
     pub room : size o ≤ length w
-
-  long : T (wellFormed w) → size (termsOf w) ≤ length w
-  unfolding fits
-  long t = let x = all-fits w t in leb→le (size (termsOf w)) (length w) (search (and-left, and-right) depth 6)
 
   pub book-formed : (o : Terms) (C : ℕ) → judgedBook w ≡ WellFormed o C → Formed o C
   unfolding judgedBook
@@ -49,7 +44,7 @@ module _ (w : List ℤ) where
             inTerms = subst InTerms x (opened-of w t);
             begun = rw (← x, ← y) (next-of w t .1);
             ended = rw (← y) (next-of w t .2);
-            room = rw (← x) (long t);
+            room = rw (← x) (formed-holds w t .long);
           }
       go false f e = absurd (let z : _≡_ {A = ℕ} 0 1 = cc in omega arith)
 

@@ -19,7 +19,7 @@ use Rattle.rulebook.specs.Opening.{header, newBook, opened}
 use Rattle.rulebook.specs.Promises.{OpenPromise}
 use Rattle.rulebook.specs.laws.WordLaws.{length-stored}
 use Rattle.rulebook.specs.laws.StoreLaws.{stored-part}
-use Rattle.rulebook.specs.laws.StartLaws.{opened-terms}
+use Rattle.rulebook.specs.laws.HeaderLaws.{opened-terms}
 use Rattle.book.specs.laws.JudgeLaws.{header-inside}
 
 -- m words, and n more after them

@@ -13,8 +13,7 @@ use Rattle.rulebook.specs.declared.Kind.the-variants.{Quantity, Injection, Load
 use Rattle.rulebook.specs.declared.Section.the-variants.{Vesting, Meter, Residual, Ncc}
 use Rattle.rulebook.specs.Units.{between, inRange, positive}
 use Rattle.rulebook.specs.WellFormed.{isZero, rowFits}
-use Rattle.rulebook.specs.laws.TestLaws.{T-path, tests-same, or-left, all-same, all-yes}
-use Rattle.rulebook.specs.laws.SlotLaws.{is-zero}
+use Rattle.rulebook.specs.laws.TestLaws.{T-path, or-left, by-twos, tests-same, is-zero, all-same, all-yes}
 use Rattle.rulebook.specs.laws.RowFlagLaws.{rowFlagged, row-by-flag}
 use Rattle.book.specs.Parts.{rowPairs, pairsInRange, restZero, pairsFit}
 
@@ -84,9 +83,6 @@ four-pairs k l v f =
     all-same rowPairs _ _ (λ p h. one-pair k l v f p)
     ∙ all-and rowPairs (λ p. inRange k (f (1 + 2 * p)) && inRange l (f (2 + 2 * p))) (λ p. ltb p v || (isZero (f (1 + 2 * p)) && isZero (f (2 + 2 * p))))
 
-flat : (a b c d e f g h : Bool) → (a && b && c && d && e && f && g && h) ≡ ((a && b) && (c && d) && (e && f) && (g && h))
-flat a b c d e f g h = rw (← and-assoc (a && b) c d, ← and-assoc (a && b && c && d) e f, ← and-assoc (a && b && c && d && e && f) g h)
-
 -- the figures one by one, after a flag z
 abbrev figuresAs : Kind → Kind → ℕ → (ℕ → ℤ) → Bool
 figuresAs k l v f = fitsAs k (ltb 0 (2 * v)) (f 1) && fitsAs l (ltb 1 (2 * v)) (f 2) && fitsAs k (ltb 2 (2 * v)) (f 3) && fitsAs l (ltb 3 (2 * v)) (f 4)
@@ -94,7 +90,7 @@ figuresAs k l v f = fitsAs k (ltb 0 (2 * v)) (f 1) && fitsAs l (ltb 1 (2 * v)) (
 
 pairs-of : (k l : Kind) (v : ℕ) (f : ℕ → ℤ) → figuresAs k l v f ≡ all rowPairs (pairAs k l v f)
 unfolding fold
-pairs-of k l v f = flat (fitsAs k (ltb 0 (2 * v)) (f 1)) (fitsAs l (ltb 1 (2 * v)) (f 2)) (fitsAs k (ltb 2 (2 * v)) (f 3)) (fitsAs l (ltb 3 (2 * v)) (f 4))
+pairs-of k l v f = by-twos (fitsAs k (ltb 0 (2 * v)) (f 1)) (fitsAs l (ltb 1 (2 * v)) (f 2)) (fitsAs k (ltb 2 (2 * v)) (f 3)) (fitsAs l (ltb 3 (2 * v)) (f 4))
     (fitsAs k (ltb 4 (2 * v)) (f 5)) (fitsAs l (ltb 5 (2 * v)) (f 6)) (fitsAs k (ltb 6 (2 * v)) (f 7)) (fitsAs l (ltb 7 (2 * v)) (f 8))
 
 by-pairs : (k l : Kind) (f : ℕ → ℤ) (z : ℤ) → f 0 ≡ z → (between (pos 0) (pos rowPairs) (f 0) && figuresAs k l (positive (f 0)) f) ≡ pairsFit k l f

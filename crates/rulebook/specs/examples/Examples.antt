@@ -11,7 +11,7 @@ use Rattle.integer.specs.Below.{fold, tabulate}
 use Rattle.rulebook.specs.declared.Section.{Section}
 use Rattle.rulebook.specs.declared.Section.the-variants.{Vesting, Meter, Residual, Ncc}
 use Rattle.rulebook.specs.declared.Terms.{Terms}
-use Rattle.rulebook.specs.Terms.{InTerms}
+use Rattle.rulebook.specs.Terms.{termsFit, InTerms}
 use Rattle.rulebook.specs.Sections.{valueInRange}
 use Rattle.rulebook.specs.Layout.{base, balanceWord}
 use Rattle.rulebook.specs.WellFormed.{rowFits, rowBlank, rowCounts, headerFits, balanceFits, balanceWordsFit}
@@ -129,7 +129,7 @@ pub record Headers : Type 0 where
   pub paddingUsed : headed (pos 395) (pos 2) (pos 1) (pos 1) (pos 9497) (pos 9497) (pos 0 ∷ pos 1 ∷ []) ≡ false
 
 pub headers : Headers
-unfolding headerFits fold
+unfolding headerFits termsFit fold
 headers = record {
   fine = refl;
   wrongMark = refl;

@@ -16,12 +16,10 @@ use Rattle.rulebook.specs.Layout.{accountTable, intervalTable, accountPl
 use Rattle.rulebook.specs.WellFormed.{isZero, rowFits, paddingZero, rowOf, rowsThere, accountFits, nccFits, intervalFits, intervalBlank, slotBlank, datedFits, dayFits}
 use Rattle.rulebook.specs.FormedBook.{IntervalFormed, slotWord, DayFormed, DaysFormed}
 use Rattle.rulebook.specs.Ledger.{Padding, ofInterval, ofAccount}
-use Rattle.rulebook.specs.laws.TestLaws.{and-both, all-yes, all-at}
+use Rattle.rulebook.specs.laws.TestLaws.{and-both, all-yes, all-at, is-zero, zero-yes}
 use Rattle.rulebook.specs.laws.WindowLaws.{DaysFit}
 use Rattle.rulebook.specs.laws.IndexLaws.{place-run}
 use Rattle.rulebook.specs.laws.FitsLaws.{row-same, account-yes, interval-yes, interval-own, interval-padding, interval-row, interval-there}
-use Rattle.rulebook.specs.laws.SlotLaws.{is-zero}
-use Rattle.rulebook.specs.laws.FormLaws.{zero-yes}
 use Rattle.rulebook.specs.laws.RowFormedLaws.{vesting-says, meter-says, says-vesting, says-meter, residual-says, says-residual, ncc-says, says-ncc}
 
 not-not : (b : Bool) → T (not b) → T b → ⊥

@@ -20,7 +20,8 @@ use Rattle.rulebook.specs.Demand3.{Demand3, Demand3Holds, Demand3OnCalls
 use Rattle.rulebook.specs.Ledger.{State}
 use Rattle.rulebook.specs.laws.StateLaws.{submit-step}
 use Rattle.rulebook.specs.laws.CloseStateLaws.{close-step}
-use Rattle.rulebook.specs.laws.StartLaws.{opened-terms, new-state, accepted-opening}
+use Rattle.rulebook.specs.laws.HeaderLaws.{opened-terms}
+use Rattle.rulebook.specs.laws.StartLaws.{new-state, accepted-opening}
 use Rattle.rulebook.specs.laws.RunLaws.{run-of}
 
 -- a call that keeps its promise keeps the state

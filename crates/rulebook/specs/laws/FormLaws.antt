@@ -1,39 +1,35 @@
 -- A book that holds a fitting ledger is well formed. Assumes nothing.
-use mathlib.Core.Path.{_≡_, refl, ap, _∙_}
+use mathlib.Core.Path.{_≡_, _∙_}
 use mathlib.Core.Logic.{⊎-elim}
 use mathlib.Core.Bool.{not}
 use mathlib.Core.List.{List}
 use Prim.Native.Nat.{ℕ, zero, suc, _+_, _-_, _*_, _≤_, _<_}
-use native.Mathlib.Nat.{mod-lt, add-sub-cancel-left, one-mul}
+use native.Mathlib.Nat.{mod-lt, add-sub-cancel-left}
 use native.Mathlib.Omega.{arith}
 use lib.IntN.{ℤ, pos, natAbs}
-use lib.Dec.{T, ltb, le→leb, ltb→lt}
-use lib.ListN.{length}
-use Rattle.integer.specs.Below.{all}
+use lib.Dec.{T, ltb, ltb→lt}
 use Rattle.integer.specs.Words.{word}
 use Rattle.rulebook.specs.declared.Section.{Section}
 use Rattle.rulebook.specs.declared.Section.the-variants.{Vesting, Meter, Residual, Ncc}
 use Rattle.rulebook.specs.declared.Terms.{Terms}
-use Rattle.rulebook.specs.Units.{lastDay, between, positive}
+use Rattle.rulebook.specs.Units.{lastDay}
 use Rattle.rulebook.specs.Terms.{InTerms}
 use Rattle.rulebook.specs.Sections.{accountsOf}
-use Rattle.rulebook.specs.Layout.{width, place, intervalLength, intervalSize, ring, size, slot, intervalWord, rowWord, intervalTable, accountTable, intervalWords, accountWords, accountPlace, flagIndex, msslWord, markWord, accountsWord, lagWord, horizonWord, firstDayWord, nextDayWord, balanceWord, balancePadding, headerPadding, headerPaddingWords, balancePaddingWords, InWindow}
+use Rattle.rulebook.specs.Layout.{width, place, intervalLength, intervalSize, ring, slot, intervalWord, rowWord, intervalTable, accountTable, intervalWords, accountWords, accountPlace, flagIndex, InWindow}
 use Rattle.rulebook.specs.BookData.{termsOf, nextDay}
-use Rattle.rulebook.specs.WellFormed.{isZero, rowFits, paddingZero, rowsThere, accountFits, nccFits, intervalFits, intervalBlank, intervalAt, slotBlank, datedFits, balanceWordsFit, balanceFits, headerFits, fits, wellFormed, dayBound}
+use Rattle.rulebook.specs.WellFormed.{isZero, rowFits, paddingZero, rowsThere, accountFits, nccFits, intervalFits, intervalBlank, intervalAt, slotBlank, datedFits, wellFormed, dayBound}
 use Rattle.rulebook.specs.WindowWalk.{windowSlot, placeDated, windowSlotFits}
 use Rattle.rulebook.specs.Ledger.{Ledger, HoldsLedger, Padding, ofInterval, ofAccount}
-use Rattle.rulebook.specs.laws.TestLaws.{all-yes, between-yes, cond-yes, and-both}
+use Rattle.rulebook.specs.laws.TestLaws.{all-yes, cond-yes, and-both, zero-yes}
 use Rattle.rulebook.specs.laws.RowWordLaws.{flag-inside}
 use Rattle.rulebook.specs.laws.RingLaws.{ring-some, place-slot, place-day}
 use Rattle.rulebook.specs.laws.WalkLaws.{dated-says, undated-says, walk-days}
 use Rattle.rulebook.specs.laws.CoverLaws.{Cover, ofRow, ofPadding, cover}
 use Rattle.rulebook.specs.laws.FitsLaws.{row-same, padding-yes, account-yes, interval-yes}
+use Rattle.rulebook.specs.laws.HeaderLaws.{HeaderSays, terms-said, next-said, book-passes}
 
 pub ring-pos : (o : Terms) → InTerms o → zero < ring o
 ring-pos o t = ring-some o (t .horizonFrom)
-
-pub zero-yes : {z : ℤ} → z ≡ pos 0 → T (isZero z)
-zero-yes e = rw e tt
 
 -- a ledger whose figures and balances may stand in a well-formed book
 pub record Fit (o : Terms) (b : Ledger) : Type 0 where
@@ -120,45 +116,28 @@ module _ (o : Terms) (t : InTerms o) (b : Ledger) (w : List ℤ) (h : HoldsLedge
       (λ x. dated-fits u hu (dated-says o k u x .0))
       (λ x. ⊎-elim (λ y. blank-yes u (λ i m hi hm. h .early u i m y hi hm)) (λ y. blank-yes u (λ i m hi hm. past-blank u hu (y .0) (y .1) i m hi hm)) (undated-says o k u x))
 
-  header-fits : T (headerFits w)
-  unfolding headerFits
-  header-fits =
-      let m : T (between (pos 395) (pos 395) (word w markWord)) = rw (h .mark) tt in
-      let a : T (between (pos 1) (pos 32) (word w accountsWord)) = rw (h .accounts) (between-yes 1 32 (o .accounts) (omega arith) (omega arith)) in
-      let l : T (between (pos 1) (pos 75) (word w lagWord)) = rw (h .lag) (between-yes 1 75 (o .lag) (omega arith) (omega arith)) in
-      let z : T (between (pos 1) (pos 92) (word w horizonWord)) = rw (h .horizon) (between-yes 1 92 (o .horizon) (omega arith) (omega arith)) in
-      let f : T (between (pos 9497) (pos 36524) (word w firstDayWord)) = rw (h .first) (between-yes 9497 36524 (o .first) (omega arith) (omega arith)) in
-      let c : T (between (word w firstDayWord) (pos 36525) (word w nextDayWord)) = rw (h .first, h .next) (between-yes (o .first) 36525 (o .first + k) (omega arith) (omega (arith, q .begun))) in
-      let s : T (all headerPaddingWords (λ n. isZero (word w (headerPadding n)))) = all-yes headerPaddingWords (λ n. isZero (word w (headerPadding n))) (λ n hn. zero-yes (h .headerZeros n hn)) in
-      search and-both depth 8
-
-  account-fits : (a : ℕ) → a < o .accounts → T (balanceWordsFit w k a)
-  unfolding balanceWordsFit balanceFits
-  account-fits a ha = and-both (balanceFits 1 k (word w (balanceWord a))) (all balancePaddingWords (λ j. isZero (word w (balancePadding a j))))
-      (rw (h .balances a ha) (le→leb (natAbs (b .balance a)) (1 * (k * dayBound)) (rw one-mul (q .bounded a ha))))
-      (all-yes balancePaddingWords (λ j. isZero (word w (balancePadding a j))) (λ j hj. zero-yes (h .balanceZeros a j ha hj)))
-
-  mssl-fits : T (balanceFits (o .accounts) k (word w msslWord))
-  unfolding balanceFits
-  mssl-fits = rw (h .mssl) (le→leb (natAbs (b .mssl)) (o .accounts * (k * dayBound)) (q .mssl))
-
-  fits-yes : T (fits o w (o .first + k))
-  unfolding fits
-  fits-yes =
-      let n : o .first + k - o .first ≡ k = add-sub-cancel-left (o .first) k in
-      let a = header-fits in
-      let l = le→leb (size o) (length w) (h .long) in
-      let c : T (balanceFits (o .accounts) (o .first + k - o .first) (word w msslWord)) = rw n mssl-fits in
-      let d : T (all (o .accounts) (balanceWordsFit w (o .first + k - o .first))) = rw n (all-yes (o .accounts) (balanceWordsFit w k) account-fits) in
-      let e = walk-days o w k (t .horizonFrom) (all-yes (ring o) (windowSlotFits o w k) window-fits) in
-      search and-both depth 6
+  header-held : HeaderSays o (o .first + k) w
+  header-held = record {
+    mark = h .mark;
+    accounts = h .accounts;
+    lag = h .lag;
+    horizon = h .horizon;
+    first = h .first;
+    next = h .next;
+    zeros = h .headerZeros;
+    terms = t;
+    begun = omega arith;
+    ended = q .begun;
+  }
 
   pub terms-of : termsOf w ≡ o
-  terms-of = rw (h .accounts, h .lag, h .horizon, h .first) refl
+  terms-of = terms-said o (o .first + k) w header-held
 
   pub next-day : nextDay w ≡ o .first + k
-  next-day = ap positive (h .next)
+  next-day = next-said o (o .first + k) w header-held
 
   pub well-formed : T (wellFormed w)
-  unfolding wellFormed
-  well-formed = rw (terms-of, next-day) fits-yes
+  well-formed =
+      let n : o .first + k - o .first ≡ k = add-sub-cancel-left (o .first) k in
+      book-passes o (o .first + k) w header-held (h .long) (rw (h .mssl, n) (q .mssl)) (λ a ha. rw (h .balances a ha, n) (q .bounded a ha)) (h .balanceZeros)
+      (walk-days o w k (t .horizonFrom) (all-yes (ring o) (windowSlotFits o w k) window-fits))

@@ -6,94 +6,54 @@ use Prim.Native.Nat.{ℕ, zero, _+_, _-_, _*_, _≤_, _<_}
 use native.Mathlib.Nat.{one-mul, add-sub-of-le}
 use native.Mathlib.Omega.{arith}
 use native.Mathlib.Decide.{decLe}
-use lib.IntN.{ℤ, pos, negsuc, natAbs}
-use lib.Dec.{T, leb, ltb, leb→le}
+use lib.IntN.{ℤ, pos, natAbs}
+use lib.Dec.{T, ltb, leb→le}
 use lib.ListN.{length}
 use Rattle.integer.specs.Below.{all}
 use Rattle.integer.specs.Words.{word}
 use Rattle.rulebook.specs.declared.Section.{Section}
 use Rattle.rulebook.specs.declared.Terms.{Terms}
-use Rattle.rulebook.specs.Units.{lastDay, between, positive}
+use Rattle.rulebook.specs.Units.{lastDay}
 use Rattle.rulebook.specs.Terms.{InTerms}
 use Rattle.rulebook.specs.Sections.{accountsOf}
-use Rattle.rulebook.specs.Layout.{width, place, ring, size, intervalLength, intervalSize, slot, intervalWord, rowWord, markWord, accountsWord, lagWord, horizonWord, firstDayWord, nextDayWord, msslWord, balanceWord, balancePadding, headerPadding, headerPaddingWords, balancePaddingWords, InWindow}
+use Rattle.rulebook.specs.Layout.{width, place, ring, size, intervalLength, intervalSize, slot, intervalWord, rowWord, nextDayWord, msslWord, balanceWord, balancePadding, balancePaddingWords, InWindow}
 use Rattle.rulebook.specs.BookData.{termsOf, nextDay, entriesOf}
-use Rattle.rulebook.specs.WellFormed.{isZero, rowFits, intervalFits, intervalBlank, intervalAt, slotBlank, datedFits, balanceWordsFit, balanceFits, headerFits, fits, wellFormed, dayBound, daysFit}
+use Rattle.rulebook.specs.WellFormed.{isZero, rowFits, intervalFits, intervalBlank, intervalAt, slotBlank, datedFits, balanceWordsFit, balanceFits, contentsFit, fits, wellFormed, dayBound, daysFit}
 use Rattle.rulebook.specs.WindowWalk.{windowSlot, windowPlace, placeDated, windowSlotFits}
 use Rattle.rulebook.specs.Ledger.{Padding, HoldsLedger, ledgerOf}
-use Rattle.rulebook.specs.laws.TestLaws.{and-left, and-right, all-at}
+use Rattle.rulebook.specs.laws.TestLaws.{and-left, and-right, is-zero, all-at}
 use Rattle.rulebook.specs.laws.RingLaws.{turned, turn-inside}
 use Rattle.rulebook.specs.laws.WalkLaws.{early-place, walk-undated, days-walk}
 use Rattle.rulebook.specs.laws.LedgerLaws.{padding-fits}
 use Rattle.rulebook.specs.laws.KeptLaws.{absent-fits}
 use Rattle.rulebook.specs.laws.FitsLaws.{interval-padding}
+use Rattle.rulebook.specs.laws.HeaderLaws.{HeaderSays, header-says}
 use Rattle.rulebook.specs.laws.FormLaws.{Fit, ring-pos}
-use Rattle.rulebook.specs.laws.SlotLaws.{row-in-interval, is-zero, is-number, closed-there, row-fits-at}
+use Rattle.rulebook.specs.laws.SlotLaws.{row-in-interval, closed-there, row-fits-at}
 
 -- ---- a well-formed book holds a ledger, and it fits
-
-is-natural : (a b : ℕ) (z : ℤ) → T (between (pos a) (pos b) z) → (z ≡ pos (positive z)) × (a ≤ positive z) × (positive z ≤ b)
-is-natural a b (pos n) t = (refl, leb→le a n (and-left (leb a n) (leb n b) t), leb→le n b (and-right (leb a n) (leb n b) t))
-is-natural a b (negsuc n) t = absurd t
 
 module _ (w : List ℤ) (t : T (wellFormed w)) where
   pub all-fits : T (fits (termsOf w) w (nextDay w))
   unfolding wellFormed
   all-fits = t
 
-  header-of : T (headerFits w)
+  header-of : HeaderSays (termsOf w) (nextDay w) w
   unfolding fits
-  header-of = let x = all-fits in search (and-left, and-right) depth 6
+  header-of = let x = all-fits in header-says w (search (and-left, and-right) depth 6)
 
-  mark-of : word w markWord ≡ pos 395
-  unfolding headerFits
-  mark-of = let x = header-of in is-number 395 (word w markWord) (search (and-left, and-right) depth 8)
-
-  accounts-of : (word w accountsWord ≡ pos (positive (word w accountsWord))) × (1 ≤ positive (word w accountsWord)) × (positive (word w accountsWord) ≤ 32)
-  unfolding headerFits
-  accounts-of = let x = header-of in is-natural 1 32 (word w accountsWord) (search (and-left, and-right) depth 8)
-
-  lag-of : (word w lagWord ≡ pos (positive (word w lagWord))) × (1 ≤ positive (word w lagWord)) × (positive (word w lagWord) ≤ 75)
-  unfolding headerFits
-  lag-of = let x = header-of in is-natural 1 75 (word w lagWord) (search (and-left, and-right) depth 8)
-
-  horizon-of : (word w horizonWord ≡ pos (positive (word w horizonWord))) × (1 ≤ positive (word w horizonWord)) × (positive (word w horizonWord) ≤ 92)
-  unfolding headerFits
-  horizon-of = let x = header-of in is-natural 1 92 (word w horizonWord) (search (and-left, and-right) depth 8)
-
-  first-of : (word w firstDayWord ≡ pos (positive (word w firstDayWord))) × (9497 ≤ positive (word w firstDayWord)) × (positive (word w firstDayWord) ≤ 36524)
-  unfolding headerFits
-  first-of = let x = header-of in is-natural 9497 36524 (word w firstDayWord) (search (and-left, and-right) depth 8)
-
-  pub next-of : (word w nextDayWord ≡ pos (positive (word w nextDayWord))) × (positive (word w firstDayWord) ≤ positive (word w nextDayWord)) × (positive (word w nextDayWord) ≤ 36525)
-  unfolding headerFits
-  next-of =
-      let x = header-of in
-      let y : T (between (word w firstDayWord) (pos 36525) (word w nextDayWord)) = search (and-left, and-right) depth 8 in
-      is-natural (positive (word w firstDayWord)) 36525 (word w nextDayWord) (subst (λ (z : ℤ). T (between z (pos 36525) (word w nextDayWord))) (first-of .0) y)
-
-  header-zeros : T (all headerPaddingWords (λ n. isZero (word w (headerPadding n))))
-  unfolding headerFits
-  header-zeros = let x = header-of in search (and-left, and-right) depth 8
+  pub next-of : (word w nextDayWord ≡ pos (nextDay w)) × (termsOf w .first ≤ nextDay w) × (nextDay w ≤ 36525)
+  next-of = (header-of .next, header-of .begun, header-of .ended)
 
   pub opened-of : InTerms (termsOf w)
-  opened-of = record {
-    accountsFrom = accounts-of .1;
-    accountsTo = accounts-of .2;
-    lagFrom = lag-of .1;
-    lagTo = lag-of .2;
-    horizonFrom = horizon-of .1;
-    horizonTo = horizon-of .2;
-    firstFrom = first-of .1;
-    firstTo = first-of .2;
-  }
+  opened-of = header-of .terms
 
   long-of : size (termsOf w) ≤ length w
   unfolding fits
   long-of = let x = all-fits in leb→le (size (termsOf w)) (length w) (search (and-left, and-right) depth 6)
 
   account-of : (a : ℕ) → a < termsOf w .accounts → T (balanceWordsFit w (nextDay w - termsOf w .first) a)
-  unfolding fits
+  unfolding fits contentsFit
   account-of a ha = let x = all-fits in
       all-at (termsOf w .accounts) (balanceWordsFit w (nextDay w - termsOf w .first)) (search (and-left, and-right) depth 6) a ha
 
@@ -109,16 +69,16 @@ module _ (w : List ℤ) (t : T (wellFormed w)) where
       rw one-mul at x
 
   pub mssl-at : natAbs (word w msslWord) ≤ termsOf w .accounts * ((nextDay w - termsOf w .first) * dayBound)
-  unfolding fits balanceFits
+  unfolding fits contentsFit balanceFits
   mssl-at = let x = all-fits in leb→le (natAbs (word w msslWord)) (termsOf w .accounts * ((nextDay w - termsOf w .first) * dayBound)) (search (and-left, and-right) depth 6)
 
   -- the days of the window, place by place
   pub walk-of : T (all (ring (termsOf w)) (windowSlotFits (termsOf w) w (nextDay w - termsOf w .first)))
-  unfolding fits
+  unfolding fits contentsFit
   walk-of =
       let x = all-fits in
       let d : T (daysFit (termsOf w) w (nextDay w)) = search (and-left, and-right) depth 6 in
-      days-walk (termsOf w) w (nextDay w - termsOf w .first) (horizon-of .1)
+      days-walk (termsOf w) w (nextDay w - termsOf w .first) (opened-of .horizonFrom)
       (subst (λ (C : ℕ). T (daysFit (termsOf w) w C)) (sym (add-sub-of-le (next-of .1))) d)
 
 -- a blank slot's words
@@ -151,14 +111,14 @@ module _ (w : List ℤ) (t : T (wellFormed w)) where
   pub formed-holds : HoldsLedger (termsOf w) (ledgerOf w) w
   formed-holds = record {
     long = long-of w t;
-    mark = mark-of w t;
-    accounts = accounts-of w t .0;
-    lag = lag-of w t .0;
-    horizon = horizon-of w t .0;
-    first = first-of w t .0;
+    mark = header-of w t .mark;
+    accounts = header-of w t .accounts;
+    lag = header-of w t .lag;
+    horizon = header-of w t .horizon;
+    first = header-of w t .first;
     next = next-of w t .0 ∙ ap pos (omega (arith, next-of w t .1));
     mssl = refl;
-    headerZeros = λ n x. is-zero (word w (headerPadding n)) (all-at headerPaddingWords (λ n. isZero (word w (headerPadding n))) (header-zeros w t) n x);
+    headerZeros = header-of w t .zeros;
     balances = λ a x. refl;
     balanceZeros = balance-zeros w t;
     held = λ s a d i j x ha hi hj. refl;

@@ -1,12 +1,12 @@
 -- A row fits by its flag alone: the flag in range, as many figures in range as it says, the rest zero. The form in which code judges. Assumes nothing.
 use mathlib.Core.Path.{_≡_, refl, sym, ap, _∙_, subst}
-use mathlib.Core.Logic.{_⊎_, ⊎-elim}
+use mathlib.Core.Logic.{⊎-elim}
 use mathlib.Core.Bool.{Bool, true, false, cond, not, _&&_, _||_}
 use Prim.Native.Nat.{ℕ, suc, _-_, _*_, _≤_, _<_}
 use native.Mathlib.Omega.{arith}
 use borrow.Author.Tests.{le-ltb}
-use lib.Dec.{T, leb, ltb, eqb, leb→le, le→leb, eqb→eq}
-use lib.IntN.{ℤ, pos, negsuc}
+use lib.Dec.{T, leb, ltb, eqb, le→leb, eqb→eq}
+use lib.IntN.{ℤ, pos}
 use Rattle.integer.specs.Below.{fold, all, any}
 use Rattle.integer.specs.laws.BelowLaws.{lt-or-le}
 use Rattle.rulebook.specs.declared.Section.{Section}
@@ -15,18 +15,14 @@ use Rattle.rulebook.specs.Units.{between, positive}
 use Rattle.rulebook.specs.Sections.{leastCount, mostCount, perInterval, valueInRange, figurePlace}
 use Rattle.rulebook.specs.Layout.{Word, flag, figure, padding, isFlag, present, width, wordName, flagIndex}
 use Rattle.rulebook.specs.WellFormed.{isZero, rowBlank, wordFits, rowCounts, rowFits}
-use Rattle.rulebook.specs.laws.TestLaws.{tests-same, and-left, and-right, and-both, or-left, or-right, or-cases, between-yes, all-yes, any-yes, all-at, any-some}
+use Rattle.rulebook.specs.laws.TestLaws.{tests-same, and-left, and-right, and-both, or-left, or-right, or-cases, between-yes, is-natural, is-number, is-zero, all-yes, any-yes, all-at, any-some}
 use Rattle.rulebook.specs.laws.RowWordLaws.{flag-inside, flag-named}
-use Rattle.rulebook.specs.laws.SlotLaws.{is-zero, is-number}
 
 -- ---- Flags
 
 -- at most
 abbrev pub mostFlag : Section → ℕ
-mostFlag Vesting = 4
-mostFlag Meter = 4
-mostFlag Residual = 1
-mostFlag Ncc = 1
+mostFlag s = present s (mostCount s)
 
 -- how many figures of an interval a flag says are there
 abbrev pub flagged : Section → ℕ → ℕ
@@ -103,11 +99,6 @@ word-blank s (flag t) z x e = e t refl
 word-blank s (figure g) z x e = rw (none-flagged s (figurePlace g)) at x
 word-blank s padding z x e = x
 
--- a number in a range that starts at 0
-pub natural : (most : ℕ) (z : ℤ) → T (between (pos 0) (pos most) z) → (z ≡ pos (positive z)) × (positive z ≤ most)
-natural most (pos n) t = (refl, leb→le n most (and-right (leb 0 n) (leb n most) t))
-natural most (negsuc n) t = absurd t
-
 -- a row has one flag
 unfoldable oneFlag : Section → ℕ → Bool
 oneFlag s j = not (isFlag (wordName s j)) || eqb j (flagIndex s)
@@ -149,8 +140,8 @@ module _ (s : Section) (f : ℕ → ℤ) where
   unfolding rowFits rowBlank rowCounts rowFlagged
   back x = ⊎-elim some none (lt-or-le 0 (positive (f (flagIndex s))))
     where
-      v : (f (flagIndex s) ≡ pos (positive (f (flagIndex s)))) × (positive (f (flagIndex s)) ≤ mostFlag s)
-      v = natural (mostFlag s) (f (flagIndex s)) (and-left (between (pos 0) (pos (mostFlag s)) (f (flagIndex s))) (all (width s) (λ j. wordFlagged s (positive (f (flagIndex s))) (wordName s j) (f j))) x)
+      v : (f (flagIndex s) ≡ pos (positive (f (flagIndex s)))) × (0 ≤ positive (f (flagIndex s))) × (positive (f (flagIndex s)) ≤ mostFlag s)
+      v = is-natural 0 (mostFlag s) (f (flagIndex s)) (and-left (between (pos 0) (pos (mostFlag s)) (f (flagIndex s))) (all (width s) (λ j. wordFlagged s (positive (f (flagIndex s))) (wordName s j) (f j))) x)
 
       w : (j : ℕ) → j < width s → T (wordFlagged s (positive (f (flagIndex s))) (wordName s j) (f j))
       w = all-at (width s) (λ j. wordFlagged s (positive (f (flagIndex s))) (wordName s j) (f j)) (and-right (between (pos 0) (pos (mostFlag s)) (f (flagIndex s))) (all (width s) (λ j. wordFlagged s (positive (f (flagIndex s))) (wordName s j) (f j))) x)
@@ -161,7 +152,7 @@ module _ (s : Section) (f : ℕ → ℤ) where
 
       some : 0 < positive (f (flagIndex s)) → T (rowFits s f)
       some h =
-          let c = counted s (positive (f (flagIndex s))) h (v .1) in
+          let c = counted s (positive (f (flagIndex s))) h (v .2) in
           let z : f (flagIndex s) ≡ pos (present s (c .count)) = v .0 ∙ ap pos (sym (c .is)) in
           or-right (rowBlank s f) (any (suc (mostCount s)) (rowCounts s f)) (any-yes (suc (mostCount s)) (rowCounts s f) (c .count) (omega (arith, c .most))
           (and-both (leb (leastCount s) (c .count)) (all (width s) (λ j. wordFits s (c .count) (wordName s j) (f j))) (le→leb (leastCount s) (c .count) (c .least))

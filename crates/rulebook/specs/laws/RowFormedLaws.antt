@@ -18,11 +18,10 @@ use Rattle.rulebook.specs.Sections.{leastCount, mostCount}
 use Rattle.rulebook.specs.Layout.{width, wordName}
 use Rattle.rulebook.specs.WellFormed.{isZero, rowBlank, wordFits, rowCounts, rowFits}
 use Rattle.rulebook.specs.FormedBook.{Within, IsQuantity, IsPrice, IsInjection, PairsFormed, ResidualFormed, residualAbsent, residualThere, NccFormed, nccAbsent, nccThere}
-use Rattle.rulebook.specs.laws.TestLaws.{and-left, and-right, and-both, or-right, between-yes, all-yes, all-at, any-yes}
+use Rattle.rulebook.specs.laws.TestLaws.{and-left, and-right, and-both, or-right, between-yes, is-natural, is-number, is-zero, zero-yes, all-yes, all-at, any-yes}
 use Rattle.rulebook.specs.laws.KeptLaws.{absent-fits}
-use Rattle.rulebook.specs.laws.SlotLaws.{is-zero, is-number, fit-words}
-use Rattle.rulebook.specs.laws.FormLaws.{zero-yes}
-use Rattle.rulebook.specs.laws.RowFlagLaws.{rowFlagged, natural, row-by-flag}
+use Rattle.rulebook.specs.laws.SlotLaws.{fit-words}
+use Rattle.rulebook.specs.laws.RowFlagLaws.{rowFlagged, row-by-flag}
 
 -- ---- Ranges
 
@@ -81,13 +80,13 @@ module _ (a b c d : ℤ) (f : ℕ → ℤ) where
   pairs-say t = record {
     count = positive (f 0);
     flag = v .0;
-    few = v .1;
-    there = λ k h. (within a b (f (1 + 2 * k)) (first k (omega (arith, v .1)) .0 (omega arith)), within c d (f (2 + 2 * k)) (second k (omega (arith, v .1)) .0 (omega arith)));
+    few = v .2;
+    there = λ k h. (within a b (f (1 + 2 * k)) (first k (omega (arith, v .2)) .0 (omega arith)), within c d (f (2 + 2 * k)) (second k (omega (arith, v .2)) .0 (omega arith)));
     zeros = λ k h u. (first k u .1 (omega arith), second k u .1 (omega arith));
   }
     where
-      v : (f 0 ≡ pos (positive (f 0))) × (positive (f 0) ≤ 4)
-      v = natural 4 (f 0) (and-left (between (pos 0) (pos 4) (f 0)) (all 9 (λ j. test j (f j))) t)
+      v : (f 0 ≡ pos (positive (f 0))) × (0 ≤ positive (f 0)) × (positive (f 0) ≤ 4)
+      v = is-natural 0 4 (f 0) (and-left (between (pos 0) (pos 4) (f 0)) (all 9 (λ j. test j (f j))) t)
 
       words : (j : ℕ) → j < 9 → T (test j (f j))
       words = all-at 9 (λ j. test j (f j)) (and-right (between (pos 0) (pos 4) (f 0)) (all 9 (λ j. test j (f j))) t)

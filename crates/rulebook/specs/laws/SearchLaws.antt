@@ -29,7 +29,7 @@ use Rattle.rulebook.specs.Companion.{flagLacking}
 use Rattle.rulebook.specs.Ledger.{entriesIn, entryOf, HoldsLedger, Kept}
 use Rattle.rulebook.specs.laws.RowWordLaws.{flag-inside}
 use Rattle.rulebook.specs.laws.KeptLaws.{none-or, flag-more, nonzero}
-use Rattle.rulebook.specs.laws.FormLaws.{zero-yes}
+use Rattle.rulebook.specs.laws.TestLaws.{zero-yes}
 
 pub nothing-at : {X : Type 0} {v : ℕ} {x : Found} → x ≡ Nothing → x ≡ At v → X
 nothing-at e f = let z : _≡_ {A = ℕ} 0 1 = cc in absurd (omega arith)

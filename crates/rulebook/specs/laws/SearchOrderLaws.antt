@@ -24,8 +24,7 @@ use Rattle.rulebook.specs.WellFormed.{isZero, wellFormed}
 use Rattle.rulebook.specs.Close.{absentAt, accountSearched, residualsSearched, searched, absentFlag, missingAt, firstMissing, settled, closed}
 use Rattle.rulebook.specs.Numbers.{Answer, accepted, datumAbsent, numbered, ofClose}
 use Rattle.rulebook.specs.SearchOrder.{inTurn, flagsAt, flagOrder, FirstZero, SearchHolds}
-use Rattle.rulebook.specs.laws.TestLaws.{T-path}
-use Rattle.rulebook.specs.laws.SlotLaws.{is-zero}
+use Rattle.rulebook.specs.laws.TestLaws.{T-path, is-zero}
 
 -- ---- A search through a list
 

@@ -1,23 +1,23 @@
 -- What a day's fitting slot says of its words: flags, numbers in range. Assumes nothing.
-use mathlib.Core.Path.{_≡_, ap, subst}
+use mathlib.Core.Path.{subst}
 use mathlib.Core.Logic.{_⊎_, inl, inr}
 use mathlib.Core.Bool.{Bool, true, false, cond, not}
 use mathlib.Core.List.{List}
 use Prim.Native.Nat.{ℕ, suc, _+_, _≤_, _<_}
 use native.Mathlib.Omega.{arith}
-use lib.IntN.{ℤ, pos, negsuc}
-use lib.Dec.{T, leb, ltb, leb→le, lt→ltb}
+use lib.IntN.{ℤ}
+use lib.Dec.{T, leb, ltb, lt→ltb}
 use Rattle.integer.specs.Below.{all, any}
 use Rattle.rulebook.specs.declared.Section.{Section}
 use Rattle.rulebook.specs.declared.Section.the-variants.{Vesting, Meter}
 use Rattle.rulebook.specs.declared.Terms.{Terms}
-use Rattle.rulebook.specs.Units.{lastDay, between, positive}
+use Rattle.rulebook.specs.Units.{lastDay, positive}
 use Rattle.rulebook.specs.Sections.{accountsOf, perInterval, leastCount, mostCount, valueInRange, Figure, figureSection, figurePlace}
 use Rattle.rulebook.specs.Layout.{width, place, ring, intervalSize, slot, rowWord, Word, wordName, flagIndex, figureIndex, InWindow}
 use Rattle.rulebook.specs.BookData.{entriesOf}
 use Rattle.rulebook.specs.WellFormed.{isZero, rowBlank, wordFits, rowCounts, rowFits, intervalFits, intervalAt, datedFits, dayFits}
 use Rattle.rulebook.specs.WindowWalk.{windowSlotFits}
-use Rattle.rulebook.specs.laws.TestLaws.{and-left, and-right, or-cases, all-at, any-some}
+use Rattle.rulebook.specs.laws.TestLaws.{and-right, or-cases, is-zero, is-number, all-at, any-some}
 use Rattle.rulebook.specs.laws.RowWordLaws.{Usable, figure-word, flag-inside}
 use Rattle.rulebook.specs.laws.LayoutLaws.{row-inside}
 use Rattle.rulebook.specs.laws.WalkLaws.{walk-day}
@@ -28,14 +28,6 @@ use Rattle.rulebook.specs.laws.FitsLaws.{interval-row, interval-there}
 pub row-in-interval : (o : Terms) (s : Section) (a j : ℕ) → a < accountsOf s (o .accounts) → j < width s → place s a j < intervalSize o
 unfolding intervalSize
 row-in-interval o s a j ha hj = row-inside (o .accounts) s a j ha hj
-
-pub is-zero : (z : ℤ) → T (isZero z) → z ≡ pos 0
-is-zero (pos n) t = ap pos (omega (arith, leb→le n 0 (and-right (leb 0 n) (leb n 0) t)))
-is-zero (negsuc n) t = absurd t
-
-pub is-number : (n : ℕ) (z : ℤ) → T (between (pos n) (pos n) z) → z ≡ pos n
-is-number n (pos m) t = ap pos (omega (arith, leb→le n m (and-left (leb n m) (leb m n) t), leb→le m n (and-right (leb n m) (leb m n) t)))
-is-number n (negsuc m) t = absurd t
 
 -- the words of a row that fits: all zero, or by name those of some count
 pub fit-words : (s : Section) (f : ℕ → ℤ) → T (rowFits s f)

@@ -6,11 +6,10 @@ use Prim.Native.Nat.{ℕ, _*_, _≤_}
 use native.Mathlib.Nat.{mul-zero, zero-sub}
 use native.Mathlib.Omega.{arith}
 use lib.IntN.{ℤ, negℤ}
-use lib.Dec.{T, ltb, leb→le, le→leb, ltb→lt, nltb→le}
+use lib.Dec.{T, ltb, ltb→lt, nltb→le}
 use lib.ListN.{length}
 use Rattle.rulebook.specs.declared.Terms.{Terms}
 use Rattle.rulebook.specs.declared.OpenAnswer.the-variants.{Opened, BadTerms, TooShort}
-use Rattle.rulebook.specs.Units.{lastDay}
 use Rattle.rulebook.specs.Terms.{termsFit, InTerms}
 use Rattle.rulebook.specs.Layout.{size}
 use Rattle.rulebook.specs.WellFormed.{wellFormed}
@@ -19,26 +18,13 @@ use Rattle.rulebook.specs.Numbers.{Answer, accepted, ofOpen}
 use Rattle.rulebook.specs.History.{closes, inForce, formulaBalance, residualCounts}
 use Rattle.rulebook.specs.Companion.{OpenTells, OpeningHolds}
 use Rattle.rulebook.specs.Ledger.{State}
-use Rattle.rulebook.specs.laws.TestLaws.{and-left, and-right, and-both}
 use Rattle.rulebook.specs.laws.LedgerLaws.{held-same}
+use Rattle.rulebook.specs.laws.HeaderLaws.{opened-terms, terms-fit}
 use Rattle.rulebook.specs.laws.FormLaws.{ring-pos}
 use Rattle.rulebook.specs.laws.OpeningLaws.{book-new, sum-zero, new-word}
 use Rattle.rulebook.specs.laws.StepLaws.{some-none}
 use Rattle.rulebook.specs.laws.BeyondLaws.{kept-all, new-beyond}
 use Rattle.rulebook.specs.laws.StateLaws.{formed}
-
-pub opened-terms : (o : Terms) → T (termsFit o) → InTerms o
-unfolding termsFit
-opened-terms o t = record {
-  accountsFrom = leb→le 1 (o .accounts) (search (and-left, and-right) depth 9);
-  accountsTo = leb→le (o .accounts) 32 (search (and-left, and-right) depth 9);
-  lagFrom = leb→le 1 (o .lag) (search (and-left, and-right) depth 9);
-  lagTo = leb→le (o .lag) 75 (search (and-left, and-right) depth 9);
-  horizonFrom = leb→le 1 (o .horizon) (search (and-left, and-right) depth 9);
-  horizonTo = leb→le (o .horizon) 92 (search (and-left, and-right) depth 9);
-  firstFrom = leb→le 9497 (o .first) (search (and-left, and-right) depth 9);
-  firstTo = leb→le (o .first) lastDay (search (and-left, and-right) depth 9);
-}
 
 module _ (o : Terms) (t : InTerms o) (lent : List ℤ) (l : size o ≤ length lent) where
   pub new-state : State o [] (newBook o lent)
@@ -78,19 +64,6 @@ accepted-opening o lent e = go (termsFit o) (ltb (length lent) (size o)) refl re
     go true false x y z = (subst T (sym x) tt, nltb→le (length lent) (size o) (subst (λ (b : Bool). T (not b)) (sym y) tt), refl)
 
 -- ---- Every opening
-
-terms-fit : (o : Terms) → InTerms o → T (termsFit o)
-unfolding termsFit
-terms-fit o t =
-    let a = le→leb 1 (o .accounts) (t .accountsFrom) in
-    let b = le→leb (o .accounts) 32 (t .accountsTo) in
-    let c = le→leb 1 (o .lag) (t .lagFrom) in
-    let d = le→leb (o .lag) 75 (t .lagTo) in
-    let e = le→leb 1 (o .horizon) (t .horizonFrom) in
-    let f = le→leb (o .horizon) 92 (t .horizonTo) in
-    let g = le→leb 9497 (o .first) (t .firstFrom) in
-    let h = le→leb (o .first) 36524 (t .firstTo) in
-    search and-both depth 9
 
 different : {X : Type 0} {a b : Answer} {m n : ℕ} → a ≡ b → a .number ≡ m → b .number ≡ n → (m ≡ n → ⊥) → X
 different e x y f = absurd (f (sym x ∙ ap (λ (z : Answer). z .number) e ∙ y))

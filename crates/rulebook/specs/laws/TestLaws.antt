@@ -1,17 +1,18 @@
 -- A test over the numbers below n, and the statement that it decides. Assumes nothing.
-use mathlib.Core.Path.{_≡_, refl, sym}
+use mathlib.Core.Path.{_≡_, refl, sym, ap, subst}
 use mathlib.Core.Logic.{_⊎_, inl, inr}
-use mathlib.Core.Bool.{Bool, true, false, cond, _&&_, _||_, not}
+use mathlib.Core.Bool.{Bool, true, false, cond, _&&_, _||_, not, and-assoc}
 use Prim.Native.Nat.{ℕ, zero, suc, _≤_, _<_}
 use native.Mathlib.Nat.{le-suc-iff}
 use native.Mathlib.Omega.{arith}
-use borrow.Author.Tests.{le-ltb}
-use lib.IntN.{pos}
+use borrow.Author.Tests.{le-ltb, lt-leb}
+use lib.IntN.{ℤ, pos, negsuc}
 use lib.Dec.{T, leb, ltb, le→leb, leb→le, nltb→le}
 use Rattle.integer.specs.Below.{fold, all, any}
 use Rattle.integer.specs.laws.BelowLaws.{fold-cong, fold-each, and-true, all-of}
 use Rattle.integer.specs.laws.CountLaws.{any-at}
-use Rattle.rulebook.specs.Units.{between}
+use Rattle.rulebook.specs.Units.{between, positive}
+use Rattle.rulebook.specs.WellFormed.{isZero}
 pub use Rattle.integer.specs.laws.IntegerLaws.{T-path}
 
 -- below n + 1: below n, or n
@@ -49,11 +50,43 @@ pub or-cases : {X : Type 0} (a b : Bool) → T (a || b) → (T a → X) → (T b
 or-cases true b t f g = f tt
 or-cases false b t f g = g t
 
+-- eight tests, by twos
+pub by-twos : (a b c d e f g h : Bool) → (a && b && c && d && e && f && g && h) ≡ ((a && b) && (c && d) && (e && f) && (g && h))
+by-twos a b c d e f g h = rw (← and-assoc (a && b) c d, ← and-assoc (a && b && c && d) e f, ← and-assoc (a && b && c && d && e && f) g h)
+
 -- two tests that pass alike are one
 pub tests-same : (a b : Bool) → (T a → T b) → (T b → T a) → a ≡ b
 tests-same true b f g = sym (T-path b (f tt))
 tests-same false true f g = absurd (g tt)
 tests-same false false f g = refl
+
+-- ---- A word between two numbers
+
+pub between-yes : (a b n : ℕ) → a ≤ n → n ≤ b → T (between (pos a) (pos b) (pos n))
+between-yes a b n h k = and-both (leb a n) (leb n b) (le→leb a n h) (le→leb n b k)
+
+pub is-natural : (a b : ℕ) (z : ℤ) → T (between (pos a) (pos b) z) → (z ≡ pos (positive z)) × (a ≤ positive z) × (positive z ≤ b)
+is-natural a b (pos n) t = (refl, leb→le a n (and-left (leb a n) (leb n b) t), leb→le n b (and-right (leb a n) (leb n b) t))
+is-natural a b (negsuc n) t = absurd t
+
+pub is-number : (n : ℕ) (z : ℤ) → T (between (pos n) (pos n) z) → z ≡ pos n
+is-number n (pos m) t = ap pos (omega (arith, leb→le n m (and-left (leb n m) (leb m n) t), leb→le m n (and-right (leb n m) (leb m n) t)))
+is-number n (negsuc m) t = absurd t
+
+pub is-zero : (z : ℤ) → T (isZero z) → z ≡ pos 0
+is-zero = is-number 0
+
+pub zero-yes : {z : ℤ} → z ≡ pos 0 → T (isZero z)
+zero-yes e = rw e tt
+
+-- a word above zero, by the number that it is read as
+pub above-zero : (z : ℤ) → 1 ≤ positive z → z ≡ pos (positive z)
+above-zero (pos n) h = refl
+above-zero (negsuc n) h = absurd (omega arith)
+
+pub between-positive : (a b : ℕ) (z : ℤ) → between (pos (suc a)) (pos b) z ≡ (leb (suc a) (positive z) && leb (positive z) b)
+between-positive a b (pos n) = refl
+between-positive a b (negsuc n) = rw (lt-leb (suc a) 0 (omega arith)) refl
 
 -- ---- Tests over the numbers below n
 
@@ -68,9 +101,6 @@ not-ltb m n h = rw (le-ltb m n h) tt
 
 pub not-ltb-is : (m n : ℕ) → not (ltb m n) ≡ leb n m
 not-ltb-is m n = tests-same (not (ltb m n)) (leb n m) (λ t. le→leb n m (nltb→le m n t)) (λ t. not-ltb m n (leb→le n m t))
-
-pub between-yes : (a b n : ℕ) → a ≤ n → n ≤ b → T (between (pos a) (pos b) (pos n))
-between-yes a b n h k = and-both (leb a n) (leb n b) (le→leb a n h) (le→leb n b k)
 
 -- a test that goes by a condition
 pub cond-yes : (c a b : Bool) → (T c → T a) → (T (not c) → T b) → T (cond c a b)

@@ -1,12 +1,14 @@
--- `header_fits` meets its contract: the terms, the next day, and the zeros, a part of the book.
+-- `header_fits` meets its contract: the mark, the terms, the next day, and the zeros, a part of the book.
 use mathlib.Core.Path.{_∙_}
 use native.Mathlib.Omega.{arith}
 use borrow.Author.Needs.{needs}
 use Rattle.rulebook.specs.WellFormed.{headerFits}
 use Rattle.book.specs.laws.BlankLaws.{blank-part}
-use Rattle.book.specs.Header.{termsWordsFit}
 use Rattle.book.proofs.header.header_fits.Statement.{statement}
 use Rattle.book.proofs.header.header_fits.Tie as tie
+
+between-at-requires : tie.Need-between-at-requires
+between-at-requires c κs = search needs
 
 terms-words-fit-requires : tie.Need-terms-words-fit-requires
 terms-words-fit-requires c κs = search needs
@@ -27,13 +29,14 @@ is-blank-requires : tie.Need-is-blank-requires
 is-blank-requires c κs = search needs
 
 returns : tie.Need-returns
-unfolding headerFits termsWordsFit
-returns c = let s = c .is-blank .ensures ∙ blank-part (c .before .before .before .before .args .book .now) 7 57 (omega arith) in cc
+unfolding headerFits
+returns c = let s = c .is-blank .ensures ∙ blank-part (c .before .before .before .before .before .args .book .now) 7 57 (omega arith) in cc
 
 pub header-fits-spec : {M : Type 1} → statement M
 header-fits-spec =
     tie.close
     (tie.spec
+    between-at-requires
     terms-words-fit-requires
     next-day-fits-requires
     sub-is-blank

@@ -1,12 +1,14 @@
 -- `next_day_of` meets its contract: the word is not below zero.
+use mathlib.Core.Path.{ap}
 use native.Mathlib.Omega.{arith}
 use borrow.Author.Needs.{needs}
-use Rattle.book.specs.laws.HeaderLaws.{header-says}
+use Rattle.integer.specs.Integer.{negative}
+use Rattle.book.specs.laws.HeaderLaws.{header-true}
 use Rattle.book.proofs.header.next_day_of.Statement.{statement}
 use Rattle.book.proofs.header.next_day_of.Tie as tie
 
 count-at-requires : tie.Need-count-at-requires
-count-at-requires c κs = let h = header-says (c .args .book .now) (c .pre .1) in (omega arith, h .nextSign)
+count-at-requires c κs = let h = header-true (c .args .book .now) (c .pre .1) in (omega arith, ap negative (h .next))
 
 returns : tie.Need-returns
 returns c = search needs

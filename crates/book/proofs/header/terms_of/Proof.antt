@@ -1,20 +1,22 @@
 -- `terms_of` meets its contract: none of the four words is below zero.
+use mathlib.Core.Path.{ap}
 use native.Mathlib.Omega.{arith}
-use Rattle.book.specs.laws.HeaderLaws.{header-says}
+use Rattle.integer.specs.Integer.{negative}
+use Rattle.book.specs.laws.HeaderLaws.{header-true}
 use Rattle.book.proofs.header.terms_of.Statement.{statement}
 use Rattle.book.proofs.header.terms_of.Tie as tie
 
 count-at-requires : tie.Need-count-at-requires
-count-at-requires c κs = let h = header-says (c .args .book .now) (c .pre .1) in (omega arith, h .accountsSign)
+count-at-requires c κs = let h = header-true (c .args .book .now) (c .pre .1) in (omega arith, ap negative (h .accounts))
 
 count-at-requires-2 : tie.Need-count-at-requires-2
-count-at-requires-2 c κs = let h = header-says (c .before .args .book .now) (c .before .pre .1) in (omega arith, h .lagSign)
+count-at-requires-2 c κs = let h = header-true (c .before .args .book .now) (c .before .pre .1) in (omega arith, ap negative (h .lag))
 
 count-at-requires-3 : tie.Need-count-at-requires-3
-count-at-requires-3 c κs = let h = header-says (c .before .before .args .book .now) (c .before .before .pre .1) in (omega arith, h .horizonSign)
+count-at-requires-3 c κs = let h = header-true (c .before .before .args .book .now) (c .before .before .pre .1) in (omega arith, ap negative (h .horizon))
 
 count-at-requires-4 : tie.Need-count-at-requires-4
-count-at-requires-4 c κs = let h = header-says (c .before .before .before .args .book .now) (c .before .before .before .pre .1) in (omega arith, h .firstSign)
+count-at-requires-4 c κs = let h = header-true (c .before .before .before .args .book .now) (c .before .before .before .pre .1) in (omega arith, ap negative (h .first))
 
 returns : tie.Need-returns
 returns c = cc

@@ -1,6 +1,6 @@
--- `terms_words_fit` meets its contract: five words are read.
+-- `terms_words_fit` meets its contract: four words are read.
 use borrow.Author.Needs.{needs}
-use Rattle.book.specs.Header.{termsWordsFit}
+use Rattle.rulebook.specs.laws.HeaderLaws.{terms-by-words}
 use Rattle.book.proofs.header.terms_words_fit.Statement.{statement}
 use Rattle.book.proofs.header.terms_words_fit.Tie as tie
 
@@ -16,12 +16,8 @@ between-at-requires-3 c κs = search needs
 between-at-requires-4 : tie.Need-between-at-requires-4
 between-at-requires-4 c κs = search needs
 
-between-at-requires-5 : tie.Need-between-at-requires-5
-between-at-requires-5 c κs = search needs
-
 returns : tie.Need-returns
-unfolding termsWordsFit
-returns c = cc
+returns c = let e = terms-by-words (c .before .before .before .before .args .book .now) in cc
 
 pub terms-words-fit-spec : {M : Type 1} → statement M
 terms-words-fit-spec =
@@ -31,5 +27,4 @@ terms-words-fit-spec =
     between-at-requires-2
     between-at-requires-3
     between-at-requires-4
-    between-at-requires-5
     returns)

@@ -1,13 +1,13 @@
 -- `contents_fit` meets its contract: by `slots-are-days` the slots as they lie are the days of the window.
 use mathlib.Core.Path.{_≡_, _∙_}
-use Prim.Native.Nat.{_+_, _*_}
+use Prim.Native.Nat.{_+_, _-_, _*_}
+use native.Mathlib.Nat.{add-sub-cancel-left}
 use native.Mathlib.Omega.{arith}
 use borrow.Author.Needs.{needs}
 use Rattle.integer.specs.laws.WordsLaws.{lent}
 use Rattle.rulebook.specs.Layout.{balanceWord, slotLength, ring}
-use Rattle.rulebook.specs.WellFormed.{daysFit}
+use Rattle.rulebook.specs.WellFormed.{daysFit, contentsFit}
 use Rattle.book.specs.laws.JudgeLaws.{header-inside}
-use Rattle.book.specs.Judged.{contentsFit}
 use Rattle.book.specs.laws.LoopLaws.{length-lent}
 use Rattle.book.specs.laws.WalkLaws.{size-by-slots, slots-are-days}
 use Rattle.book.proofs.judge.contents_fit.Statement.{statement}
@@ -56,11 +56,12 @@ unfolding contentsFit
 returns c =
     let s = c .before .before .before .before .before in
     let t = s .args .terms in
+    let n : t .first + s .args .closes - t .first ≡ s .args .closes = add-sub-cancel-left (t .first) (s .args .closes) in
     let e = slots-end (c .before .before .before .before) in
     let d : c .slots-fit .result ≡ daysFit t (s .args .book .now) (t .first + s .args .closes)
     = c .slots-fit .ensures ∙ rw (e, lent (s .args .book .now) (balanceWord (t .accounts)) (ring t * slotLength (t .accounts)))
     (slots-are-days t (s .args .book .now) (s .args .closes) (s .pre .0 .horizonFrom) (s .pre .2)) in
-    cc
+    rw n cc
 
 pub contents-fit-spec : {M : Type 1} → statement M
 contents-fit-spec =

@@ -8,7 +8,7 @@ use Rattle.rulebook.specs.BookData.{termsOf}
 use Rattle.rulebook.specs.Layout.{size}
 use Rattle.rulebook.specs.WellFormed.{wellFormed}
 use Rattle.rulebook.specs.declared.Terms.{Terms}
-use Rattle.book.specs.laws.HeaderLaws.{header-says}
+use Rattle.book.specs.laws.HeaderLaws.{header-true}
 use Rattle.book.specs.laws.JudgeLaws.{header-left, length-left, size-left, contents-left}
 use Rattle.book.specs.Judged.{judgedBook}
 use Rattle.book.specs.laws.LoopLaws.{passed, left}
@@ -31,7 +31,7 @@ next-day-of-requires : tie.Need-next-day-of-requires
 next-day-of-requires c κs = (omega arith, passed (c .before .before .header-fits .ensures) (c .before .if2 .left))
 
 book-size-requires : tie.Need-book-size-requires
-book-size-requires c κs = rw (c .before .terms-of .ensures) (header-says (c .before .before .before .before .before .args .book .now) (passed (c .before .before .before .header-fits .ensures) (c .before .before .if2 .left)) .terms)
+book-size-requires c κs = rw (c .before .terms-of .ensures) (header-true (c .before .before .before .before .before .args .book .now) (passed (c .before .before .before .header-fits .ensures) (c .before .before .if2 .left)) .terms)
 
 returns-3 : tie.Need-returns-3
 returns-3 c =
@@ -39,13 +39,13 @@ returns-3 c =
     size-left (s .before .before .before .before .args .book .now) (rw (← s .terms-of .ensures) (omega arith))
 
 sub-contents-fit : tie.Need-sub-contents-fit
-sub-contents-fit c = let h = header-says (c .before .before .before .before .before .before .before .before .args .book .now) (passed (c .before .before .before .before .before .before .header-fits .ensures) (c .before .before .before .before .before .if2 .left)) in rw (c .before .before .before .before .terms-of .ensures, c .before .before .before .next-day-of .ensures) (h .begun)
+sub-contents-fit c = let h = header-true (c .before .before .before .before .before .before .before .before .args .book .now) (passed (c .before .before .before .before .before .before .header-fits .ensures) (c .before .before .before .before .before .if2 .left)) in rw (c .before .before .before .before .terms-of .ensures, c .before .before .before .next-day-of .ensures) (h .begun)
 
 contents-fit-requires : tie.Need-contents-fit-requires
 contents-fit-requires c κs =
     let s = c .before .before .before .before .before in
     let w = s .before .before .before .args .book .now in
-    let h = header-says w (passed (s .before .header-fits .ensures) (s .if2 .left)) in
+    let h = header-true w (passed (s .before .header-fits .ensures) (s .if2 .left)) in
     let t = c .before .before .before .before .terms-of .ensures in
     let f : c .before .before .before .before .terms-of .result .first ≡ termsOf w .first = ap (λ (o : Terms). o .first) t in
     (rw t (h .terms), omega (arith, h .begun, h .ended, h .terms .firstFrom), omega arith)
@@ -59,7 +59,7 @@ answered c =
     let t = c .before .before .before .before .before .terms-of .ensures in
     let n = c .before .before .before .before .next-day-of .ensures in
     let l : size (termsOf w) ≤ length w = rw (← t) (omega arith) in
-    c .contents-fit .ensures ∙ rw (t, n) (sym (contents-left w e l (header-says w e .begun)))
+    c .contents-fit .ensures ∙ rw (t, n) (sym (contents-left w e l (header-true w e .begun)))
 
 returns-4 : tie.Need-returns-4
 unfolding judgedBook
