@@ -8,21 +8,11 @@ use Rattle.integer.specs.declared.Found.{Found}
 use Rattle.integer.specs.declared.Found.the-variants.{At, Nothing}
 use Rattle.integer.specs.Below.{orElse, first}
 use Rattle.integer.specs.laws.BelowLaws.{first-more, first-stops}
-use Rattle.integer.specs.Words.{word}
 use Rattle.rulebook.specs.declared.Section.{Section}
 use Rattle.rulebook.specs.Units.{intervals}
 use Rattle.rulebook.specs.Layout.{intervalLength}
-use Rattle.rulebook.specs.WellFormed.{isZero}
-use Rattle.rulebook.specs.Close.{absentAt, accountSearched, residualsSearched, searched}
+use Rattle.rulebook.specs.Close.{accountSearched, residualsSearched, searched}
 use Rattle.closing.specs.Search.{flagAbsent, absentIn, firstAbsent}
-
-pub absent-here : (w : List ℤ) (i : ℕ) → isZero (word w i) ≡ true → absentAt w i ≡ At i
-unfolding absentAt
-absent-here w i h = rw h
-
-pub absent-not : (w : List ℤ) (i : ℕ) → isZero (word w i) ≡ false → absentAt w i ≡ Nothing
-unfolding absentAt
-absent-not w i h = rw h
 
 -- the first of two that finds something
 pub or-first : {x : Found} {i : ℕ} (y : Found) → x ≡ At i → orElse x y ≡ At i

@@ -27,6 +27,7 @@ use Rattle.rulebook.specs.History.{RowsInForce}
 use Rattle.rulebook.specs.Demand3.{Needed, vestingOf, meterOf, nccOf, residualOf}
 use Rattle.rulebook.specs.Companion.{flagLacking}
 use Rattle.rulebook.specs.Ledger.{entriesIn, entryOf, HoldsLedger, Kept}
+use Rattle.rulebook.specs.laws.TestLaws.{T-path, not-path}
 use Rattle.rulebook.specs.laws.RowWordLaws.{flag-inside}
 use Rattle.rulebook.specs.laws.KeptLaws.{none-or, flag-more, nonzero}
 use Rattle.rulebook.specs.laws.TestLaws.{zero-yes}
@@ -40,14 +41,23 @@ either-at v {x} {y} e = ⊎-elim inl (λ h. inr (h .1)) (orElse-at x y v e)
 orElse-cong : {x x′ y y′ : Found} → x ≡ x′ → y ≡ y′ → orElse x y ≡ orElse x′ y′
 orElse-cong e f = cc
 
--- a word that is not found absent is there
-pub there : (w : List ℤ) (n : ℕ) → absentAt w n ≡ Nothing → T (not (isZero (word w n)))
-unfolding absentAt
-there w n e = go (isZero (word w n)) e
-  where
-    go : (b : Bool) → _≡_ {A = Found} (cond b (At n) Nothing) Nothing → T (not b)
-    go true x = nothing-at x refl
-    go false x = tt
+-- ---- One word
+
+module _ (w : List ℤ) (n : ℕ) where
+  pub absent-here : isZero (word w n) ≡ true → absentAt w n ≡ At n
+  unfolding absentAt
+  absent-here e = rw e
+
+  pub absent-not : isZero (word w n) ≡ false → absentAt w n ≡ Nothing
+  unfolding absentAt
+  absent-not e = rw e
+
+  pub there : absentAt w n ≡ Nothing → T (not (isZero (word w n)))
+  there e = go (isZero (word w n)) absent-here
+    where
+      go : (b : Bool) → (b ≡ true → absentAt w n ≡ At n) → T (not b)
+      go true h = nothing-at e (h refl)
+      go false h = tt
 
 -- ---- A search finds what it finds at the rows that a close of D needs
 
@@ -161,25 +171,16 @@ module _ (o : Terms) (t : InTerms o) (k : ℕ) (rows : RowsInForce) (balance : �
 
   -- its flag is zero exactly if it is not in force
   flag-is : (s : Section) (a d i : ℕ) → Needed o (o .first + k) s a d → i < 48 → absentAt w (flagWord o s a d i) ≡ flagLacking (rows s a d) (flagWord o s a d i)
-  unfolding absentAt
   flag-is s a d i n hi = go (none-or (rows s a d))
     where
       held : word w (flagWord o s a d i) ≡ entryOf (rows s a d) i (flagIndex s)
       held = h .held s a d i (flagIndex s) (needed-open n .0) (needed-open n .1) hi (flag-inside s)
 
-      yes-zero : (b : Bool) → T b → cond b (At (flagWord o s a d i)) Nothing ≡ At (flagWord o s a d i)
-      yes-zero true x = refl
-      yes-zero false x = absurd x
-
-      not-zero : (b : Bool) → T (not b) → _≡_ {A = Found} (cond b (At (flagWord o s a d i)) Nothing) Nothing
-      not-zero true x = absurd x
-      not-zero false x = refl
-
-      go : (rows s a d ≡ none) ⊎ ((r : Row) × (rows s a d ≡ some r)) → cond (isZero (word w (flagWord o s a d i))) (At (flagWord o s a d i)) Nothing ≡ flagLacking (rows s a d) (flagWord o s a d i)
-      go (inl x) = yes-zero (isZero (word w (flagWord o s a d i))) (zero-yes (held ∙ ap (λ (y : Option Row). entryOf y i (flagIndex s)) x))
+      go : (rows s a d ≡ none) ⊎ ((r : Row) × (rows s a d ≡ some r)) → absentAt w (flagWord o s a d i) ≡ flagLacking (rows s a d) (flagWord o s a d i)
+      go (inl x) = absent-here w (flagWord o s a d i) (T-path _ (zero-yes (held ∙ ap (λ (y : Option Row). entryOf y i (flagIndex s)) x)))
           ∙ ap (λ (y : Option Row). flagLacking y (flagWord o s a d i)) (sym x)
-      go (inr x) = not-zero (isZero (word w (flagWord o s a d i)))
-          (nonzero (held ∙ ap (λ (y : Option Row). entryOf y i (flagIndex s)) (x .1) ∙ flag-more s i (x .0) (q .section s a d (x .0) (x .1)) (q .ranged s a d (x .0) (x .1)) .1))
+      go (inr x) = absent-not w (flagWord o s a d i)
+          (not-path _ (nonzero (held ∙ ap (λ (y : Option Row). entryOf y i (flagIndex s)) (x .1) ∙ flag-more s i (x .0) (q .section s a d (x .0) (x .1)) (q .ranged s a d (x .0) (x .1)) .1)))
           ∙ ap (λ (y : Option Row). flagLacking y (flagWord o s a d i)) (sym (x .1))
 
   -- what is found at a row in interval i, and by the search

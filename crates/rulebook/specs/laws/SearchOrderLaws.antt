@@ -1,7 +1,7 @@
 -- The close's nested search goes through the flags in search order. Assumes nothing.
 use mathlib.Core.Path.{_≡_, refl, sym, ap, _∙_, subst}
 use mathlib.Core.Logic.{_≢_, _⊎_, inl, inr}
-use mathlib.Core.Bool.{Bool, true, false, cond}
+use mathlib.Core.Bool.{Bool, true, false, cond, not}
 use mathlib.Core.List.{List, [], _∷_, _++_}
 use Prim.Native.Nat.{ℕ, zero, suc, _+_, _≤_}
 use native.Mathlib.Omega.{arith}
@@ -25,6 +25,7 @@ use Rattle.rulebook.specs.Close.{absentAt, accountSearched, residualsSea
 use Rattle.rulebook.specs.Numbers.{Answer, accepted, datumAbsent, numbered, ofClose}
 use Rattle.rulebook.specs.SearchOrder.{inTurn, flagsAt, flagOrder, FirstZero, SearchHolds}
 use Rattle.rulebook.specs.laws.TestLaws.{T-path, is-zero}
+use Rattle.rulebook.specs.laws.SearchLaws.{nothing-at, absent-here, absent-not, there}
 
 -- ---- A search through a list
 
@@ -63,32 +64,24 @@ module _ (w : List ℤ) where
   -- ---- What it finds
 
   not-zero : (n : ℕ) → absentAt w n ≡ Nothing → word w n ≢ pos 0
-  unfolding absentAt
-  not-zero n e f = go (isZero (word w n)) (rw f tt) e
-    where
-      go : (b : Bool) → T b → cond b (At n) Nothing ≡ Nothing → ⊥
-      go true x y = let z : _≡_ {A = ℕ} 0 1 = cc in omega arith
-      go false x y = x
+  not-zero n e f = subst (λ (z : ℤ). T (not (isZero z))) f (there w n e)
 
   zero-not : (n : ℕ) → word w n ≢ pos 0 → absentAt w n ≡ Nothing
-  unfolding absentAt
-  zero-not n f = go (isZero (word w n)) (is-zero (word w n))
+  zero-not n f = absent-not w n (go (isZero (word w n)) (is-zero (word w n)))
     where
-      go : (b : Bool) → (T b → word w n ≡ pos 0) → cond b (At n) Nothing ≡ Nothing
+      go : (b : Bool) → (T b → word w n ≡ pos 0) → b ≡ false
       go true x = absurd (f (x tt))
       go false x = refl
 
-  zero-at : (n v : ℕ) → absentAt w n ≡ At v → (n ≡ v) × (word w n ≡ pos 0)
-  unfolding absentAt
-  zero-at n v e = go (isZero (word w n)) (is-zero (word w n)) e
-    where
-      go : (b : Bool) → (T b → word w n ≡ pos 0) → cond b (At n) Nothing ≡ At v → (n ≡ v) × (word w n ≡ pos 0)
-      go true x y = (let z : n ≡ v = cc in z, x tt)
-      go false x y = absurd (let z : _≡_ {A = ℕ} 0 1 = cc in omega arith)
-
   at-zero : (n : ℕ) → word w n ≡ pos 0 → absentAt w n ≡ At n
-  unfolding absentAt
-  at-zero n e = rw e refl
+  at-zero n e = absent-here w n (rw e refl)
+
+  zero-at : (n v : ℕ) → absentAt w n ≡ At v → (n ≡ v) × (word w n ≡ pos 0)
+  zero-at n v e = go (isZero (word w n)) refl
+    where
+      go : (b : Bool) → isZero (word w n) ≡ b → (n ≡ v) × (word w n ≡ pos 0)
+      go true x = let h = absent-here w n x in (let z : n ≡ v = cc in z, is-zero (word w n) (subst T (sym x) tt))
+      go false x = nothing-at (absent-not w n x) e
 
   found-first : (flags : List ℕ) (v : ℕ) → firstZero flags ≡ At v → FirstZero w flags v
   unfolding firstZero

@@ -25,6 +25,10 @@ below-suc {i} {n} h = go (le-suc-iff .0 h)
 
 -- ---- One test
 
+pub not-path : (b : Bool) → T (not b) → b ≡ false
+not-path true t = absurd t
+not-path false t = refl
+
 pub and-left : (a b : Bool) → T (a && b) → T a
 and-left true b t = tt
 and-left false b t = t

@@ -15,8 +15,9 @@ use Rattle.rulebook.specs.declared.Section.the-variants.{Residual}
 use Rattle.rulebook.specs.Units.{intervals}
 use Rattle.rulebook.specs.Layout.{intervalWords, accountWords, intervalLength, flagAt}
 use Rattle.rulebook.specs.Close.{absentAt, accountSearched, residualsSearched}
+use Rattle.rulebook.specs.laws.SearchLaws.{absent-here, absent-not}
 use Rattle.closing.specs.Search.{flagAbsent, absentIn, firstAbsent}
-use Rattle.closing.specs.laws.SearchLaws.{absent-here, absent-not, or-first, or-second, passed, passed-due, stops-account, stops-residuals}
+use Rattle.closing.specs.laws.SearchLaws.{or-first, or-second, passed, passed-due, stops-account, stops-residuals}
 use Rattle.closing.proofs.search.first_absent.Statement.{statement}
 use Rattle.closing.proofs.search.first_absent.Tie as tie
 
