@@ -26,10 +26,10 @@ use Rattle.rulebook.specs.WellFormed.{isZero, rowFits, wellFormed}
 use Rattle.rulebook.specs.Close.{firstMissing}
 use Rattle.rulebook.specs.Demand3.{meterOf}
 use Rattle.rulebook.specs.Bounds.{Sized}
-use Rattle.rulebook.specs.laws.TestLaws.{T-path, and-left}
+use Rattle.rulebook.specs.laws.TestLaws.{T-path, and-left, is-natural}
 use Rattle.rulebook.specs.laws.RowWordLaws.{Usable}
 use Rattle.rulebook.specs.laws.RangeLaws.{RangedEntries, data-sized, even}
-use Rattle.rulebook.specs.laws.RowFlagLaws.{wordFlagged, rowFlagged, row-by-flag, natural}
+use Rattle.rulebook.specs.laws.RowFlagLaws.{wordFlagged, rowFlagged, row-by-flag}
 use Rattle.rulebook.specs.laws.FormedLaws.{opened-of, next-of, formed-fit}
 use Rattle.rulebook.specs.laws.BookSizeLaws.{book-ranged, D-inside, r-inside}
 use Rattle.rulebook.specs.laws.AmountLaws.{SameFigures}
@@ -52,7 +52,7 @@ unfolding rowFlagged
 meter-some f x y = ⊎-elim (λ h. h) (λ h. absurd (none h)) (lt-or-le 0 (positive (f (flagIndex Meter))))
   where
     number : f (flagIndex Meter) ≡ pos (positive (f (flagIndex Meter)))
-    number = natural 4 (f (flagIndex Meter))
+    number = is-natural 0 4 (f (flagIndex Meter))
         (and-left (between (pos 0) (pos 4) (f (flagIndex Meter))) (all (width Meter) (λ j. wordFlagged Meter (positive (f (flagIndex Meter))) (wordName Meter j) (f j)))
         (subst T (row-by-flag Meter f) x)) .0
 
