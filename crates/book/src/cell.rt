@@ -19,7 +19,7 @@ ghost use Rattle.rulebook.specs.declared.Section.the-variants.{Vesting, Meter, 
 ghost use Rattle.rulebook.specs.Layout.{accountWords};
 ghost use Rattle.rulebook.specs.Units.{inRange};
 ghost use Rattle.rulebook.specs.WellFormed.{isZero, rowFits, rowOf, rowsThere, accountFits};
-ghost use Rattle.book.specs.Parts.{rowPairs, pairsInRange, restZero, pairsFit};
+ghost use Rattle.rulebook.specs.RowPairs.{rowPairs, pairsInRange, restZero, pairsFit};
 
 // Pairs of a vesting row, its base and three tenders, and of a meter row.
 const PAIRS: usize = 4;

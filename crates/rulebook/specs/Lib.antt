@@ -10,6 +10,7 @@ pub mod Layout
 pub mod BookData
 pub mod WellFormed
 pub mod FormedBook
+pub mod RowPairs
 pub mod WindowWalk
 pub mod Opening
 pub mod File

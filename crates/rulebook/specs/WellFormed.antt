@@ -110,7 +110,7 @@ balanceWordsFit w k a = balanceFits 1 k (word w (balanceWord a)) && all balanceP
 abbrev pub nextDayFits : List ℤ → Bool
 nextDayFits w = between (word w firstDayWord) (pos (suc lastDay)) (word w nextDayWord)
 
--- 395; N, L, H, F in the ranges of an opening, which have no 0, as a word below zero is read; C; zeros to word 63
+-- 395; N, L, H, F in an opening's ranges, of which none has 0, as `termsOf` reads a word below zero; C; zeros to word 63
 unfoldable pub headerFits : List ℤ → Bool
 headerFits w = between (pos bookMark) (pos bookMark) (word w markWord) && termsFit (termsOf w) && nextDayFits w && all headerPaddingWords (λ n. isZero (word w (headerPadding n)))
 

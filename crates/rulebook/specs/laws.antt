@@ -46,6 +46,7 @@ pub mod HeaderLaws
 pub mod FormLaws
 pub mod SlotLaws
 pub mod RowFlagLaws
+pub mod RowPairLaws
 pub mod FormedLaws
 pub mod RowFormedLaws
 pub mod DayFormedLaws

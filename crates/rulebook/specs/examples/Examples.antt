@@ -121,6 +121,7 @@ pub record Headers : Type 0 where
   pub longLag : headed (pos 395) (pos 2) (pos 76) (pos 1) (pos 9497) (pos 9497) [] ≡ false
   pub longHorizon : headed (pos 395) (pos 2) (pos 1) (pos 93) (pos 9497) (pos 9497) [] ≡ false
   pub earlyFirst : headed (pos 395) (pos 2) (pos 1) (pos 1) (pos 9496) (pos 9497) [] ≡ false
+  pub belowZero : headed (pos 395) (minus 2) (pos 1) (pos 1) (pos 9497) (pos 9497) [] ≡ false
   pub beforeFirst : headed (pos 395) (pos 2) (pos 1) (pos 1) (pos 9498) (pos 9497) [] ≡ false
   pub pastLast : headed (pos 395) (pos 2) (pos 1) (pos 1) (pos 9497) (pos 36526) [] ≡ false
   pub lastPaddingUsed : headed (pos 395) (pos 2) (pos 1) (pos 1) (pos 9497) (pos 9497) (replicate 57 (pos 0) ++ (pos 1 ∷ [])) ≡ false
@@ -138,6 +139,7 @@ headers = record {
   longLag = refl;
   longHorizon = refl;
   earlyFirst = refl;
+  belowZero = refl;
   beforeFirst = refl;
   pastLast = refl;
   lastPaddingUsed = refl;

@@ -16,7 +16,7 @@ use Rattle.rulebook.specs.Shares.{mostAccounts}
 use Rattle.rulebook.specs.Terms.{mostLag, mostHorizon, earliestFirstDay, termsFit, InTerms}
 use Rattle.rulebook.specs.Layout.{bookMark, markWord, accountsWord, lagWord, horizonWord, firstDayWord, nextDayWord, msslWord, balanceWord, headerPaddingWords, headerPadding, balancePaddingWords, balancePadding, size}
 use Rattle.rulebook.specs.BookData.{termsOf, nextDay}
-use Rattle.rulebook.specs.WellFormed.{dayBound, isZero, balanceFits, balanceWordsFit, daysFit, headerFits, contentsFit, fits, wellFormed}
+use Rattle.rulebook.specs.WellFormed.{dayBound, isZero, balanceFits, balanceWordsFit, daysFit, nextDayFits, headerFits, contentsFit, fits, wellFormed}
 use Rattle.rulebook.specs.laws.TestLaws.{and-left, and-right, and-both, by-twos, between-yes, is-natural, is-number, is-zero, zero-yes, above-zero, between-positive, all-yes, all-at}
 
 -- ---- Terms
@@ -78,7 +78,7 @@ unfolding headerFits
 header-says w t =
     let o = opened-terms (termsOf w) (search (and-left, and-right) depth 4) in
     let f = above-zero (word w firstDayWord) (omega (arith, o .firstFrom)) in
-    let u : T (between (word w firstDayWord) (pos (suc lastDay)) (word w nextDayWord)) = search (and-left, and-right) depth 4 in
+    let u : T (nextDayFits w) = search (and-left, and-right) depth 4 in
     let c = is-natural (termsOf w .first) (suc lastDay) (word w nextDayWord) (subst (λ (z : ℤ). T (between z (pos (suc lastDay)) (word w nextDayWord))) f u) in
     record {
       mark = is-number bookMark (word w markWord) (search (and-left, and-right) depth 4);
@@ -105,7 +105,7 @@ module _ (o : Terms) (C : ℕ) (w : List ℤ) (h : HeaderSays o C w) where
   header-passes =
       let m : T (between (pos bookMark) (pos bookMark) (word w markWord)) = rw (h .mark) tt in
       let t : T (termsFit (termsOf w)) = subst (λ (x : Terms). T (termsFit x)) (sym terms-said) (terms-fit o (h .terms)) in
-      let c : T (between (word w firstDayWord) (pos (suc lastDay)) (word w nextDayWord)) = rw (h .first, h .next) (between-yes (o .first) (suc lastDay) C (h .begun) (h .ended)) in
+      let c : T (nextDayFits w) = rw (h .first, h .next) (between-yes (o .first) (suc lastDay) C (h .begun) (h .ended)) in
       let z : T (all headerPaddingWords (λ n. isZero (word w (headerPadding n)))) = all-yes headerPaddingWords (λ n. isZero (word w (headerPadding n))) (λ n l. zero-yes (h .zeros n l)) in
       search and-both depth 4
 

@@ -39,7 +39,7 @@ pub entry-flag : (r : Row) (i : ℕ) → entry r i (flagIndex (r .section)) ≡ 
 unfolding entry
 entry-flag r i = rw (flag-named (r .section))
 
-zero-kind : (k : Kind) → T (inRange k (pos 0))
+pub zero-kind : (k : Kind) → T (inRange k (pos 0))
 zero-kind Quantity = tt
 zero-kind Price = tt
 zero-kind Injection = tt

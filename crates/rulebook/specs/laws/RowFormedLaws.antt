@@ -1,27 +1,29 @@
 -- A row passes its test exactly if its words are well formed in document 01's figures. Assumes nothing.
-use mathlib.Core.Path.{_≡_, sym, ap, _∙_, subst}
+use mathlib.Core.Path.{_≡_, sym, subst}
 use mathlib.Core.Logic.{_⊎_, inl, inr, ⊎-elim}
-use mathlib.Core.Bool.{Bool, true, false, cond, _&&_}
-use Prim.Native.Nat.{ℕ, zero, suc, _+_, _*_, _/_, _%_, _≤_, _<_}
+use mathlib.Core.Bool.{Bool, _&&_, _||_}
+use Prim.Native.Nat.{ℕ, zero, suc, _+_, _*_, _≤_, _<_}
 use native.Mathlib.Omega.{arith}
-use borrow.Author.Tests.{lt-ltb, le-ltb}
-use lib.Dec.{T, leb, ltb, eqb, le→leb}
-use lib.IntN.{ℤ, pos}
-use lib.Signed.{leZ}
+use lib.Dec.{T, leb, le→leb, ltb→lt, lt→ltb}
+use lib.IntN.{ℤ, pos, negsuc}
+use lib.Signed.{leZ, ltZ}
 use Rattle.integer.specs.Integer.{minus}
-use Rattle.integer.specs.Below.{fold, all, any}
+use Rattle.integer.specs.Below.{all, any}
 use Rattle.integer.specs.laws.BelowLaws.{lt-or-le}
 use Rattle.rulebook.specs.declared.Section.{Section}
 use Rattle.rulebook.specs.declared.Section.the-variants.{Vesting, Meter, Residual, Ncc}
-use Rattle.rulebook.specs.Units.{between, positive}
+use Rattle.rulebook.specs.declared.Kind.{Kind}
+use Rattle.rulebook.specs.declared.Kind.the-variants.{Quantity, Injection, Price}
+use Rattle.rulebook.specs.Units.{between, inRange, positive}
 use Rattle.rulebook.specs.Sections.{leastCount, mostCount}
 use Rattle.rulebook.specs.Layout.{width, wordName}
 use Rattle.rulebook.specs.WellFormed.{isZero, rowBlank, wordFits, rowCounts, rowFits}
+use Rattle.rulebook.specs.RowPairs.{pairsInRange, restZero, pairsFit}
 use Rattle.rulebook.specs.FormedBook.{Within, IsQuantity, IsPrice, IsInjection, PairsFormed, ResidualFormed, residualAbsent, residualThere, NccFormed, nccAbsent, nccThere}
-use Rattle.rulebook.specs.laws.TestLaws.{and-left, and-right, and-both, or-right, between-yes, is-natural, is-number, is-zero, zero-yes, all-yes, all-at, any-yes}
-use Rattle.rulebook.specs.laws.KeptLaws.{absent-fits}
+use Rattle.rulebook.specs.laws.TestLaws.{and-left, and-right, and-both, or-left, or-right, or-cases, between-yes, is-natural, is-number, is-zero, zero-yes, all-yes, all-at, any-yes}
+use Rattle.rulebook.specs.laws.KeptLaws.{zero-kind, absent-fits}
 use Rattle.rulebook.specs.laws.SlotLaws.{fit-words}
-use Rattle.rulebook.specs.laws.RowFlagLaws.{rowFlagged, row-by-flag}
+use Rattle.rulebook.specs.laws.RowPairLaws.{vesting-is, meter-is}
 
 -- ---- Ranges
 
@@ -33,91 +35,56 @@ in-between a b z h = and-both (leZ a z) (leZ z b) (h .least .le) (h .most .le)
 
 -- ---- A flag and pairs
 
--- the test of a word at place p of n that are there
-there-or-zero : (p n : ℕ) (x : Bool) (z : ℤ) → T (cond (ltb p n) x (isZero z)) → (p < n → T x) × (n ≤ p → z ≡ pos 0)
-there-or-zero p n x z t = ((λ h. go (ltb p n) (lt-ltb p n h) t), (λ h. is-zero z (stop (ltb p n) (le-ltb p n h) t)))
-  where
-    go : (b : Bool) → b ≡ true → T (cond b x (isZero z)) → T x
-    go b e y = rw e at y
+-- a flag counts no pair at or past it
+not-counted : (p : ℕ) (z : ℤ) → positive z ≤ p → T (ltZ (pos p) z) → ⊥
+not-counted p (pos n) h t = omega (arith, ltb→lt p n t)
+not-counted p (negsuc n) h t = t
 
-    stop : (b : Bool) → b ≡ false → T (cond b x (isZero z)) → T (isZero z)
-    stop b e y = rw e at y
+-- the first of a pair is of kind k, the second of kind l
+module _ (k l : Kind) (f : ℕ → ℤ) where
+  abbrev inside : ℕ → Bool
+  inside p = inRange k (f (1 + 2 * p)) && inRange l (f (2 + 2 * p))
 
-passes-there : (p n : ℕ) (x : Bool) (z : ℤ) → (p < n → T x) → (n ≤ p → z ≡ pos 0) → T (cond (ltb p n) x (isZero z))
-passes-there p n x z f g = ⊎-elim (λ h. rw (lt-ltb p n h) (f h)) (λ h. rw (le-ltb p n h) (zero-yes (g h))) (lt-or-le p n)
+  abbrev zero-pair : ℕ → Bool
+  zero-pair p = isZero (f (1 + 2 * p)) && isZero (f (2 + 2 * p))
 
--- word j of a row that is a flag and four pairs, n of their figures there: p tests the first of a pair, q the second
-abbrev pairWord : (ℤ → Bool) → (ℤ → Bool) → ℕ → ℕ → ℤ → Bool
-pairWord p q n zero z = true
-pairWord p q n (suc j) z = cond (ltb j n) (cond (eqb (j % 2) 0) (p z) (q z)) (isZero z)
-
--- such a row, the first of a pair from a to b, the second from c to d, as many pairs as the flag says
-unfoldable pairRow : ℤ → ℤ → ℤ → ℤ → (ℕ → ℤ) → Bool
-pairRow a b c d f = between (pos 0) (pos 4) (f 0) && all 9 (λ j. pairWord (between a b) (between c d) (2 * positive (f 0)) j (f j))
-
--- the first of a pair, or the second
-half : (j : ℕ) → ((k : ℕ) × (j ≡ 2 * k)) ⊎ ((k : ℕ) × (j ≡ 1 + 2 * k))
-half j = ⊎-elim (λ h. inl (j / 2, omega arith)) (λ h. inr (j / 2, omega arith)) (lt-or-le (j % 2) 1)
-
-module _ (a b c d : ℤ) (f : ℕ → ℤ) where
-  abbrev test : ℕ → ℤ → Bool
-  test = pairWord (between a b) (between c d) (2 * positive (f 0))
-
-  first-is : (k : ℕ) (z : ℤ) → test (1 + 2 * k) z ≡ cond (ltb (2 * k) (2 * positive (f 0))) (between a b z) (isZero z)
-  first-is k z =
-      let i : 1 + 2 * k ≡ suc (2 * k) = omega arith in
-      let e : 2 * k % 2 ≡ 0 = omega arith in
-      ap (λ (j : ℕ). test j z) i ∙ ap (λ (m : ℕ). cond (ltb (2 * k) (2 * positive (f 0))) (cond (eqb m 0) (between a b z) (between c d z)) (isZero z)) e
-
-  second-is : (k : ℕ) (z : ℤ) → test (2 + 2 * k) z ≡ cond (ltb (1 + 2 * k) (2 * positive (f 0))) (between c d z) (isZero z)
-  second-is k z =
-      let i : 2 + 2 * k ≡ suc (1 + 2 * k) = omega arith in
-      let e : (1 + 2 * k) % 2 ≡ 1 = omega arith in
-      ap (λ (j : ℕ). test j z) i ∙ ap (λ (m : ℕ). cond (ltb (1 + 2 * k) (2 * positive (f 0))) (cond (eqb m 0) (between a b z) (between c d z)) (isZero z)) e
-
-  pairs-say : T (pairRow a b c d f) → PairsFormed (Within a b) (Within c d) f
-  unfolding pairRow
-  pairs-say t = record {
+  pairs-say : (A B : ℤ → Type 0) → ((z : ℤ) → T (inRange k z) → A z) → ((z : ℤ) → T (inRange l z) → B z) → T (pairsFit k l f) → PairsFormed A B f
+  unfolding pairsFit pairsInRange restZero
+  pairs-say A B a b t = record {
     count = positive (f 0);
     flag = v .0;
     few = v .2;
-    there = λ k h. (within a b (f (1 + 2 * k)) (first k (omega (arith, v .2)) .0 (omega arith)), within c d (f (2 + 2 * k)) (second k (omega (arith, v .2)) .0 (omega arith)));
-    zeros = λ k h u. (first k u .1 (omega arith), second k u .1 (omega arith));
+    there = λ p h. let x = ranged p (omega (arith, v .2)) in
+        (a (f (1 + 2 * p)) (and-left (inRange k (f (1 + 2 * p))) (inRange l (f (2 + 2 * p))) x), b (f (2 + 2 * p)) (and-right (inRange k (f (1 + 2 * p))) (inRange l (f (2 + 2 * p))) x));
+    zeros = λ p h u. let x = rest p h u in
+        (is-zero (f (1 + 2 * p)) (and-left (isZero (f (1 + 2 * p))) (isZero (f (2 + 2 * p))) x), is-zero (f (2 + 2 * p)) (and-right (isZero (f (1 + 2 * p))) (isZero (f (2 + 2 * p))) x));
   }
     where
       v : (f 0 ≡ pos (positive (f 0))) × (0 ≤ positive (f 0)) × (positive (f 0) ≤ 4)
-      v = is-natural 0 4 (f 0) (and-left (between (pos 0) (pos 4) (f 0)) (all 9 (λ j. test j (f j))) t)
+      v = is-natural 0 4 (f 0) (and-left (between (pos 0) (pos 4) (f 0)) (all 4 inside) (and-left (between (pos 0) (pos 4) (f 0) && all 4 inside) (all 4 (λ p. ltZ (pos p) (f 0) || zero-pair p)) t))
 
-      words : (j : ℕ) → j < 9 → T (test j (f j))
-      words = all-at 9 (λ j. test j (f j)) (and-right (between (pos 0) (pos 4) (f 0)) (all 9 (λ j. test j (f j))) t)
+      ranged : (p : ℕ) → p < 4 → T (inside p)
+      ranged = all-at 4 inside (and-right (between (pos 0) (pos 4) (f 0)) (all 4 inside) (and-left (between (pos 0) (pos 4) (f 0) && all 4 inside) (all 4 (λ p. ltZ (pos p) (f 0) || zero-pair p)) t))
 
-      first : (k : ℕ) → k < 4 → (2 * k < 2 * positive (f 0) → T (between a b (f (1 + 2 * k)))) × (2 * positive (f 0) ≤ 2 * k → f (1 + 2 * k) ≡ pos 0)
-      first k u = there-or-zero (2 * k) (2 * positive (f 0)) (between a b (f (1 + 2 * k))) (f (1 + 2 * k)) (subst T (first-is k (f (1 + 2 * k))) (words (1 + 2 * k) (omega arith)))
+      rest : (p : ℕ) → positive (f 0) ≤ p → p < 4 → T (zero-pair p)
+      rest p h u = or-cases (ltZ (pos p) (f 0)) (zero-pair p) (all-at 4 (λ p. ltZ (pos p) (f 0) || zero-pair p) (and-right (between (pos 0) (pos 4) (f 0) && all 4 inside) (all 4 (λ p. ltZ (pos p) (f 0) || zero-pair p)) t) p u)
+          (λ x. absurd (not-counted p (f 0) h x)) (λ x. x)
 
-      second : (k : ℕ) → k < 4 → (1 + 2 * k < 2 * positive (f 0) → T (between c d (f (2 + 2 * k)))) × (2 * positive (f 0) ≤ 1 + 2 * k → f (2 + 2 * k) ≡ pos 0)
-      second k u = there-or-zero (1 + 2 * k) (2 * positive (f 0)) (between c d (f (2 + 2 * k))) (f (2 + 2 * k)) (subst T (second-is k (f (2 + 2 * k))) (words (2 + 2 * k) (omega arith)))
-
-  say-pairs : PairsFormed (Within a b) (Within c d) f → T (pairRow a b c d f)
-  unfolding pairRow
-  say-pairs h = and-both (between (pos 0) (pos 4) (f 0)) (all 9 (λ j. test j (f j))) (rw (h .flag) (between-yes 0 4 (h .count) (omega arith) (h .few))) (all-yes 9 (λ j. test j (f j)) words)
+  say-pairs : (A B : ℤ → Type 0) → ((z : ℤ) → A z → T (inRange k z)) → ((z : ℤ) → B z → T (inRange l z)) → PairsFormed A B f → T (pairsFit k l f)
+  unfolding pairsFit pairsInRange restZero
+  say-pairs A B a b h = and-both (between (pos 0) (pos 4) (f 0) && all 4 inside) (all 4 (λ p. ltZ (pos p) (f 0) || zero-pair p))
+      (and-both (between (pos 0) (pos 4) (f 0)) (all 4 inside) (rw (h .flag) (between-yes 0 4 (h .count) (omega arith) (h .few))) (all-yes 4 inside ranged))
+      (all-yes 4 (λ p. ltZ (pos p) (f 0) || zero-pair p) rest)
     where
-      v : positive (f 0) ≡ h .count
-      v = ap positive (h .flag)
+      ranged : (p : ℕ) → p < 4 → T (inside p)
+      ranged p u = and-both (inRange k (f (1 + 2 * p))) (inRange l (f (2 + 2 * p)))
+          (⊎-elim (λ x. a (f (1 + 2 * p)) (h .there p x .0)) (λ x. subst (λ (z : ℤ). T (inRange k z)) (sym (h .zeros p x u .0)) (zero-kind k)) (lt-or-le p (h .count)))
+          (⊎-elim (λ x. b (f (2 + 2 * p)) (h .there p x .1)) (λ x. subst (λ (z : ℤ). T (inRange l z)) (sym (h .zeros p x u .1)) (zero-kind l)) (lt-or-le p (h .count)))
 
-      first : (k : ℕ) → k < 4 → T (test (1 + 2 * k) (f (1 + 2 * k)))
-      first k u = rw (first-is k (f (1 + 2 * k))) (passes-there (2 * k) (2 * positive (f 0)) (between a b (f (1 + 2 * k))) (f (1 + 2 * k))
-          (λ x. in-between a b (f (1 + 2 * k)) (h .there k (omega (arith, v)) .0)) (λ x. h .zeros k (omega (arith, v)) u .0))
-
-      second : (k : ℕ) → k < 4 → T (test (2 + 2 * k) (f (2 + 2 * k)))
-      second k u = rw (second-is k (f (2 + 2 * k))) (passes-there (1 + 2 * k) (2 * positive (f 0)) (between c d (f (2 + 2 * k))) (f (2 + 2 * k))
-          (λ x. in-between c d (f (2 + 2 * k)) (h .there k (omega (arith, v)) .1)) (λ x. h .zeros k (omega (arith, v)) u .1))
-
-      words : (j : ℕ) → j < 9 → T (test j (f j))
-      words zero u = tt
-      words (suc j) u = ⊎-elim
-          (λ x. let e : 1 + 2 * x .0 ≡ suc j = omega (arith, x .1) in subst (λ (i : ℕ). T (test i (f i))) e (first (x .0) (omega (arith, x .1))))
-          (λ x. let e : 2 + 2 * x .0 ≡ suc j = omega (arith, x .1) in subst (λ (i : ℕ). T (test i (f i))) e (second (x .0) (omega (arith, x .1))))
-          (half j)
+      rest : (p : ℕ) → p < 4 → T (ltZ (pos p) (f 0) || zero-pair p)
+      rest p u = ⊎-elim (λ x. or-left (ltZ (pos p) (f 0)) (zero-pair p) (rw (h .flag) (lt→ltb p (h .count) x)))
+          (λ x. or-right (ltZ (pos p) (f 0)) (zero-pair p) (and-both (isZero (f (1 + 2 * p))) (isZero (f (2 + 2 * p))) (zero-yes (h .zeros p x u .0)) (zero-yes (h .zeros p x u .1))))
+          (lt-or-le p (h .count))
 
 -- ---- Rows
 
@@ -127,25 +94,17 @@ counted-fits s f c l m h = or-right (rowBlank s f) (any (suc (mostCount s)) (row
     (and-both (leb (leastCount s) c) (all (width s) (λ j. wordFits s c (wordName s j) (f j))) (le→leb (leastCount s) c l) (all-yes (width s) (λ j. wordFits s c (wordName s j) (f j)) h)))
 
 module _ (f : ℕ → ℤ) where
-  vesting-pairs : rowFits Vesting f ≡ pairRow (pos 0) (pos 10000000) (minus 1000000) (pos 1000000) f
-  unfolding rowFlagged pairRow fold
-  vesting-pairs = row-by-flag Vesting f
-
-  meter-pairs : rowFits Meter f ≡ pairRow (minus 1000000) (pos 1000000) (minus 10000000) (pos 10000000) f
-  unfolding rowFlagged pairRow fold
-  meter-pairs = row-by-flag Meter f
-
   pub vesting-says : T (rowFits Vesting f) → PairsFormed IsQuantity IsPrice f
-  vesting-says t = pairs-say (pos 0) (pos 10000000) (minus 1000000) (pos 1000000) f (subst T vesting-pairs t)
+  vesting-says t = pairs-say Quantity Price f IsQuantity IsPrice (within (pos 0) (pos 10000000)) (within (minus 1000000) (pos 1000000)) (subst T (vesting-is f) t)
 
   pub meter-says : T (rowFits Meter f) → PairsFormed IsPrice IsInjection f
-  meter-says t = pairs-say (minus 1000000) (pos 1000000) (minus 10000000) (pos 10000000) f (subst T meter-pairs t)
+  meter-says t = pairs-say Price Injection f IsPrice IsInjection (within (minus 1000000) (pos 1000000)) (within (minus 10000000) (pos 10000000)) (subst T (meter-is f) t)
 
   pub says-vesting : PairsFormed IsQuantity IsPrice f → T (rowFits Vesting f)
-  says-vesting h = subst T (sym vesting-pairs) (say-pairs (pos 0) (pos 10000000) (minus 1000000) (pos 1000000) f h)
+  says-vesting h = subst T (sym (vesting-is f)) (say-pairs Quantity Price f IsQuantity IsPrice (in-between (pos 0) (pos 10000000)) (in-between (minus 1000000) (pos 1000000)) h)
 
   pub says-meter : PairsFormed IsPrice IsInjection f → T (rowFits Meter f)
-  says-meter h = subst T (sym meter-pairs) (say-pairs (minus 1000000) (pos 1000000) (minus 10000000) (pos 10000000) f h)
+  says-meter h = subst T (sym (meter-is f)) (say-pairs Price Injection f IsPrice IsInjection (in-between (minus 1000000) (pos 1000000)) (in-between (minus 10000000) (pos 10000000)) h)
 
   pub residual-says : T (rowFits Residual f) → ResidualFormed f
   residual-says t = go (fit-words Residual f t)

@@ -1,4 +1,4 @@
--- A test over the numbers below n, and the statement that it decides. Assumes nothing.
+-- A test, of a word or over the numbers below n, and the statement that it decides. Assumes nothing.
 use mathlib.Core.Path.{_≡_, refl, sym, ap, subst}
 use mathlib.Core.Logic.{_⊎_, inl, inr}
 use mathlib.Core.Bool.{Bool, true, false, cond, _&&_, _||_, not, and-assoc}
@@ -53,6 +53,12 @@ or-right false b t = t
 pub or-cases : {X : Type 0} (a b : Bool) → T (a || b) → (T a → X) → (T b → X) → X
 or-cases true b t f g = f tt
 or-cases false b t f g = g t
+
+pub and-middle : (a b c d : Bool) → (a && b && (c && d)) ≡ (a && c && (b && d))
+and-middle true true c d = refl
+and-middle true false true d = refl
+and-middle true false false d = refl
+and-middle false b c d = refl
 
 -- eight tests, by twos
 pub by-twos : (a b c d e f g h : Bool) → (a && b && c && d && e && f && g && h) ≡ ((a && b) && (c && d) && (e && f) && (g && h))
@@ -113,6 +119,12 @@ cond-yes false a b f g = g tt
 
 pub all-same : (n : ℕ) (p q : ℕ → Bool) → ((i : ℕ) → i < n → p i ≡ q i) → all n p ≡ all n q
 all-same = fold-cong _&&_ true
+
+-- two tests at once
+pub all-and : (n : ℕ) (p q : ℕ → Bool) → all n (λ i. p i && q i) ≡ (all n p && all n q)
+unfolding fold
+all-and zero p q = refl
+all-and (suc n) p q = rw (all-and n p q) (and-middle (all n p) (all n q) (p n) (q n))
 
 pub any-same : (n : ℕ) (p q : ℕ → Bool) → ((i : ℕ) → i < n → p i ≡ q i) → any n p ≡ any n q
 any-same = fold-cong _||_ false

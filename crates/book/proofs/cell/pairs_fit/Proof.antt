@@ -7,9 +7,9 @@ use lib.Signed.{ltZ}
 use Rattle.integer.specs.Words.{word}
 use Rattle.rulebook.specs.Units.{between}
 use Rattle.rulebook.specs.WellFormed.{isZero}
-use Rattle.book.specs.Parts.{rowPairs, pairsFit}
+use Rattle.rulebook.specs.RowPairs.{rowPairs, pairsFit}
 use Rattle.book.specs.laws.LoopLaws.{passed, left}
-use Rattle.book.specs.laws.RowLaws.{absent-is, no-rest}
+use Rattle.rulebook.specs.laws.RowPairLaws.{absent-is, no-rest}
 use borrow.Author.Needs.{needs}
 use Rattle.book.proofs.cell.pairs_fit.Statement.{statement}
 use Rattle.book.proofs.cell.pairs_fit.Tie as tie
