@@ -4,7 +4,6 @@ use rulebook::units::LAST_DAY;
 ghost use mathlib.Core.Path.{_≡_};
 ghost use mathlib.Core.Bool.{true};
 ghost use Prim.Native.Nat.{_+_, _≤_, _<_};
-ghost use Rattle.integer.specs.Integer.{positive};
 ghost use Rattle.rulebook.specs.Units.{lastDay};
 ghost use Rattle.calendar.specs.Calendar.{firstYear, lastYear, isDay, isLeap, daysInYear, daysInMonth, within, isDate, isMonth, daysBeforeYear, daysBeforeMonth, dayOf, dateOf, dueAfter, dateReturned, dateAccepted};
 ghost use Rattle.calendar.specs.Steps.{InYear};
@@ -15,13 +14,6 @@ const LAST_YEAR: usize = 2099;
 
 // LAST_DAY, for a day as it is given.
 const LAST_DAY_GIVEN: i64 = LAST_DAY as i64;
-
-// A negative number is read as 0.
-pub(crate) fn natural(z: i64) -> usize
-    ensures { λ r. ⌜ r ≡ positive z ⌝ }
-{
-    if z < 0 { 0 } else { z as usize }
-}
 
 // 0 to 36,524.
 pub(crate) fn is_day(z: i64) -> bool

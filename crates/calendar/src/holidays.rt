@@ -1,7 +1,7 @@
 // Holiday lists and business days.
 use super::dates::is_day;
-use super::dates::natural;
 use integer::Found;
+use integer::natural;
 use rulebook::units::LAST_DAY;
 ghost use mathlib.Core.Path.{_≡_};
 ghost use mathlib.Core.Bool.{true, cond};

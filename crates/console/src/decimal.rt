@@ -1,5 +1,5 @@
 // Numbers as text, put into lent bytes from an index on; each call answers the index past its text.
-use integer::any_magnitude;
+use integer::magnitude;
 ghost use mathlib.Core.Path.{_≡_};
 ghost use mathlib.Core.List.{[], _∷_};
 ghost use Prim.Native.Nat.{_+_, _≤_, _<_};
@@ -42,7 +42,7 @@ pub fn put_signed(line: &mut [u8], at: usize, z: i64) -> usize
     requires { ⌜ at + length (signedDecimal z) ≤ length (now line) ⌝ }
     ensures { λ next. ⌜ Put (now (line .entry)) at (signedDecimal z) (now (line .exit)) next ⌝ }
 {
-    let size = any_magnitude(z);
+    let size = magnitude(z);
     if z < 0 {
         let next = put_byte(line, at, b'-');
         return put_decimal(line, next, size);

@@ -4,7 +4,7 @@ ghost use mathlib.Core.Path.{_≡_};
 ghost use Prim.Native.Nat.{_+_, _*_, _/_, _^_, _≤_, _<_, min, max};
 ghost use lib.IntN.{pos, natAbs, _+ℤ_};
 ghost use lib.ListN.{length, set};
-ghost use Rattle.integer.specs.Integer.{withSign};
+ghost use Rattle.integer.specs.Integer.{positive, withSign};
 ghost use Rattle.integer.specs.Nearest.{nearest};
 ghost use Rattle.integer.specs.Words.{word};
 
@@ -60,21 +60,27 @@ pub fn greatest(a: usize, b: usize) -> usize
     if a < b { b } else { a }
 }
 
-// The magnitude of z.
-pub fn magnitude(z: i64) -> u64
-    requires { ⌜ natAbs z < 2 ^ 63 ⌝ }
-    ensures { λ r. ⌜ r ≡ natAbs z ⌝ }
+// A byte.
+pub fn byte(x: u8) -> usize
+    ensures { λ r. ⌜ (r ≡ x) × (r < 256) ⌝ }
 {
-    if z < 0 { (0 - z) as u64 } else { z as u64 }
+    x as usize
 }
 
-// The magnitude of any z: that of the lowest is no i64, but one more than the magnitude of its successor.
-pub fn any_magnitude(z: i64) -> u64
+// max(z, 0), unsigned.
+pub fn natural(z: i64) -> usize
+    ensures { λ r. ⌜ r ≡ positive z ⌝ }
+{
+    if z < 0 { 0 } else { z as usize }
+}
+
+// The magnitude of z: that of the lowest is no i64, but one more than the magnitude of its successor.
+pub fn magnitude(z: i64) -> u64
     ensures { λ r. ⌜ r ≡ natAbs z ⌝ }
 {
     if z < 0 {
         let next = z + 1;
-        magnitude(next) + 1
+        (0 - next) as u64 + 1
     } else {
         z as u64
     }

@@ -1,6 +1,6 @@
 // Standard output: a line a call, its name and figures; and digests of what was lent.
 use crate::input::wide;
-use integer::any_magnitude;
+use integer::magnitude;
 use integer::word_at;
 ghost use mathlib.Core.Path.{_≡_};
 ghost use Prim.Native.Nat.{_<_};
@@ -32,7 +32,7 @@ pub fn word(z: i64) {
     if z < 0 {
         io::write_all(1, b"-");
     }
-    io::print_decimal(1, any_magnitude(z));
+    io::print_decimal(1, magnitude(z));
 }
 
 // Each word of a list.
@@ -61,7 +61,7 @@ fn more_word(d: u64, z: i64) -> u64
     requires { ⌜ d < 2147483647 ⌝ }
     ensures { λ r. ⌜ (r ≡ digests.moreWord d z) × (r < 2147483647) ⌝ }
 {
-    let size = any_magnitude(z);
+    let size = magnitude(z);
     let upper = 2 * (size / 4294967296) + sign(z);
     more(more(d, upper), size % 4294967296)
 }

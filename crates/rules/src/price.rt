@@ -1,6 +1,7 @@
 // Document 01, "Reference price V" (003, 3.6.1).
 use crate::ranges::all_in_range;
 use integer::add;
+use integer::natural;
 use integer::nearest_to;
 use integer::signed;
 use integer::word_at;
@@ -30,7 +31,7 @@ pub struct Sums {
 fn weight_of(ieq: i64) -> u64
     ensures { λ r. ⌜ r ≡ weight ieq ⌝ }
 {
-    if 0 < ieq { ieq as u64 } else { 0 }
+    natural(ieq) as u64
 }
 
 // Σ (MEP × weight) with one facility more.

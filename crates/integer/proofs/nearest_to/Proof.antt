@@ -55,7 +55,7 @@ rem-remainder : tie.Need-rem-remainder
 rem-remainder c = (c .pre .1 .0, defined c)
 
 magnitude-requires : tie.Need-magnitude-requires
-magnitude-requires c κs = omega (int, remainder-small c, ap natAbs (remainder c .is))
+magnitude-requires c κs = search needs
 
 mul-if1 : tie.Need-mul-if1
 mul-if1 c = omega (int, c .magnitude .ensures, remainder-small (c .before), ap natAbs (remainder (c .before) .is))

@@ -14,21 +14,21 @@ use Rattle.console.specs.laws.WrittenLaws.{put-then}
 use Rattle.console.proofs.decimal.put_signed.Statement.{statement}
 use Rattle.console.proofs.decimal.put_signed.Tie as tie
 
-size : (c : tie.After-any-magnitude) → c .any-magnitude .result ≡ natAbs (c .before .before .args .z)
+size : (c : tie.After-magnitude) → c .magnitude .result ≡ natAbs (c .before .before .args .z)
 size c = omega (int, known (c .before .before .fits .z))
 
-negative-text : (c : tie.Then1) → signedDecimal (c .before .before .before .args .z) ≡ minusSign ∷ decimal (c .before .any-magnitude .result)
+negative-text : (c : tie.Then1) → signedDecimal (c .before .before .before .args .z) ≡ minusSign ∷ decimal (c .before .magnitude .result)
 negative-text c =
     signed-negative (c .before .before .before .args .z) (omega (int, known (c .before .before .before .fits .z)))
     ∙ ap (λ (m : ℕ). minusSign ∷ decimal m) (sym (size (c .before)))
 
-positive-text : (c : tie.Else1) → signedDecimal (c .before .before .before .args .z) ≡ decimal (c .before .any-magnitude .result)
+positive-text : (c : tie.Else1) → signedDecimal (c .before .before .before .args .z) ≡ decimal (c .before .magnitude .result)
 positive-text c =
     signed-positive (c .before .before .before .args .z) (omega (int, known (c .before .before .before .fits .z)))
     ∙ ap decimal (sym (size (c .before)))
 
-any-magnitude-requires : tie.Need-any-magnitude-requires
-any-magnitude-requires c κs = search needs
+magnitude-requires : tie.Need-magnitude-requires
+magnitude-requires c κs = search needs
 
 put-byte-requires : tie.Need-put-byte-requires
 put-byte-requires c κs = omega (arith, ap length (negative-text (c .before)))
@@ -62,7 +62,7 @@ pub put-signed-spec : {M : Type 1} → statement M
 put-signed-spec =
     tie.close
     (tie.spec
-    any-magnitude-requires
+    magnitude-requires
     put-byte-requires
     put-decimal-requires
     same-length

@@ -9,8 +9,8 @@ use borrow.Author.Needs.{needs}
 use Rattle.replay.proofs.output.more_word.Statement.{statement}
 use Rattle.replay.proofs.output.more_word.Tie as tie
 
-any-magnitude-requires : tie.Need-any-magnitude-requires
-any-magnitude-requires c κs = search needs
+magnitude-requires : tie.Need-magnitude-requires
+magnitude-requires c κs = search needs
 
 mul-upper : tie.Need-mul-upper
 mul-upper c = search needs
@@ -32,7 +32,7 @@ unfolding moreWord
 returns c =
     let s = c .before .before .before .before in
     let z = toZ-ofZ w64 (s .args .z) (s .fits .z) in
-    let m = c .before .before .before .any-magnitude .ensures ∙ ap natAbs z in
+    let m = c .before .before .before .magnitude .ensures ∙ ap natAbs z in
     let g = c .before .before .sign .ensures .0 ∙ ap sign z in
     let u = ap₂ (λ (a b : ℕ). 2 * (a / 4294967296) + b) m g in
     (c .more2 .ensures .0 ∙ ap₂ more (c .before .more .ensures .0 ∙ ap (more (s .args .d)) u) (ap (λ (a : ℕ). a % 4294967296) m), c .more2 .ensures .1)
@@ -41,7 +41,7 @@ pub more-word-spec : {M : Type 1} → statement M
 more-word-spec =
     tie.close
     (tie.spec
-    any-magnitude-requires
+    magnitude-requires
     mul-upper
     sign-requires
     add-upper

@@ -1,8 +1,8 @@
 -- `natural` meets its contract: the parts of z, read by omega.
 use Rattle.integer.specs.laws.IntegerLaws.{int}
 use Rattle.integer.specs.Bits.{known}
-use Rattle.calendar.proofs.dates.natural.Statement.{statement}
-use Rattle.calendar.proofs.dates.natural.Tie as tie
+use Rattle.integer.proofs.natural.Statement.{statement}
+use Rattle.integer.proofs.natural.Tie as tie
 
 cast-result : tie.Need-cast-result
 cast-result c = omega (int, known (c .before .fits .z))
