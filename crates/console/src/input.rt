@@ -1,9 +1,10 @@
 // Document 01, "Program `settle`": its input, told from the bytes at hand.
+use integer::byte;
 use rulebook::Terms;
+use rulebook::file::number;
 ghost use mathlib.Core.Path.{_≡_};
 ghost use Prim.Native.Nat.{_+_, _≤_, _<_};
 ghost use lib.ListN.{length};
-ghost use Rattle.rulebook.specs.File.{num};
 ghost use Rattle.console.specs.Input.{openingBytes, openingTerms, longestItem, fileWhole, itemOf, wanted as Input·wanted};
 
 pub const OPENING: usize = 5;
@@ -25,21 +26,6 @@ pub enum Item {
     End,
 }
 
-// A byte.
-fn byte(x: u8) -> usize
-    ensures { λ r. ⌜ (r ≡ x) × (r < 256) ⌝ }
-{
-    x as usize
-}
-
-// The number that two bytes spell, the lower first.
-fn number_at(s: &[u8], at: usize) -> usize
-    requires { ⌜ at + 2 ≤ length (now s) ⌝ }
-    ensures { λ r. ⌜ (r ≡ num 2 (now (s .entry)) at) × (r < 65536) ⌝ }
-{
-    byte(s[at]) + 256 * byte(s[at + 1])
-}
-
 // The opening's arguments.
 pub fn opening_terms(s: &[u8]) -> Terms
     requires { ⌜ openingBytes ≤ length (now s) ⌝ }
@@ -49,7 +35,7 @@ pub fn opening_terms(s: &[u8]) -> Terms
         accounts: byte(s[0]),
         lag: byte(s[1]),
         horizon: byte(s[2]),
-        first: number_at(s, 3),
+        first: number(s, 3, 2),
     }
 }
 
@@ -60,7 +46,7 @@ fn file_whole(s: &[u8]) -> bool
     if s.len() < 3 {
         return false;
     }
-    let n = number_at(s, 1);
+    let n = number(s, 1, 2);
     (n <= LONGEST_FILE) & (3 + n <= s.len())
 }
 
@@ -79,7 +65,7 @@ pub fn item_of(s: &[u8]) -> Item
         return Item::Bad(0);
     }
     if file_whole(s) {
-        return Item::Submit(number_at(s, 1));
+        return Item::Submit(number(s, 1, 2));
     }
     Item::Bad(1)
 }
@@ -97,7 +83,7 @@ pub fn wanted(s: &[u8]) -> usize
     if s.len() < 3 {
         return 3;
     }
-    let n = number_at(s, 1);
+    let n = number(s, 1, 2);
     if LONGEST_FILE < n {
         return 3;
     }

@@ -1,10 +1,11 @@
 // Document 01, "A submission file": one field, its bytes in little-endian order, values in two's complement.
 use rulebook::Why;
+use rulebook::file::number;
 ghost use mathlib.Core.Path.{_≡_};
 ghost use Prim.Native.Nat.{_+_, _≤_, _<_};
 ghost use lib.ListN.{length};
 ghost use lib.Signed.{mag};
-ghost use Rattle.rulebook.specs.File.{num, signed32, valueAt};
+ghost use Rattle.rulebook.specs.File.{signed32, valueAt};
 ghost use Rattle.files.specs.Fields.{fieldAt, nextOf, fieldOutcome};
 
 // What stands at a position: a whole field, with the number that it spells and the position past it, or less than the field.
@@ -19,32 +20,11 @@ pub enum Outcome {
     Stopped(Why, usize),
 }
 
-// A byte, for a field's number.
-fn byte(x: u8) -> usize
-    ensures { λ r. ⌜ (r ≡ x) × (r < 256) ⌝ }
-{
-    x as usize
-}
-
 // A byte, for a value.
 fn wide(x: u8) -> u32
     ensures { λ r. ⌜ (r ≡ x) × (r < 256) ⌝ }
 {
     x as u32
-}
-
-// The number that n bytes spell; a field of no bytes is 0.
-pub fn number(s: &[u8], at: usize, n: usize) -> usize
-    requires { ⌜ (n ≤ 2) × (at + n ≤ length (now s)) ⌝ }
-    ensures { λ r. ⌜ (r ≡ num n (now (s .entry)) at) × (r < 65536) ⌝ }
-{
-    if n == 0 {
-        return 0;
-    }
-    if n == 1 {
-        return byte(s[at]);
-    }
-    byte(s[at]) + 256 * byte(s[at + 1])
 }
 
 // The field of n bytes at a position, wherever that is.

@@ -1,10 +1,10 @@
 // Document 01, "A submission file": where the fields of a row stand, the row at a position, what they say, and where the row ends. The judge has
 // the positions from here, and whoever reads an accepted file the fields too.
-use crate::fields::number;
 use crate::sections::account_bytes;
 use crate::sections::count_bytes;
 use crate::sections::per_interval;
 use rulebook::Section;
+use rulebook::file::number;
 use rulebook::units::INTERVALS;
 ghost use mathlib.Core.Path.{_≡_};
 ghost use Prim.Native.Nat.{_+_, _*_, _≤_, _<_, _^_};

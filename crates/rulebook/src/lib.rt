@@ -2,6 +2,7 @@
 // figures that the code has of it.
 pub mod units; // units.rt: days, intervals, ranges
 pub mod layout; // layout.rt: where each word of a book stands, widths
+pub mod file; // file.rt: the number that a field spells
 
 // What a value is, hence its range.
 pub enum Kind {

@@ -8,14 +8,14 @@ use Rattle.console.proofs.input.file_whole.Tie as tie
 returns : tie.Need-returns
 returns c = sym (whole-cut (c .before .before .args .s .now) (c .if1 .taken))
 
-number-at-requires : tie.Need-number-at-requires
-number-at-requires c κs = search needs
+number-requires : tie.Need-number-requires
+number-requires c κs = search needs
 
 add-result : tie.Need-add-result
 add-result c = search needs
 
 returns-2 : tie.Need-returns-2
-returns-2 c = rw (whole-is (c .before .before .before .args .s .now) (c .before .if1 .left), ← c .number-at .ensures .0)
+returns-2 c = rw (whole-is (c .before .before .before .args .s .now) (c .before .if1 .left), ← c .number .ensures .0)
 
 pub file-whole-spec : {M : Type 1} → statement M
-file-whole-spec = tie.close (tie.spec returns number-at-requires add-result returns-2)
+file-whole-spec = tie.close (tie.spec returns number-requires add-result returns-2)

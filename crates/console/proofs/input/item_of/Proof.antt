@@ -2,6 +2,7 @@
 use borrow.Author.Needs.{needs}
 use mathlib.Core.Path.{_≡_, sym, _∙_}
 use mathlib.Core.Bool.{true}
+use native.Mathlib.Omega.{arith}
 use Rattle.console.specs.Input.{fileWhole}
 use Rattle.console.specs.laws.InputLaws.{item-end, item-close, item-unknown, item-cut, item-submit, whole-length}
 use Rattle.console.proofs.input.item_of.Statement.{statement}
@@ -25,14 +26,14 @@ file-whole-requires c κs = search needs
 whole : (c : tie.Then4) → fileWhole (c .before .before .before .before .before .before .before .args .s .now) ≡ true
 whole c = sym (c .before .file-whole .ensures) ∙ c .if4 .taken
 
-number-at-requires : tie.Need-number-at-requires
-number-at-requires c κs = whole-length (c .before .before .before .before .before .before .before .args .s .now) (whole c)
+number-requires : tie.Need-number-requires
+number-requires c κs = (omega arith, whole-length (c .before .before .before .before .before .before .before .args .s .now) (whole c))
 
 returns-4 : tie.Need-returns-4
 returns-4 c =
     let w = c .before in
     let e = w .before .before .before .before .before in
-    rw (c .number-at .ensures .0) (sym (item-submit (e .before .before .args .s .now) (e .if1 .left) (w .before .before .if3 .left) (whole w)))
+    rw (c .number .ensures .0) (sym (item-submit (e .before .before .args .s .now) (e .if1 .left) (w .before .before .if3 .left) (whole w)))
 
 returns-5 : tie.Need-returns-5
 returns-5 c =
@@ -48,6 +49,6 @@ item-of-spec =
     returns-2
     returns-3
     file-whole-requires
-    number-at-requires
+    number-requires
     returns-4
     returns-5)

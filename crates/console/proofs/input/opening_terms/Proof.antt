@@ -21,8 +21,8 @@ shared-slice-read-byte-3 c = search needs
 byte-requires-3 : tie.Need-byte-requires-3
 byte-requires-3 c κs = search needs
 
-number-at-requires : tie.Need-number-at-requires
-number-at-requires c κs = search needs
+number-requires : tie.Need-number-requires
+number-requires c κs = search needs
 
 returns : tie.Need-returns
 returns c = cc
@@ -37,5 +37,5 @@ opening-terms-spec =
     byte-requires-2
     shared-slice-read-byte-3
     byte-requires-3
-    number-at-requires
+    number-requires
     returns)

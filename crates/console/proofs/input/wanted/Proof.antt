@@ -17,8 +17,8 @@ returns-2 c = let s = c .before .before .before .before .args .s .now in rw (wan
 returns-3 : tie.Need-returns-3
 returns-3 c = let e = c .before in let s = e .before .before .before .before .args .s .now in rw (wanted-length s (e .if2 .left) (c .if3 .taken)) (search needs)
 
-number-at-requires : tie.Need-number-at-requires
-number-at-requires c κs = search needs
+number-requires : tie.Need-number-requires
+number-requires c κs = search needs
 
 returns-4 : tie.Need-returns-4
 returns-4 c = let e = c .before .before .before in let s = e .before .before .before .before .args .s .now in rw (wanted-long s (e .if2 .left) (omega arith)) (search needs)
@@ -37,7 +37,7 @@ wanted-spec =
     shared-slice-read-if2
     returns-2
     returns-3
-    number-at-requires
+    number-requires
     returns-4
     add-result
     returns-5)

@@ -2,9 +2,9 @@
 use mathlib.Core.Path.{_≡_, refl}
 use native.Mathlib.Omega.{arith}
 use borrow.Author.Needs.{needs}
 use Rattle.rulebook.specs.File.{num}
-use Rattle.files.proofs.fields.number.Statement.{statement}
-use Rattle.files.proofs.fields.number.Tie as tie
+use Rattle.rulebook.proofs.file.number.Statement.{statement}
+use Rattle.rulebook.proofs.file.number.Tie as tie
 
 returns : tie.Need-returns
 unfolding num
