@@ -88,8 +88,7 @@ pub fn word() -> i64 {
 fn at_most(most: usize) -> usize
     ensures { λ r. ⌜ r ≤ most ⌝ }
 {
-    let n = number() as usize;
-    if n < most { n } else { most }
+    least(number() as usize, most)
 }
 
 // How many words of `space` are meant, from the first on.

@@ -13,13 +13,13 @@ use files::positions::rows_in;
 use files::positions::values_pos;
 use files::sections::per_interval;
 use integer::put_word;
+use integer::signed;
 use rulebook::Section;
 use rulebook::Terms;
 use rulebook::layout;
 use rulebook::units::INTERVALS;
 ghost use mathlib.Core.Path.{_≡_};
 ghost use Prim.Native.Nat.{_+_, _-_, _*_, _≤_, _^_, _<_};
-ghost use lib.IntN.{pos};
 ghost use lib.ListN.{length};
 ghost use Rattle.integer.specs.Below.{tabulate};
 ghost use Rattle.integer.specs.Words.{grid};
@@ -73,14 +73,6 @@ fn form_of(sec: Section, count: usize) -> Form
     }
 }
 
-// A flag as a word.
-fn flag_word(flag: usize) -> i64
-    requires { ⌜ flag < 2 ^ 63 ⌝ }
-    ensures { λ r. ⌜ r ≡ pos flag ⌝ }
-{
-    flag as i64
-}
-
 // Value k of the n values at a position, or the zero of an unused pair.
 fn value_or_zero(n: usize, file: &[u8], from: usize, k: usize) -> i64
     requires { ⌜ from + 4 * n ≤ length (now file) ⌝ }
@@ -102,7 +94,7 @@ fn word_about_flag(form: Form, file: &[u8], from: usize, j: usize) -> i64
         return value_or_zero(form.values, file, from, j);
     }
     if j == form.place {
-        return flag_word(form.flag);
+        return signed(form.flag as u64);
     }
     value_or_zero(form.values, file, from, j - 1)
 }
@@ -113,7 +105,7 @@ fn word_after_flag(form: Form, file: &[u8], from: usize, j: usize) -> i64
     ensures { λ r. ⌜ r ≡ wordFrom form (now (file .entry)) from j ⌝ }
 {
     if j == 0 {
-        return flag_word(form.flag);
+        return signed(form.flag as u64);
     }
     value_or_zero(form.values, file, from, j - 1)
 }

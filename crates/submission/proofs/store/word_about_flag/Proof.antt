@@ -19,15 +19,15 @@ returns c =
     let z : toZ w64 (ofZ w64 (c .value-or-zero .result)) ≡ c .value-or-zero .result = search needs in
     z ∙ rw (ne-eqb (g .j) (g .form .place) (λ e. omega arith), lt-ltb (g .j) (g .form .place) (c .before .if1 .taken)) (c .value-or-zero .ensures)
 
-flag-word-requires : tie.Need-flag-word-requires
-flag-word-requires c κs = search needs
+signed-requires : tie.Need-signed-requires
+signed-requires c κs = search needs
 
 returns-2 : tie.Need-returns-2
 unfolding wordFrom
 returns-2 c =
     let g = c .before .before .before .before .before .before .args in
-    let z : toZ w64 (ofZ w64 (c .flag-word .result)) ≡ c .flag-word .result = search needs in
-    z ∙ rw (eq-eqb (g .j) (g .form .place) (c .before .if2 .taken)) (c .flag-word .ensures)
+    let z : toZ w64 (ofZ w64 (c .signed .result)) ≡ c .signed .result = search needs in
+    z ∙ rw (eq-eqb (g .j) (g .form .place) (c .before .if2 .taken)) (c .signed .ensures)
 
 sub-value-or-zero : tie.Need-sub-value-or-zero
 sub-value-or-zero c = search needs
@@ -48,7 +48,7 @@ word-about-flag-spec =
     (tie.spec
     value-or-zero-requires
     returns
-    flag-word-requires
+    signed-requires
     returns-2
     sub-value-or-zero
     value-or-zero-requires-2

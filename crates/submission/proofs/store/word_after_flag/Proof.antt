@@ -9,15 +9,15 @@ use Rattle.submission.specs.Stored.{wordFrom}
 use Rattle.submission.proofs.store.word_after_flag.Statement.{statement}
 use Rattle.submission.proofs.store.word_after_flag.Tie as tie
 
-flag-word-requires : tie.Need-flag-word-requires
-flag-word-requires c κs = search needs
+signed-requires : tie.Need-signed-requires
+signed-requires c κs = search needs
 
 returns : tie.Need-returns
 unfolding wordFrom
 returns c =
     let s = c .before .before .before in
-    let z : toZ w64 (ofZ w64 (c .flag-word .result)) ≡ c .flag-word .result = search needs in
-    z ∙ rw (s .pre .0, eq-eqb (s .args .j) 0 (c .before .if1 .taken)) (c .flag-word .ensures)
+    let z : toZ w64 (ofZ w64 (c .signed .result)) ≡ c .signed .result = search needs in
+    z ∙ rw (s .pre .0, eq-eqb (s .args .j) 0 (c .before .if1 .taken)) (c .signed .ensures)
 
 sub-value-or-zero : tie.Need-sub-value-or-zero
 sub-value-or-zero c = search needs
@@ -35,4 +35,4 @@ returns-2 c =
 pub word-after-flag-spec : {M : Type 1} → statement M
 word-after-flag-spec =
     tie.close
-    (tie.spec flag-word-requires returns sub-value-or-zero value-or-zero-requires returns-2)
+    (tie.spec signed-requires returns sub-value-or-zero value-or-zero-requires returns-2)
