@@ -7,6 +7,7 @@ use answers::of_close;
 use answers::of_open;
 use answers::of_submit;
 use integer::word_at;
+use libc::STDOUT_FILENO;
 use rulebook::Answer;
 use rulebook::CloseAnswer;
 use rulebook::OpenAnswer;
@@ -126,4 +127,13 @@ pub fn bad_line(line: &mut [u8], position: u64) -> usize
     let a = put_text(line, 0, b"bad");
     let b = put_part(line, a, position);
     put_byte(line, b, b'\n')
+}
+
+// ---- Printed
+
+// Writes a line, the first bytes of those lent; false where that fails.
+pub fn print(line: &[u8], end: usize) -> bool
+    requires { ⌜ end ≤ length (now line) ⌝ }
+{
+    io::write_all(STDOUT_FILENO, &line[..end])
 }

@@ -2,6 +2,7 @@
 // A frame is a length of 2 bytes, little-endian, and so many bytes of an input. Its files stdin and stdout are what the second
 // implementation, reference/, generated.
 use console::lines::LINE_ROOM;
+use console::lines::print;
 use interpreter::BOOK_WORDS;
 use interpreter::Turn;
 use interpreter::begin;
@@ -47,13 +48,6 @@ fn item(book: &mut [i64], turn: Turn, s: &[u8], line: &mut [u8]) -> Turn
 {
     let from = turn.position as usize;
     perform(book, turn, &s[from..], line)
-}
-
-// Writes a line, the first bytes of those lent; false where that fails.
-fn print(line: &[u8], end: usize) -> bool
-    requires { ⌜ end ≤ length (now line) ⌝ }
-{
-    io::write_all(STDOUT_FILENO, &line[..end])
 }
 
 // An input on a new book.

@@ -4,12 +4,12 @@ use console::input::LONGEST_ITEM;
 use console::input::OPENING;
 use console::input::wanted;
 use console::lines::LINE_ROOM;
+use console::lines::print;
 use interpreter::BOOK_WORDS;
 use interpreter::Turn;
 use interpreter::begin;
 use interpreter::perform;
 use libc::STDIN_FILENO;
-use libc::STDOUT_FILENO;
 ghost use mathlib.Core.Path.{_≡_};
 ghost use Prim.Native.Nat.{_≤_, _<_, _^_};
 ghost use lib.ListN.{length, take};
@@ -38,13 +38,6 @@ fn read_item(bytes: &mut [u8]) -> usize
     let command = read_on(bytes, 0);
     let length = read_on(bytes, command);
     read_on(bytes, length)
-}
-
-// Writes a line, the first bytes of those lent; false where that fails.
-fn print(line: &[u8], end: usize) -> bool
-    requires { ⌜ end ≤ length (now line) ⌝ }
-{
-    io::write_all(STDOUT_FILENO, &line[..end])
 }
 
 // The next item.

@@ -2,8 +2,8 @@
 use mathlib.Core.Path.{sym}
 use lib.Seq.{length-take-le}
 use borrow.Author.Needs.{needs}
-use Rattle.replay_settle.proofs.print.Statement.{statement}
-use Rattle.replay_settle.proofs.print.Tie as tie
+use Rattle.console.proofs.lines.print.Statement.{statement}
+use Rattle.console.proofs.lines.print.Tie as tie
 
 slice-aggregate-write-all : tie.Need-slice-aggregate-write-all
 slice-aggregate-write-all c = sym (length-take-le _ _ (search needs))
