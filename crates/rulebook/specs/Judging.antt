@@ -63,7 +63,7 @@ whole n s at = require (leb (at + n) (length s)) NotWhole at
 abbrev pub numberIn : ℕ → ℕ → Why → ℕ → ℕ → Verdict
 numberIn low high why v at = require (leb low v) why at andThen require (leb v high) why at
 
--- a field of n bytes at `at`: whole, and so
+-- a field of n bytes at `at`: whole, and its number from low to high
 unfoldable pub fieldIn : ℕ → ℕ → ℕ → Why → List ℕ → ℕ → Verdict
 fieldIn n low high why s at = whole n s at andThen numberIn low high why (num n s at) at
 
