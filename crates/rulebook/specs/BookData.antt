@@ -6,9 +6,9 @@ use Rattle.integer.specs.Words.{word}
 use Rattle.rulebook.specs.declared.Section.{Section}
 use Rattle.rulebook.specs.declared.Section.the-variants.{Meter}
 use Rattle.rulebook.specs.declared.Terms.{Terms}
-use Rattle.rulebook.specs.Units.{positive, asQuantity}
+use Rattle.rulebook.specs.Units.{positive}
 use Rattle.rulebook.specs.DayAmount.{AccountData, SettlementData}
-use Rattle.rulebook.specs.Sections.{Figure, BVQ, BVP, TVQ, TVP, MEP, IEQ, UEGQ, MQ, RVP1, RVP2, NccLoad, figureSection}
+use Rattle.rulebook.specs.Sections.{Figure, figureSection, accountBy, loadBy}
 use Rattle.rulebook.specs.Layout.{accountsWord, lagWord, horizonWord, firstDayWord, nextDayWord, flagIndex, figureIndex, rowWord}
 
 abbrev pub termsOf : List ℤ → Terms
@@ -30,22 +30,10 @@ abbrev pub entryNamed : Entries → ℕ → ℕ → ℕ → Figure → ℤ
 entryNamed c a d i g = c (figureSection g) a d i (figureIndex g)
 
 abbrev pub accountDataOf : Entries → ℕ → ℕ → ℕ → AccountData
-accountDataOf c a d i = record {
-  bvq = asQuantity (entryNamed c a d i BVQ);
-  bvp = entryNamed c a d i BVP;
-  tvq = λ t. asQuantity (entryNamed c a d i (TVQ t));
-  tvp = λ t. entryNamed c a d i (TVP t);
-  facilities = positive (c Meter a d i (flagIndex Meter));
-  mep = λ f. entryNamed c a d i (MEP f);
-  ieq = λ f. entryNamed c a d i (IEQ f);
-  uegq = asQuantity (entryNamed c a d i UEGQ);
-  mq = asQuantity (entryNamed c a d i MQ);
-  rvp1 = entryNamed c a d i RVP1;
-  rvp2 = entryNamed c a d i RVP2;
-}
+accountDataOf c a d i = accountBy (entryNamed c a d i) (positive (c Meter a d i (flagIndex Meter)))
 
 abbrev pub dataOf : Entries → SettlementData
-dataOf c = record { account = accountDataOf c; load = λ d i. asQuantity (entryNamed c 0 d i NccLoad) }
+dataOf c = record { account = accountDataOf c; load = λ d i. loadBy (entryNamed c 0 d i) }
 
 -- a book's data
 abbrev pub bookData : Terms → List ℤ → SettlementData

@@ -5,20 +5,22 @@ use Prim.Native.Nat.{ℕ, _≤_, _<_}
 use lib.Dec.{T}
 use lib.IntN.{ℤ, natAbs, _+ℤ_}
 use Rattle.integer.specs.Words.{word}
-use Rattle.rulebook.specs.Units.{mostQuantity, mostLoad, mostPrice}
-use Rattle.rulebook.specs.DayAmount.{AccountData, SettlementData, residualDue, residualDay, postedAmount, msslAmount}
+use Rattle.rulebook.specs.Units.{intervals, mostQuantity, mostLoad, mostPrice}
+use Rattle.rulebook.specs.ReferencePrice.{mostFacilities}
+use Rattle.rulebook.specs.DayAmount.{AccountData, SettlementData, tenders, residualDue, residualDay, postedAmount, msslAmount}
 use Rattle.rulebook.specs.Layout.{balanceWord, msslWord}
 use Rattle.rulebook.specs.BookData.{bookData, termsOf, nextDay}
+use Rattle.rulebook.specs.WellFormed.{dayBound}
 
 -- an account's data in range
 pub record Sized (x : AccountData) : Type 0 where
   pub bvq : x .bvq ≤ mostQuantity
   pub bvp : natAbs (x .bvp) ≤ mostPrice
-  pub tvq : (t : ℕ) → t < 3 → x .tvq t ≤ mostQuantity
-  pub tvp : (t : ℕ) → t < 3 → natAbs (x .tvp t) ≤ mostPrice
-  pub few : x .facilities ≤ 4
-  pub mep : (f : ℕ) → f < 4 → natAbs (x .mep f) ≤ mostPrice
-  pub ieq : (f : ℕ) → f < 4 → natAbs (x .ieq f) ≤ mostQuantity
+  pub tvq : (t : ℕ) → t < tenders → x .tvq t ≤ mostQuantity
+  pub tvp : (t : ℕ) → t < tenders → natAbs (x .tvp t) ≤ mostPrice
+  pub few : x .facilities ≤ mostFacilities
+  pub mep : (f : ℕ) → f < mostFacilities → natAbs (x .mep f) ≤ mostPrice
+  pub ieq : (f : ℕ) → f < mostFacilities → natAbs (x .ieq f) ≤ mostQuantity
   pub uegq : x .uegq ≤ mostQuantity
   pub mq : x .mq ≤ mostQuantity
   pub rvp1 : natAbs (x .rvp1) ≤ mostPrice
@@ -26,16 +28,16 @@ pub record Sized (x : AccountData) : Type 0 where
 
 -- the accounts' data of day d are in range
 abbrev pub SizedDay : ℕ → SettlementData → ℕ → Type 0
-SizedDay n x d = (a i : ℕ) → a < n → i < 48 → Sized (x .account a d i)
+SizedDay n x d = (a i : ℕ) → a < n → i < intervals → Sized (x .account a d i)
 
 -- what a close of the book reads, posts and leaves
 pub record CloseSized (w : List ℤ) : Type 0 where
   -- the data of D, and where a residual is due those of r
   pub now : SizedDay (termsOf w .accounts) (bookData (termsOf w) w) (nextDay w)
   pub then : T (residualDue (termsOf w) (nextDay w)) → SizedDay (termsOf w .accounts) (bookData (termsOf w) w) (residualDay (termsOf w) (nextDay w))
-  pub loads : T (residualDue (termsOf w) (nextDay w)) → (i : ℕ) → i < 48 → bookData (termsOf w) w .load (residualDay (termsOf w) (nextDay w)) i ≤ mostLoad
+  pub loads : T (residualDue (termsOf w) (nextDay w)) → (i : ℕ) → i < intervals → bookData (termsOf w) w .load (residualDay (termsOf w) (nextDay w)) i ≤ mostLoad
   -- the posted amounts, and the MSSL's
-  pub posted : (a : ℕ) → a < termsOf w .accounts → natAbs (postedAmount (termsOf w) (bookData (termsOf w) w) a (nextDay w)) ≤ 4800000000000
+  pub posted : (a : ℕ) → a < termsOf w .accounts → natAbs (postedAmount (termsOf w) (bookData (termsOf w) w) a (nextDay w)) ≤ dayBound
   pub mssl : natAbs (msslAmount (termsOf w) (bookData (termsOf w) w) (nextDay w)) ≤ 153600000000000
   -- the grown balances
   pub balances : (a : ℕ) → a < termsOf w .accounts

@@ -3,7 +3,7 @@ use mathlib.Core.Path.{_≡_}
 use mathlib.Core.Logic.{_↔_}
 use mathlib.Core.Bool.{false}
 use mathlib.Core.List.{List}
-use Prim.Native.Nat.{_≤_}
+use Prim.Native.Nat.{suc, _≤_}
 use lib.Dec.{T}
 use lib.IntN.{ℤ}
 use lib.ListN.{length}
@@ -18,6 +18,6 @@ pub record CloseTable (w statement : List ℤ) : Type 0 where
   -- 3 exactly if the book is not well formed
   pub illFormed : (ofClose (closed w statement .answer) ≡ numbered notWellFormed 0) ↔ (wellFormed w ≡ false)
   -- else 9 exactly if C is 36,525
-  pub finished : T (wellFormed w) → (ofClose (closed w statement .answer) ≡ numbered bookFinished 0) ↔ (nextDay w ≡ 36525)
+  pub finished : T (wellFormed w) → (ofClose (closed w statement .answer) ≡ numbered bookFinished 0) ↔ (nextDay w ≡ suc lastDay)
   -- else 10 exactly if the statement has N words or fewer
   pub noRoom : T (wellFormed w) → nextDay w ≤ lastDay → (ofClose (closed w statement .answer) ≡ numbered outputTooShort 0) ↔ (length statement ≤ termsOf w .accounts)

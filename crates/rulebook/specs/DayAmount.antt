@@ -1,13 +1,13 @@
 -- Document 01, "Day amount": the data by name, and the formula over them. Assumes nothing.
 use mathlib.Core.Bool.{Bool, cond}
-use Prim.Native.Nat.{ℕ, _+_, _-_, _≤_, _<_, min}
+use Prim.Native.Nat.{ℕ, _+_, _-_}
 use lib.Dec.{leb}
 use lib.IntN.{ℤ, pos, negℤ, _+ℤ_, _-ℤ_, _*ℤ_}
 use Rattle.integer.specs.Below.{sumℕ, sumℤ}
 use Rattle.rulebook.specs.declared.Terms.{Terms}
-use Rattle.rulebook.specs.Units.{intervals, nearest, positive, thousandthsPerCent}
+use Rattle.rulebook.specs.Units.{intervals, nearest, thousandthsPerCent}
 use Rattle.rulebook.specs.ReferencePrice.{referencePrice}
-use Rattle.rulebook.specs.Shares.{shareOf}
+use Rattle.rulebook.specs.Shares.{share, ShareTotal}
 use Rattle.rulebook.specs.Tranches.{tranche1, tranche2}
 
 -- ---- Data
@@ -83,20 +83,17 @@ module _ (load n : ℕ) (x : ℕ → AccountData) where
   unfoldable pub residualLoad : ℤ
   residualLoad = residualOver load (hedgeTotal n x)
 
-  -- account a's share
+  -- account a's share of R
   unfoldable pub rvq : ℕ → ℕ
-  rvq a = shareOf residualLoad (spareGeneration n x) (x a .uegq)
+  rvq a = share residualLoad n (λ b. x b .uegq) a
 
   -- (RVP1 − V) × tranche 1 + (RVP2 − V) × tranche 2 of the share
   unfoldable pub residualAmount : ℕ → ℤ
   residualAmount a = shareAmount (x a) (referencePriceOf (x a)) (rvq a)
 
--- the shares of n accounts with these data, of an interval with this NCC load: at most the spare generation and the residual load, zero if
--- negative; short of the smaller by fewer kWh than there are accounts
-pub record IntervalShares (load n : ℕ) (x : ℕ → AccountData) : Type 0 where
-  pub spare : sumℕ n (rvq load n x) ≤ sumℕ n (λ a. x a .uegq)
-  pub residual : sumℕ n (rvq load n x) ≤ positive (residualLoad load n x)
-  pub short : 0 < n → min (sumℕ n (λ a. x a .uegq)) (positive (residualLoad load n x)) < sumℕ n (rvq load n x) + n
+-- what these shares total
+abbrev pub IntervalShares : ℕ → ℕ → (ℕ → AccountData) → Type 0
+IntervalShares load n x = ShareTotal (residualLoad load n x) n (λ b. x b .uegq)
 
 -- ---- The day
 

@@ -54,13 +54,16 @@ EachReported o (e ∷ past) = Reported o (e .call) (e .answer) past × EachRepor
 
 -- ---- The statement
 
+-- the counts that the closes returned are 48 N for each closed day but the first L: `-` stops at 0
+abbrev pub ResidualsCounted : Terms → List Event → Type 0
+ResidualsCounted o past = residualCounts past ≡ intervals * o .accounts * (closes past - o .lag)
+
 pub record Demand3 (o : Terms) (book : List ℤ) (past : List Event) : Type 0 where
   -- each balance is the sum of the account's formula amounts over the closed days
   pub balances : (a : ℕ) → a < o .accounts → word book (balanceWord a) ≡ formulaBalance o past a
   -- all balances and the MSSL's sum to zero
   pub total : sumℤ (o .accounts) (λ a. word book (balanceWord a)) +ℤ word book msslWord ≡ pos 0
-  -- the counts that the closes returned are 48 N for each closed day but the first L: `-` stops at 0
-  pub residuals : residualCounts past ≡ intervals * o .accounts * (closes past - o .lag)
+  pub residuals : ResidualsCounted o past
   pub reported : EachReported o past
 
 -- for every accepted opening, and every list of submit and close calls in the order made on the book that it left

@@ -7,12 +7,11 @@ use Prim.Native.Nat.{ℕ, suc, _+_}
 use lib.IntN.{ℤ, pos, _+ℤ_}
 use lib.Dec.{eqb}
 use Rattle.rulebook.specs.declared.Section.{Section}
-use Rattle.rulebook.specs.declared.Section.the-variants.{Vesting, Meter, Residual, Ncc}
+use Rattle.rulebook.specs.declared.Section.the-variants.{Meter}
 use Rattle.rulebook.specs.declared.Terms.{Terms}
-use Rattle.rulebook.specs.Units.{asQuantity}
 use Rattle.rulebook.specs.DayAmount.{AccountData, SettlementData, postedAmount}
-use Rattle.rulebook.specs.Sections.{sameSection}
-use Rattle.rulebook.specs.File.{Row, fileRows, Figure, BVQ, BVP, TVQ, TVP, MEP, IEQ, UEGQ, MQ, RVP1, RVP2, NccLoad, figureOf}
+use Rattle.rulebook.specs.Sections.{sameSection, figureSection, accountBy, loadBy}
+use Rattle.rulebook.specs.File.{Row, fileRows, Figure, figureOf}
 use Rattle.rulebook.specs.Numbers.{Answer, accepted}
 
 -- ---- Calls
@@ -100,23 +99,15 @@ abbrev pub countIn : Option Row → ℕ
 countIn none = 0
 countIn (some r) = r .count
 
+-- that of the row in force for account a and day d
+abbrev pub figureInForce : RowsInForce → ℕ → ℕ → ℕ → Figure → ℤ
+figureInForce rows a d i g = figureIn (rows (figureSection g) a d) i g
+
 abbrev pub accountInForce : RowsInForce → ℕ → ℕ → ℕ → AccountData
-accountInForce rows a d i = record {
-  bvq = asQuantity (figureIn (rows Vesting a d) i BVQ);
-  bvp = figureIn (rows Vesting a d) i BVP;
-  tvq = λ t. asQuantity (figureIn (rows Vesting a d) i (TVQ t));
-  tvp = λ t. figureIn (rows Vesting a d) i (TVP t);
-  facilities = countIn (rows Meter a d);
-  mep = λ f. figureIn (rows Meter a d) i (MEP f);
-  ieq = λ f. figureIn (rows Meter a d) i (IEQ f);
-  uegq = asQuantity (figureIn (rows Residual a d) i UEGQ);
-  mq = asQuantity (figureIn (rows Residual a d) i MQ);
-  rvp1 = figureIn (rows Residual a d) i RVP1;
-  rvp2 = figureIn (rows Residual a d) i RVP2;
-}
+accountInForce rows a d i = accountBy (figureInForce rows a d i) (countIn (rows Meter a d))
 
 abbrev pub dataInForce : RowsInForce → SettlementData
-dataInForce rows = record { account = accountInForce rows; load = λ d i. asQuantity (figureIn (rows Ncc 0 d) i NccLoad) }
+dataInForce rows = record { account = accountInForce rows; load = λ d i. loadBy (figureInForce rows 0 d i) }
 
 -- ---- Formula amounts
 

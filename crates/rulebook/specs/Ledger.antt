@@ -17,16 +17,16 @@ use Rattle.integer.specs.Words.{word}
 use Rattle.rulebook.specs.declared.Section.{Section}
 use Rattle.rulebook.specs.declared.Section.the-variants.{Vesting, Meter}
 use Rattle.rulebook.specs.declared.Terms.{Terms}
-use Rattle.rulebook.specs.Units.{lastDay}
+use Rattle.rulebook.specs.Units.{lastDay, intervals}
 use Rattle.rulebook.specs.Sections.{accountsOf, leastCount, mostCount, perInterval, valueInRange}
-use Rattle.rulebook.specs.Layout.{width, intervalSize, ring, size, InWindow, intervalWord, rowWord, padding, isPadding, intervalTable, accountTable, accountPlace, intervalWords, accountWords, markWord, accountsWord, lagWord, horizonWord, firstDayWord, nextDayWord, msslWord, balanceWord, balancePadding, headerPadding, headerPaddingWords, balancePaddingWords}
+use Rattle.rulebook.specs.Layout.{width, intervalSize, ring, size, InWindow, intervalWord, rowWord, padding, isPadding, intervalTable, accountTable, accountPlace, intervalWords, accountWords, bookMark, markWord, accountsWord, lagWord, horizonWord, firstDayWord, nextDayWord, msslWord, balanceWord, balancePadding, headerPadding, headerPaddingWords, balancePaddingWords}
 use Rattle.rulebook.specs.BookData.{Entries, termsOf, nextDay, entriesOf}
 use Rattle.rulebook.specs.WellFormed.{dayBound}
 use Rattle.rulebook.specs.WindowWalk.{windowSlot}
 use Rattle.rulebook.specs.File.{Row}
 use Rattle.rulebook.specs.Submit.{entry, entryOr}
-use Rattle.rulebook.specs.History.{Event, closes, RowsInForce, isFor, inForce, residualCounts, formulaBalance}
-use Rattle.rulebook.specs.Demand3.{EachReported}
+use Rattle.rulebook.specs.History.{Event, closes, RowsInForce, isFor, inForce, formulaBalance}
+use Rattle.rulebook.specs.Demand3.{ResidualsCounted, EachReported}
 
 -- a book told apart from its words: how many days are closed, what stands in each row by section, account, day, interval and place, and the balances in
 -- cents
@@ -80,7 +80,7 @@ pub data Padding (n : ℕ) : ℕ → Type 0 where
 pub record HoldsLedger (o : Terms) (b : Ledger) (w : List ℤ) : Type 0 where
   pub long : size o ≤ length w
   -- the header
-  pub mark : word w markWord ≡ pos 395
+  pub mark : word w markWord ≡ pos bookMark
   pub accounts : word w accountsWord ≡ pos (o .accounts)
   pub lag : word w lagWord ≡ pos (o .lag)
   pub horizon : word w horizonWord ≡ pos (o .horizon)
@@ -92,10 +92,10 @@ pub record HoldsLedger (o : Terms) (b : Ledger) (w : List ℤ) : Type 0 where
   pub balances : (a : ℕ) → a < o .accounts → word w (balanceWord a) ≡ b .balance a
   pub balanceZeros : (a j : ℕ) → a < o .accounts → j < balancePaddingWords → word w (balancePadding a j) ≡ pos 0
   -- the slots: each word of each row of a day of the window; the slots of no day yet, while fewer than L days are closed; padding
-  pub held : (s : Section) (a d i j : ℕ) → InWindow o (b .closed) d → a < accountsOf s (o .accounts) → i < 48 → j < width s
+  pub held : (s : Section) (a d i j : ℕ) → InWindow o (b .closed) d → a < accountsOf s (o .accounts) → i < intervals → j < width s
       → word w (rowWord o s a d i j) ≡ b .entries s a d i j
-  pub early : (u i m : ℕ) → b .closed + u < o .lag → i < 48 → m < intervalSize o → word w (intervalWord o (windowSlot o (b .closed) u) i m) ≡ pos 0
-  pub padding : (t i m : ℕ) → t < ring o → i < 48 → Padding (o .accounts) m → word w (intervalWord o t i m) ≡ pos 0
+  pub early : (u i m : ℕ) → b .closed + u < o .lag → i < intervals → m < intervalSize o → word w (intervalWord o (windowSlot o (b .closed) u) i m) ≡ pos 0
+  pub padding : (t i m : ℕ) → t < ring o → i < intervals → Padding (o .accounts) m → word w (intervalWord o t i m) ≡ pos 0
 
 -- the ledger that a book's own words tell
 abbrev pub ledgerOf : List ℤ → Ledger
@@ -107,7 +107,7 @@ ledgerOf w = record { closed = nextDay w - termsOf w .first; entries = entriesOf
 pub record RowRanged (row : Row) : Type 0 where
   pub least : leastCount (row .section) ≤ row .count
   pub most : row .count ≤ mostCount (row .section)
-  pub numbers : (i k : ℕ) → i < 48 → k < perInterval (row .section) (row .count)
+  pub numbers : (i k : ℕ) → i < intervals → k < perInterval (row .section) (row .count)
       → T (valueInRange (row .section) k (word (row .numbers) (i * perInterval (row .section) (row .count) + k)))
 
 -- k days are closed: each row in force is in range and of no day past the window, those of closed days are all there, and balances are bounded
@@ -125,5 +125,5 @@ pub record Kept (o : Terms) (k : ℕ) (rows : RowsInForce) (balance : ℕ → �
 pub record State (o : Terms) (past : List Event) (w : List ℤ) : Type 0 where
   pub holds : HoldsLedger o (ledgerAfter o past) w
   pub kept : Kept o (closes past) (inForce past) (formulaBalance o past)
-  pub counted : residualCounts past ≡ 48 * o .accounts * (closes past - o .lag)
+  pub counted : ResidualsCounted o past
   pub reported : EachReported o past

@@ -7,7 +7,9 @@ use Rattle.rulebook.specs.declared.Section.{Section}
 use Rattle.rulebook.specs.declared.Section.the-variants.{Vesting, Meter, Residual, Ncc}
 use Rattle.rulebook.specs.declared.Kind.{Kind}
 use Rattle.rulebook.specs.declared.Kind.the-variants.{Quantity, Price, Injection, Load}
-use Rattle.rulebook.specs.Units.{inRange}
+use Rattle.rulebook.specs.Units.{inRange, asQuantity}
+use Rattle.rulebook.specs.ReferencePrice.{mostFacilities}
+use Rattle.rulebook.specs.DayAmount.{AccountData, tenders}
 
 --            count                  its values of an interval
 --   vesting  0 to 3 tranches        BVQ, BVP, then TVQ, TVP pairs
@@ -21,8 +23,8 @@ leastCount Residual = 0
 leastCount Ncc = 0
 
 abbrev pub mostCount : Section → ℕ
-mostCount Vesting = 3
-mostCount Meter = 4
+mostCount Vesting = tenders
+mostCount Meter = mostFacilities
 mostCount Residual = 0
 mostCount Ncc = 0
 
@@ -93,3 +95,25 @@ figurePlace MQ = 1
 figurePlace RVP1 = 2
 figurePlace RVP2 = 3
 figurePlace NccLoad = 0
+
+-- ---- The day amount's data, by figures
+
+-- an account's at an interval, of what each figure is and of its facility count
+abbrev pub accountBy : (Figure → ℤ) → ℕ → AccountData
+accountBy figure facilities = record {
+  bvq = asQuantity (figure BVQ);
+  bvp = figure BVP;
+  tvq = λ t. asQuantity (figure (TVQ t));
+  tvp = λ t. figure (TVP t);
+  facilities = facilities;
+  mep = λ f. figure (MEP f);
+  ieq = λ f. figure (IEQ f);
+  uegq = asQuantity (figure UEGQ);
+  mq = asQuantity (figure MQ);
+  rvp1 = figure RVP1;
+  rvp2 = figure RVP2;
+}
+
+-- the interval's NCC load
+abbrev pub loadBy : (Figure → ℤ) → ℕ
+loadBy figure = asQuantity (figure NccLoad)

@@ -24,10 +24,10 @@ termsFit o = leb 1 (o .accounts) && leb (o .accounts) mostAccounts && leb 1 (o .
 -- the same, as inequalities
 pub record InTerms (o : Terms) : Type 0 where
   pub accountsFrom : 1 ≤ o .accounts
-  pub accountsTo : o .accounts ≤ 32
+  pub accountsTo : o .accounts ≤ mostAccounts
   pub lagFrom : 1 ≤ o .lag
-  pub lagTo : o .lag ≤ 75
+  pub lagTo : o .lag ≤ mostLag
   pub horizonFrom : 1 ≤ o .horizon
-  pub horizonTo : o .horizon ≤ 92
-  pub firstFrom : 9497 ≤ o .first
-  pub firstTo : o .first ≤ 36524
+  pub horizonTo : o .horizon ≤ mostHorizon
+  pub firstFrom : earliestFirstDay ≤ o .first
+  pub firstTo : o .first ≤ lastDay

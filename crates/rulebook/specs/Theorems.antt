@@ -13,7 +13,7 @@ use Rattle.integer.specs.laws.NearestLaws.{nearest-is}
 use Rattle.rulebook.specs.declared.Terms.{Terms}
 use Rattle.rulebook.specs.declared.Section.{Section}
 use Rattle.rulebook.specs.declared.Verdict.the-variants.{Accepted}
-use Rattle.rulebook.specs.Units.{lastDay, nearest}
+use Rattle.rulebook.specs.Units.{lastDay, intervals, nearest}
 use Rattle.rulebook.specs.Shares.{shareOf, ShareTotal, RuleShare}
 use Rattle.rulebook.specs.Tranches.{TrancheSplit}
 use Rattle.rulebook.specs.DayAmount.{AccountData, SettlementData, exactAmount, postedAmount, msslAmount, IntervalShares, msslExact}
@@ -101,7 +101,7 @@ pub record Theorems : Type 0 where
   pub closeKeeps : (w statement : List ℤ) → T (wellFormed w) → T (wellFormed (closed w statement .words))
   -- an accepted row replaces all it names: each word of each day of the window is the last row's, or as it was
   pub submitStores : (w : List ℤ) (file : List ℕ) → T (wellFormed w) → judged (limitsOf (termsOf w) (nextDay w)) file ≡ Accepted
-      → (s : Section) (a d i j : ℕ) → InWindow (termsOf w) (nextDay w - termsOf w .first) d → a < accountsOf s (termsOf w .accounts) → i < 48 → j < width s
+      → (s : Section) (a d i j : ℕ) → InWindow (termsOf w) (nextDay w - termsOf w .first) d → a < accountsOf s (termsOf w .accounts) → i < intervals → j < width s
       → word (submitted w file .words) (rowWord (termsOf w) s a d i j) ≡ entryOr (lastFor (fileRows file) s a d) (entriesOf (termsOf w) w s a d) i j
   -- every word that an accepted file or close leaves, by its index: what is replaced, what grows, what is blanked, and that all else is as it was; the close's
   -- statement, day and count

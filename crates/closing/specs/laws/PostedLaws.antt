@@ -8,7 +8,8 @@ use lib.IntN.{ℤ, pos}
 use Rattle.integer.specs.laws.BelowLaws.{sumℤ-cong}
 use Rattle.rulebook.specs.declared.Terms.{Terms}
 use Rattle.rulebook.specs.Units.{lastDay, nearest, intervals, thousandthsPerCent}
-use Rattle.rulebook.specs.DayAmount.{rvq, residualAmount, residualDue, residualDay, intervalAmount, exactAmount, postedAmount}
+use Rattle.rulebook.specs.Shares.{share}
+use Rattle.rulebook.specs.DayAmount.{spareGeneration, rvq, residualAmount, residualDue, residualDay, intervalAmount, exactAmount, postedAmount}
 use Rattle.rulebook.specs.BookData.{bookData, termsOf, nextDay}
 use Rattle.rulebook.specs.WellFormed.{wellFormed}
 use Rattle.rulebook.specs.Close.{posted}
@@ -42,7 +43,7 @@ module _ (o : Terms) (w : List ℤ) (a : ℕ) (ha : a < o .accounts) where
     -- the residual amount of the book's data is that of the slot's cell, R and S
     slot-residual : residualAmount (bookData o w .load d i) (o .accounts) (λ b. bookData o w .account b d i) a
         ≡ cellResidual (cellAt (o .accounts) (slotWords o w d) a i) (residualIn (residualsOf (o .accounts) (slotWords o w d)) i)
-    unfolding residualAmount rvq
+    unfolding residualAmount rvq share spareGeneration
     slot-residual =
         residual-same (bookData o w .load d i) (o .accounts) (λ b. bookData o w .account b d i) (dataIn interval) alike a ha
         ∙ ap (λ (l : ℕ). residualAmount l (o .accounts) (dataIn interval) a) (load-same o w d i hi)

@@ -9,6 +9,7 @@ use Rattle.integer.specs.laws.BelowLaws.{sumℤ-cong, sumℕ-cong}
 use Rattle.rulebook.specs.declared.Terms.{Terms}
 use Rattle.rulebook.specs.Units.{nearest}
 use Rattle.rulebook.specs.ReferencePrice.{referencePrice}
+use Rattle.rulebook.specs.Shares.{share}
 use Rattle.rulebook.specs.DayAmount.{AccountData, SettlementData, referencePriceOf, vestedQuantity, tenderAmount, vestingAmount, shareAmount, hedgeTotal, spareGeneration, residualLoad, rvq, residualAmount, residualDue, residualDay, intervalAmount, exactAmount, postedAmount}
 use Rattle.rulebook.specs.laws.ReferencePriceLaws.{price-cong}
 
@@ -61,7 +62,7 @@ module _ (load n : ℕ) (f g : ℕ → AccountData) (e : (b : ℕ) → b < n →
 
   module _ (a : ℕ) (ha : a < n) where
     rvq-same : rvq load n f a ≡ rvq load n g a
-    unfolding rvq
+    unfolding rvq share spareGeneration
     rvq-same = rw (residual-load-same, spare-same, e a ha .uegq)
 
     pub residual-same : residualAmount load n f a ≡ residualAmount load n g a

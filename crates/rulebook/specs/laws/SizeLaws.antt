@@ -14,6 +14,7 @@ use Rattle.rulebook.specs.declared.Terms.{Terms}
 use Rattle.rulebook.specs.Units.{mostQuantity, mostLoad, mostPrice, nearest, positive}
 use Rattle.rulebook.specs.ReferencePrice.{weight}
 use Rattle.rulebook.specs.Tranches.{tranche1, tranche2}
+use Rattle.rulebook.specs.Shares.{share}
 use Rattle.rulebook.specs.DayAmount.{AccountData, SettlementData, referencePriceOf, vestedQuantity, tenderAmount, vestingAmount, shareAmount, hedgeTotal, spareGeneration, residualLoad, rvq, residualAmount, residualDue, residualDay, intervalAmount, exactAmount, postedAmount}
 use Rattle.rulebook.specs.WellFormed.{dayBound}
 use Rattle.rulebook.specs.Bounds.{Sized, SizedDay}
@@ -136,7 +137,7 @@ module _ (load n : ℕ) (x : ℕ → AccountData) (h : (b : ℕ) → b < n → S
     share-product-size few l = mul-le-mul (residual-load-size few l .1) (h a la .uegq)
 
     pub rvq-size : rvq load n x a ≤ x a .uegq
-    unfolding rvq
+    unfolding rvq share spareGeneration
     rvq-size = share-cap (residualLoad load n x) (spareGeneration n x) (x a .uegq)
 
     pub residual-size : natAbs (residualAmount load n x a) ≤ 20000000000000
