@@ -12,7 +12,7 @@ ghost use lib.IntN.{pos};
 ghost use lib.ListN.{length, set};
 ghost use Rattle.integer.specs.Words.{word};
 ghost use Rattle.rulebook.specs.Terms.{termsFit, InTerms};
-ghost use Rattle.rulebook.specs.Layout.{size, stored};
+ghost use Rattle.rulebook.specs.Layout.{markWord, msslWord, size, stored};
 ghost use Rattle.rulebook.specs.Opening.{header, newBook};
 ghost use Rattle.rulebook.specs.Promises.{OpenPromise};
 
@@ -38,10 +38,10 @@ fn put_count(book: &mut [i64], i: usize, n: usize)
     put_word(book, i, n as i64);
 }
 
-// 395, N, L, H, F, C = F.
+// 395, N, L, H, F, C = F: the words before the MSSL's balance.
 fn put_header(book: &mut [i64], terms: Terms)
-    requires { ⌜ InTerms terms × (6 ≤ length (now book)) ⌝ }
-    ensures { λ _. ⌜ now (book .exit) ≡ stored (now (book .entry)) 0 6 (word (header terms)) ⌝ }
+    requires { ⌜ InTerms terms × (msslWord ≤ length (now book)) ⌝ }
+    ensures { λ _. ⌜ now (book .exit) ≡ stored (now (book .entry)) markWord msslWord (word (header terms)) ⌝ }
 {
     put_count(book, layout::MARK, layout::BOOK_MARK);
     put_count(book, layout::ACCOUNTS, terms.accounts);

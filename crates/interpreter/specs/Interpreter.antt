@@ -8,6 +8,7 @@ use lib.IntN.{ℤ, pos}
 use lib.ListN.{length, take, drop, replicate}
 use Rattle.integer.specs.Words.{part}
 use Rattle.rulebook.specs.declared.Terms.{Terms}
+pub use Rattle.rulebook.specs.Shares.{mostAccounts}
 use Rattle.rulebook.specs.Opening.{Opening, opened}
 use Rattle.rulebook.specs.Submit.{submitted}
 use Rattle.rulebook.specs.Close.{closed}
@@ -47,7 +48,7 @@ beginning book s =
 
 -- a lent statement with room for every book's
 abbrev pub newStatement : List ℤ
-newStatement = replicate 33 (pos 0)
+newStatement = replicate (suc mostAccounts) (pos 0)
 
 -- the item at a position; s is the input from there on
 unfoldable pub turnOf : ℕ → ℕ → List ℤ → List ℕ → Item → Turn
@@ -97,7 +98,7 @@ pub record Hands (from : ℕ) (s : List ℕ) (t : Turn) (line : List ℕ) (r : C
   pub counted : r .accounts ≡ t .accounts
   pub placed : r .position ≡ t .position
   pub goesOn : r .more ≡ t .more
-  pub few : r .accounts ≤ 32
+  pub few : r .accounts ≤ mostAccounts
   pub further : from < r .position
   pub within : r .more ≡ true → r .position ≤ from + length s
 

@@ -12,6 +12,7 @@ use console::lines::bad_line;
 use console::lines::close_line;
 use console::lines::open_line;
 use console::lines::submit_line;
+use rulebook::units::MOST_ACCOUNTS;
 use submission::submit::submit;
 ghost use mathlib.Core.Path.{_≡_};
 ghost use Prim.Native.Nat.{_+_, _≤_, _<_, _^_};
@@ -22,10 +23,13 @@ ghost use Rattle.rulebook.specs.Close.{closed};
 ghost use Rattle.rulebook.specs.Numbers.{ofSubmit, ofClose};
 ghost use Rattle.console.specs.Lines.{submitLine, closeLine, lineRoom};
 ghost use Rattle.console.specs.Written.{Put};
-ghost use Rattle.interpreter.specs.Interpreter.{newStatement, Begins, Performs};
+ghost use Rattle.interpreter.specs.Interpreter.{mostAccounts, newStatement, Begins, Performs};
 
 // The words of the program's book.
 pub const BOOK_WORDS: usize = 5072;
+
+// The words of a statement with room for every book's: an amount an account, and the MSSL's.
+const STATEMENT_WORDS: usize = MOST_ACCOUNTS + 1;
 
 // What an opening or an item hands to the next: its line's length, how many accounts the book has, where the next item stands in the input, and
 // whether the input is read on.
@@ -81,10 +85,10 @@ fn submit_file(book: &mut [i64], s: &[u8], n: usize, line: &mut [u8]) -> usize
 
 // A close; the amounts are those of the accounts and the MSSL's.
 fn close_next(book: &mut [i64], accounts: usize, line: &mut [u8]) -> usize
-    requires { ⌜ (accounts ≤ 32) × (lineRoom ≤ length (now line)) ⌝ }
+    requires { ⌜ (accounts ≤ mostAccounts) × (lineRoom ≤ length (now line)) ⌝ }
     ensures { λ end. ⌜ (now (book .exit) ≡ closed (now (book .entry)) newStatement .words) × Put (now (line .entry)) 0 (closeLine (ofClose (closed (now (book .entry)) newStatement .answer)) (take (accounts + 1) (closed (now (book .entry)) newStatement .statement))) (now (line .exit)) end ⌝ }
 {
-    let mut statement = [0i64; 33];
+    let mut statement = [0i64; STATEMENT_WORDS];
     let answer = close(book, &mut statement);
     let stop = accounts + 1;
     close_line(line, answer, &statement[..stop])
@@ -92,7 +96,7 @@ fn close_next(book: &mut [i64], accounts: usize, line: &mut [u8]) -> usize
 
 // The item that the last turn named; s is the input from its position on, at least as far as the item goes.
 pub fn perform(book: &mut [i64], turn: Turn, s: &[u8], line: &mut [u8]) -> Turn
-    requires { ⌜ (turn .accounts ≤ 32) × (turn .position < 2 ^ 63) × (lineRoom ≤ length (now line)) ⌝ }
+    requires { ⌜ (turn .accounts ≤ mostAccounts) × (turn .position < 2 ^ 63) × (lineRoom ≤ length (now line)) ⌝ }
     ensures { λ r. ⌜ Performs (turn .accounts) (turn .position) (now (book .entry)) (now (s .entry)) (now (line .entry)) r (now (book .exit)) (now (line .exit)) ⌝ }
 {
     let accounts = turn.accounts;

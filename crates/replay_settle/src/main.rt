@@ -13,7 +13,7 @@ ghost use mathlib.Core.Path.{_≡_};
 ghost use Prim.Native.Nat.{_≤_, _<_};
 ghost use lib.ListN.{length, drop};
 ghost use Rattle.console.specs.Lines.{lineRoom};
-ghost use Rattle.interpreter.specs.Interpreter.{newWords, Performs};
+ghost use Rattle.interpreter.specs.Interpreter.{mostAccounts, newWords, Performs};
 ghost use Rattle.interpreter.specs.Running.{RestOf, Leaves};
 
 // The longest input.
@@ -43,7 +43,7 @@ fn fill(space: &mut [u8], n: usize) -> usize
 
 // The item that the last turn named, of an input in memory: what `printedFrom` says of it.
 fn item(book: &mut [i64], turn: Turn, s: &[u8], line: &mut [u8]) -> Turn
-    requires { ⌜ (turn .accounts ≤ 32) × (turn .position ≤ length (now s)) × (length (now s) ≤ 40000) × (lineRoom ≤ length (now line)) ⌝ }
+    requires { ⌜ (turn .accounts ≤ mostAccounts) × (turn .position ≤ length (now s)) × (length (now s) ≤ 40000) × (lineRoom ≤ length (now line)) ⌝ }
     ensures { λ r. ⌜ Performs (turn .accounts) (turn .position) (now (book .entry)) (drop (turn .position) (now (s .entry))) (now (line .entry)) r (now (book .exit)) (now (line .exit)) ⌝ }
 {
     let from = turn.position as usize;

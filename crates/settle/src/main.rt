@@ -15,7 +15,7 @@ ghost use Prim.Native.Nat.{_≤_, _<_, _^_};
 ghost use lib.ListN.{length, take};
 ghost use Rattle.console.specs.Input.{openingBytes, longestItem, itemBytes, WithinItem};
 ghost use Rattle.console.specs.Lines.{lineRoom};
-ghost use Rattle.interpreter.specs.Interpreter.{newWords};
+ghost use Rattle.interpreter.specs.Interpreter.{mostAccounts, newWords};
 ghost use Rattle.interpreter.specs.Running.{SomeItem, Steps, Runs};
 
 // More positions than any input has (`farthest`): a proved loop has to end.
@@ -42,7 +42,7 @@ fn read_item(bytes: &mut [u8]) -> usize
 
 // The next item.
 fn step(book: &mut [i64], turn: Turn, bytes: &mut [u8], line: &mut [u8]) -> Turn
-    requires { ⌜ (turn .accounts ≤ 32) × (turn .position < 2 ^ 63) × (longestItem ≤ length (now bytes)) × (lineRoom ≤ length (now line)) ⌝ }
+    requires { ⌜ (turn .accounts ≤ mostAccounts) × (turn .position < 2 ^ 63) × (longestItem ≤ length (now bytes)) × (lineRoom ≤ length (now line)) ⌝ }
     ensures { λ r. ⌜ Steps SomeItem (turn .accounts) (turn .position) (now (book .entry)) (now (line .entry)) r (now (book .exit)) (now (line .exit)) ⌝ }
 {
     let got = read_item(bytes);
