@@ -3,18 +3,19 @@ use mathlib.Core.Path.{_≡_}
 use mathlib.Core.Bool.{true}
 use mathlib.Core.List.{List}
 use Prim.Native.Nat.{ℕ, _+_, _*_, _≤_, _<_}
-use lib.IntN.{ℤ, natAbs}
+use lib.IntN.{ℤ}
 use lib.ListN.{length}
 use Rattle.integer.specs.Words.{word}
 use Rattle.rulebook.specs.declared.Kind.the-variants.{Quantity}
 use Rattle.rulebook.specs.declared.Section.the-variants.{Meter}
-use Rattle.rulebook.specs.Units.{positive, asQuantity, inRange, mostQuantity, mostPrice}
-use Rattle.rulebook.specs.ReferencePrice.{mostFacilities}
+use Rattle.rulebook.specs.Units.{positive, asQuantity, inRange}
 use Rattle.rulebook.specs.Sections.{BVQ, BVP, TVQ, TVP, MEP, IEQ, UEGQ, MQ, RVP1, RVP2}
 use Rattle.rulebook.specs.Layout.{accountWords, flagAt, figureAt}
 use Rattle.rulebook.specs.DayAmount.{AccountData, tenders}
+use Rattle.rulebook.specs.Bounds.{Sized}
 
--- the data of a cell
+-- the data of a cell: not cited from `accountBy`, as the code finds the words of tender or facility t 2t words after the first, for which
+-- `figureAt` searches the table
 abbrev pub cellData : List ℤ → AccountData
 cellData c = record {
   bvq = asQuantity (word c (figureAt BVQ));
@@ -30,18 +31,12 @@ cellData c = record {
   rvp2 = word c (figureAt RVP2);
 }
 
--- a cell in range, with a meter row
-pub record Ranged (c : List ℤ) : Type 0 where
+-- a cell in range, with a meter row; no quantity is negative
+pub record RangedCell (c : List ℤ) : Type 0 where
   pub whole : length c ≡ accountWords
+  pub sized : Sized (cellData c)
+  pub some : 1 ≤ cellData c .facilities
   pub bvq : inRange Quantity (word c (figureAt BVQ)) ≡ true
-  pub bvp : natAbs (word c (figureAt BVP)) ≤ mostPrice
   pub tvq : (t : ℕ) → t < tenders → inRange Quantity (word c (figureAt (TVQ 0) + 2 * t)) ≡ true
-  pub tvp : (t : ℕ) → t < tenders → natAbs (word c (figureAt (TVP 0) + 2 * t)) ≤ mostPrice
-  pub some : 1 ≤ positive (word c (flagAt Meter))
-  pub few : positive (word c (flagAt Meter)) ≤ mostFacilities
-  pub mep : (f : ℕ) → f < mostFacilities → natAbs (word c (figureAt (MEP 0) + 2 * f)) ≤ mostPrice
-  pub ieq : (f : ℕ) → f < mostFacilities → natAbs (word c (figureAt (IEQ 0) + 2 * f)) ≤ mostQuantity
   pub uegq : inRange Quantity (word c (figureAt UEGQ)) ≡ true
   pub mq : inRange Quantity (word c (figureAt MQ)) ≡ true
-  pub rvp1 : natAbs (word c (figureAt RVP1)) ≤ mostPrice
-  pub rvp2 : natAbs (word c (figureAt RVP2)) ≤ mostPrice

@@ -2,28 +2,24 @@
 use mathlib.Core.Path.{_≡_}
 use mathlib.Core.Bool.{Bool, true, cond}
 use mathlib.Core.List.{List}
-use Prim.Native.Nat.{ℕ, _+_, _*_, _≤_, _<_}
+use Prim.Native.Nat.{ℕ, _≤_, _<_}
 use lib.IntN.{ℤ, pos, natAbs, _+ℤ_}
 use lib.ListN.{length, getD, replicate}
 use Rattle.integer.specs.Below.{sumℤ, tabulate}
-use Rattle.integer.specs.Words.{part, word}
+use Rattle.integer.specs.Words.{word}
 use Rattle.rulebook.specs.Shares.{leastResidual, shareOf}
-use Rattle.rulebook.specs.Units.{intervals, nearest, thousandthsPerCent}
-use Rattle.rulebook.specs.DayAmount.{referencePriceOf, vestingAmount, shareAmount, residualLoad, spareGeneration}
-use Rattle.rulebook.specs.Layout.{intervalWords, accountWords, intervalLength, slotLength}
+use Rattle.rulebook.specs.Units.{intervals}
+use Rattle.rulebook.specs.DayAmount.{referencePriceOf, vestingAmount, shareAmount, inCents}
+use Rattle.rulebook.specs.Layout.{slotLength, intervalOf, cellOf}
 use Rattle.amounts.specs.declared.interval.Residual.{Residual}
 use Rattle.amounts.specs.declared.day.Residuals.{Residuals}
 use Rattle.amounts.specs.declared.total.DayTotal.{DayTotal}
 use Rattle.amounts.specs.Cell.{cellData}
-use Rattle.amounts.specs.Interval.{IntervalRanged, loadIn, dataIn}
-
--- interval i of a slot of n accounts
-abbrev pub intervalOf : ℕ → List ℤ → ℕ → List ℤ
-intervalOf n x i = part x (i * intervalLength n) (intervalLength n)
+use Rattle.amounts.specs.Interval.{IntervalRanged, residualAt}
 
 -- account a's cell at interval i
 abbrev pub cellAt : ℕ → List ℤ → ℕ → ℕ → List ℤ
-cellAt n x a i = part x (i * intervalLength n + (intervalWords + a * accountWords)) accountWords
+cellAt n x a i = cellOf (intervalOf n x i) a
 
 pub record SlotRanged (n : ℕ) (x : List ℤ) : Type 0 where
   pub whole : length x ≡ slotLength n
@@ -32,8 +28,8 @@ pub record SlotRanged (n : ℕ) (x : List ℤ) : Type 0 where
 -- R and S of each interval
 unfoldable pub residualsOf : ℕ → List ℤ → Residuals
 residualsOf n x = record {
-  loads = tabulate intervals (λ i. residualLoad (loadIn (intervalOf n x i)) n (dataIn (intervalOf n x i)));
-  spares = tabulate intervals (λ i. spareGeneration n (dataIn (intervalOf n x i)));
+  loads = tabulate intervals (λ i. residualAt n (intervalOf n x i) .load);
+  spares = tabulate intervals (λ i. residualAt n (intervalOf n x i) .spare);
 }
 
 -- none, where no residual is due
@@ -69,4 +65,4 @@ totalTo n today then due rs a k = record { thousandths = sumℤ k (slotAmount n 
 
 -- the posted amount of two slots
 unfoldable pub slotPosted : ℕ → List ℤ → List ℤ → Bool → Residuals → ℕ → ℤ
-slotPosted n today then due rs a = nearest (sumℤ intervals (slotAmount n today then due rs a)) thousandthsPerCent
+slotPosted n today then due rs a = inCents (totalTo n today then due rs a intervals .thousandths)

@@ -5,30 +5,27 @@ use mathlib.Core.List.{List}
 use Prim.Native.Nat.{ℕ, _+_, _-_, _*_, _≤_, _<_}
 use lib.IntN.{ℤ}
 use lib.ListN.{length}
-use Rattle.integer.specs.Words.{word, part}
+use Rattle.integer.specs.Words.{word}
 use Rattle.rulebook.specs.declared.Kind.the-variants.{Load}
-use Rattle.rulebook.specs.Units.{asQuantity, inRange, mostQuantity}
+use Rattle.rulebook.specs.Units.{inRange, mostQuantity}
 use Rattle.rulebook.specs.Shares.{mostAccounts}
-use Rattle.rulebook.specs.Sections.{NccLoad}
+use Rattle.rulebook.specs.Sections.{NccLoad, loadBy}
 use Rattle.rulebook.specs.DayAmount.{AccountData, tenders, vestedQuantity, hedgeTotal, spareGeneration, residualLoad}
-use Rattle.rulebook.specs.Layout.{intervalWords, accountWords, intervalLength, figureAt}
+use Rattle.rulebook.specs.Layout.{intervalLength, cellOf, figureAt}
 use Rattle.amounts.specs.declared.interval.Totals.{Totals}
 use Rattle.amounts.specs.declared.interval.Residual.{Residual}
-use Rattle.amounts.specs.Cell.{cellData, Ranged}
+use Rattle.amounts.specs.Cell.{cellData, RangedCell}
 
 -- ---- An interval of n accounts: its own words, then the cells
-
-abbrev pub cellOf : List ℤ → ℕ → List ℤ
-cellOf x a = part x (intervalWords + a * accountWords) accountWords
 
 pub record IntervalRanged (n : ℕ) (x : List ℤ) : Type 0 where
   pub whole : length x ≡ intervalLength n
   pub load : inRange Load (word x (figureAt NccLoad)) ≡ true
-  pub cells : (a : ℕ) → a < n → Ranged (cellOf x a)
+  pub cells : (a : ℕ) → a < n → RangedCell (cellOf x a)
 
 -- its NCC load, and the accounts' data
 abbrev pub loadIn : List ℤ → ℕ
-loadIn x = asQuantity (word x (figureAt NccLoad))
+loadIn x = loadBy (λ g. word x (figureAt g))
 
 abbrev pub dataIn : List ℤ → ℕ → AccountData
 dataIn x b = cellData (cellOf x b)

@@ -29,7 +29,7 @@ ghost use Rattle.rulebook.specs.Units.{mostPrice, mostQuantity};
 ghost use Rattle.rulebook.specs.Shares.{leastResidual, shareOf};
 ghost use Rattle.rulebook.specs.DayAmount.{tenders, referencePriceOf, vestedQuantity, tenderAmount, vestingAmount, shareAmount};
 ghost use Rattle.rules.specs.PriceSums.{sumsOf};
-ghost use Rattle.amounts.specs.Cell.{cellData, Ranged};
+ghost use Rattle.amounts.specs.Cell.{cellData, RangedCell};
 
 // (price - V) × quantity.
 fn priced(price: i64, v: i64, quantity: u64) -> i64
@@ -49,7 +49,7 @@ fn priced_at(c: &[i64], at: usize, v: i64, quantity: u64) -> i64
 
 // How many facilities the cell has: its meter row's flag.
 fn facilities_of(c: &[i64]) -> usize
-    requires { ⌜ Ranged (now c) ⌝ }
+    requires { ⌜ RangedCell (now c) ⌝ }
     ensures { λ r. ⌜ r ≡ cellData (now (c .entry)) .facilities ⌝ }
 {
     word_at(c, METER_FLAG) as usize
@@ -57,7 +57,7 @@ fn facilities_of(c: &[i64]) -> usize
 
 // The sums of the cell's facilities, of which V is the average.
 fn sums_of(c: &[i64]) -> Sums
-    requires { ⌜ Ranged (now c) ⌝ }
+    requires { ⌜ RangedCell (now c) ⌝ }
     ensures { λ r. ⌜ r ≡ sumsOf (cellData (now (c .entry)) .facilities) (cellData (now (c .entry)) .mep) (cellData (now (c .entry)) .ieq) ⌝ }
 {
     let mut sums = Sums {
@@ -74,7 +74,7 @@ fn sums_of(c: &[i64]) -> Sums
 
 // V.
 pub fn reference_price(c: &[i64]) -> i64
-    requires { ⌜ Ranged (now c) ⌝ }
+    requires { ⌜ RangedCell (now c) ⌝ }
     ensures { λ r. ⌜ r ≡ referencePriceOf (cellData (now (c .entry))) ⌝ }
 {
     price_of(sums_of(c))
@@ -82,7 +82,7 @@ pub fn reference_price(c: &[i64]) -> i64
 
 // BVQ and all TVQ.
 pub fn vested_quantity(c: &[i64]) -> u64
-    requires { ⌜ Ranged (now c) ⌝ }
+    requires { ⌜ RangedCell (now c) ⌝ }
     ensures { λ r. ⌜ (r ≡ vestedQuantity (cellData (now (c .entry)))) × (r ≤ (1 + tenders) * mostQuantity) ⌝ }
 {
     let mut total = quantity_at(c, BVQ);
@@ -94,7 +94,7 @@ pub fn vested_quantity(c: &[i64]) -> u64
 
 // Σ (TVP - V) × TVQ.
 fn tender_amount(c: &[i64], v: i64) -> i64
-    requires { ⌜ Ranged (now c) × (natAbs v ≤ mostPrice) ⌝ }
+    requires { ⌜ RangedCell (now c) × (natAbs v ≤ mostPrice) ⌝ }
     ensures { λ r. ⌜ r ≡ tenderAmount (cellData (now (c .entry))) v ⌝ }
 {
     let mut total: i64 = 0;
@@ -108,7 +108,7 @@ fn tender_amount(c: &[i64], v: i64) -> i64
 
 // (BVP - V) × BVQ + Σ (TVP - V) × TVQ.
 pub fn vesting_amount(c: &[i64]) -> i64
-    requires { ⌜ Ranged (now c) ⌝ }
+    requires { ⌜ RangedCell (now c) ⌝ }
     ensures { λ r. ⌜ r ≡ vestingAmount (cellData (now (c .entry))) ⌝ }
 {
     let v = reference_price(c);
@@ -118,7 +118,7 @@ pub fn vesting_amount(c: &[i64]) -> i64
 
 // UEGQ.
 pub fn spare_generation(c: &[i64]) -> u64
-    requires { ⌜ Ranged (now c) ⌝ }
+    requires { ⌜ RangedCell (now c) ⌝ }
     ensures { λ r. ⌜ (r ≡ cellData (now (c .entry)) .uegq) × (r ≤ mostQuantity) ⌝ }
 {
     quantity_at(c, UEGQ)
@@ -126,7 +126,7 @@ pub fn spare_generation(c: &[i64]) -> u64
 
 // (RVP1 - V) × tranche 1 + (RVP2 - V) × tranche 2, of V = v, R = r and S = s.
 pub fn residual_amount(c: &[i64], v: i64, r: i64, s: u64) -> i64
-    requires { ⌜ Ranged (now c) × (natAbs v ≤ mostPrice) × (natAbs r ≤ leastResidual) ⌝ }
+    requires { ⌜ RangedCell (now c) × (natAbs v ≤ mostPrice) × (natAbs r ≤ leastResidual) ⌝ }
     ensures { λ z. ⌜ z ≡ shareAmount (cellData (now (c .entry))) v (shareOf r s (cellData (now (c .entry)) .uegq)) ⌝ }
 {
     let share = share_of(r, s, spare_generation(c));

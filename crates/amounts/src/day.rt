@@ -9,7 +9,7 @@ use crate::total::absorb;
 use integer::add;
 use integer::nearest_to;
 use rulebook::layout::ACCOUNT_WORDS;
-use rulebook::layout::INTERVAL_WORDS;
+use rulebook::layout::cell_place;
 use rulebook::layout::interval_length;
 use rulebook::units::INTERVALS;
 use rulebook::units::THOUSANDTHS_PER_CENT;
@@ -19,7 +19,7 @@ ghost use Prim.Native.Nat.{_≤_, _<_};
 ghost use lib.IntN.{natAbs};
 ghost use Rattle.rulebook.specs.Units.{intervals};
 ghost use Rattle.rulebook.specs.Shares.{mostAccounts, leastResidual};
-ghost use Rattle.amounts.specs.Cell.{Ranged};
+ghost use Rattle.amounts.specs.Cell.{RangedCell};
 ghost use Rattle.amounts.specs.Day.{SlotRanged, DaysRanged, residualsOf, noResiduals, residualIn, amountAt, slotAmount, totalTo, slotPosted};
 
 // R and S of a day's 48 intervals.
@@ -84,7 +84,7 @@ fn residual_at(residuals: Residuals, h: usize) -> Residual
 
 // One account at one interval: vesting of today's cell and, where a residual is due, that of then's with V of then.
 fn interval_amount(today: &[i64], then: &[i64], due: bool, r: Residual) -> i64
-    requires { ⌜ Ranged (now today) × (due ≡ true → Ranged (now then)) × (natAbs (r .load) ≤ leastResidual) ⌝ }
+    requires { ⌜ RangedCell (now today) × (due ≡ true → RangedCell (now then)) × (natAbs (r .load) ≤ leastResidual) ⌝ }
     ensures { λ z. ⌜ z ≡ amountAt (now (today .entry)) (now (then .entry)) due r ⌝ }
 {
     let vesting = vesting_amount(today);
@@ -109,7 +109,7 @@ fn amount_at(
     requires { ⌜ DaysRanged n (now today) (now then) due residuals × (n ≤ mostAccounts) × (a < n) × (h < intervals) ⌝ }
     ensures { λ r. ⌜ r ≡ slotAmount n (now (today .entry)) (now (then .entry)) due residuals a h ⌝ }
 {
-    let i = h * interval_length(n) + (INTERVAL_WORDS + a * ACCOUNT_WORDS);
+    let i = h * interval_length(n) + cell_place(a);
     let e = i + ACCOUNT_WORDS;
     interval_amount(&today[i..e], &then[i..e], due, residual_at(residuals, h))
 }

@@ -4,14 +4,14 @@ use crate::cell::vested_quantity;
 use integer::signed;
 use integer::word_at;
 use rulebook::layout::ACCOUNT_WORDS;
-use rulebook::layout::INTERVAL_WORDS;
 use rulebook::layout::NCC_LOAD;
+use rulebook::layout::cell_place;
 ghost use mathlib.Core.Path.{_≡_};
 ghost use Prim.Native.Nat.{_≤_};
 ghost use lib.IntN.{pos, natAbs, _-ℤ_};
 ghost use Rattle.rulebook.specs.Units.{mostLoad};
 ghost use Rattle.rulebook.specs.Shares.{mostAccounts, leastResidual};
-ghost use Rattle.amounts.specs.Cell.{Ranged};
+ghost use Rattle.amounts.specs.Cell.{RangedCell};
 ghost use Rattle.amounts.specs.Interval.{IntervalRanged, totalsOf, more, Room, residualAt};
 
 // What all accounts' contracts hedge, and what they have to spare (S).
@@ -28,7 +28,7 @@ pub struct Residual {
 
 // The totals with one cell more.
 fn with_cell(totals: Totals, c: &[i64]) -> Totals
-    requires { ⌜ Ranged (now c) × Room totals ⌝ }
+    requires { ⌜ RangedCell (now c) × Room totals ⌝ }
     ensures { λ r. ⌜ r ≡ more totals (now (c .entry)) ⌝ }
 {
     Totals {
@@ -47,7 +47,7 @@ fn totals_of(x: &[i64], n: usize) -> Totals
         spare: 0,
     };
     for b in 0..n {
-        let i = INTERVAL_WORDS + b * ACCOUNT_WORDS;
+        let i = cell_place(b);
         let e = i + ACCOUNT_WORDS;
         totals = with_cell(totals, &x[i..e]);
     }

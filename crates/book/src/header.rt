@@ -4,6 +4,7 @@ use crate::words::is_blank;
 use crate::words::within_at;
 use rulebook::Terms;
 use rulebook::layout;
+use rulebook::layout::balance_word;
 use rulebook::layout::interval_length;
 use rulebook::units;
 ghost use mathlib.Core.Path.{_≡_};
@@ -105,8 +106,7 @@ pub fn book_size(terms: Terms) -> usize
     requires { ⌜ InTerms terms ⌝ }
     ensures { λ r. ⌜ r ≡ size terms ⌝ }
 {
-    layout::HEADER_WORDS
-        + layout::BALANCE_WORDS * terms.accounts
+    balance_word(terms.accounts)
         + units::INTERVALS * (terms.lag + terms.horizon) * interval_length(terms.accounts)
 }
 
@@ -115,7 +115,7 @@ fn balance_fits(book: &[i64], closes: usize, a: usize) -> bool
     requires { ⌜ (a < mostAccounts) × (closes ≤ lastDay) × (balanceWord a + balanceWords ≤ length (now book)) ⌝ }
     ensures { λ r. ⌜ r ≡ balanceWordsFit (now (book .entry)) closes a ⌝ }
 {
-    let i = layout::HEADER_WORDS + a * layout::BALANCE_WORDS;
+    let i = balance_word(a);
     let s = i + 1;
     let e = s + layout::BALANCE_SPARES;
     within_at(book, i, closes * units::DAY_BOUND) & is_blank(&book[s..e])

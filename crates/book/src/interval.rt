@@ -40,7 +40,7 @@ fn accounts_fit(interval: &[i64], n: usize, closed: bool) -> bool
 {
     let mut ok = true;
     for a in 0..n {
-        let i = layout::INTERVAL_WORDS + a * layout::ACCOUNT_WORDS;
+        let i = layout::cell_place(a);
         let e = i + layout::ACCOUNT_WORDS;
         ok = ok & account_fits(&interval[i..e], closed);
     }

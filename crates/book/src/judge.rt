@@ -29,7 +29,7 @@ fn contents_fit(book: &[i64], terms: Terms, closes: usize) -> bool
     ensures { λ r. ⌜ r ≡ contentsFit terms (now (book .entry)) (terms .first + closes) ⌝ }
 {
     let n = terms.accounts;
-    let base = layout::HEADER_WORDS + layout::BALANCE_WORDS * n;
+    let base = layout::balance_word(n);
     let end = book_size(terms);
     mssl_fits(book, n, closes)
         & balances_fit(book, n, closes)

@@ -1,6 +1,6 @@
 // Document 01, "The book": where a day's slot starts, and how many words an interval has.
 use rulebook::Terms;
-use rulebook::layout;
+use rulebook::layout::balance_word;
 use rulebook::layout::interval_length;
 use rulebook::units;
 ghost use mathlib.Core.Path.{_≡_};
@@ -23,7 +23,5 @@ pub fn slot_start(terms: Terms, day: usize) -> usize
     ensures { λ r. ⌜ r ≡ slotStart terms day ⌝ }
 {
     let slot = (day - terms.first) % (terms.lag + terms.horizon);
-    layout::HEADER_WORDS
-        + layout::BALANCE_WORDS * terms.accounts
-        + slot * units::INTERVALS * interval_size(terms)
+    balance_word(terms.accounts) + slot * units::INTERVALS * interval_size(terms)
 }

@@ -2,7 +2,7 @@
 use integer::add;
 use integer::put_word;
 use integer::word_at;
-use rulebook::layout;
+use rulebook::layout::balance_word;
 ghost use mathlib.Core.Path.{_≡_};
 ghost use Prim.Native.Nat.{_+_, _≤_, _<_, _^_};
 ghost use lib.IntN.{natAbs, _+ℤ_};
@@ -26,10 +26,6 @@ pub fn grow_balances(book: &mut [i64], statement: &[i64], n: usize)
     ensures { λ _. ⌜ now (book .exit) ≡ balancesGrownBy (now (book .entry)) (word (now (statement .entry))) n ⌝ }
 {
     for a in 0..n {
-        grow(
-            book,
-            layout::HEADER_WORDS + layout::BALANCE_WORDS * a,
-            word_at(statement, a),
-        );
+        grow(book, balance_word(a), word_at(statement, a));
     }
 }

@@ -97,6 +97,10 @@ IntervalShares load n x = ShareTotal (residualLoad load n x) n (λ b. x b .uegq)
 
 -- ---- The day
 
+-- a day's amount in thousandths of a cent is posted as the nearest whole cent
+abbrev pub inCents : ℤ → ℤ
+inCents thousandths = nearest thousandths thousandthsPerCent
+
 module _ (o : Terms) where
   -- the close of D settles a residual day: r = D − L is not before F
   unfoldable pub residualDue : ℕ → Bool
@@ -118,7 +122,7 @@ module _ (o : Terms) where
 
     -- the posted amount, in cents: demand 3's formula amount
     unfoldable pub postedAmount : ℤ
-    postedAmount = nearest exactAmount thousandthsPerCent
+    postedAmount = inCents exactAmount
 
   -- the MSSL gets minus the sum of the posted amounts
   unfoldable pub msslAmount : SettlementData → ℕ → ℤ

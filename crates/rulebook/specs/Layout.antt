@@ -6,6 +6,7 @@ use Prim.Native.Nat.{ℕ, zero, suc, _+_, _-_, _*_, _%_, _≤_, _<_, min, max}
 use lib.IntN.{ℤ}
 use lib.Dec.{eqb}
 use lib.ListN.{length, getD, set}
+use Rattle.integer.specs.Words.{part}
 use Rattle.rulebook.specs.declared.Section.{Section}
 use Rattle.rulebook.specs.declared.Section.the-variants.{Vesting, Meter, Residual, Ncc}
 use Rattle.rulebook.specs.declared.Terms.{Terms}
@@ -96,9 +97,13 @@ intervalWords = length intervalTable
 abbrev pub accountWords : ℕ
 accountWords = length accountTable
 
--- where word q of account a's stands in its interval
+-- where account a's words, its cell, start in its interval
+abbrev pub cellPlace : ℕ → ℕ
+cellPlace a = intervalWords + accountWords * a
+
+-- and where word q of them stands
 abbrev pub accountPlace : ℕ → ℕ → ℕ
-accountPlace a q = intervalWords + accountWords * a + q
+accountPlace a q = cellPlace a + q
 
 -- the flag of a row that is there, of a count; that of a row that is absent is 0
 abbrev pub present : Section → ℕ → ℕ
@@ -192,13 +197,20 @@ place Ncc a j = tablePlace Ncc j
 
 -- ---- Slots
 
--- words of an interval of n accounts: 4 + 24n
+-- words of an interval of n accounts: 4 + 24n, where one account more would have its cell
 abbrev pub intervalLength : ℕ → ℕ
-intervalLength n = intervalWords + accountWords * n
+intervalLength n = cellPlace n
 
 -- and of a slot
 abbrev pub slotLength : ℕ → ℕ
 slotLength n = intervals * intervalLength n
+
+-- interval i of a slot x of n accounts, and account a's cell of an interval x
+abbrev pub intervalOf : ℕ → List ℤ → ℕ → List ℤ
+intervalOf n x i = part x (i * intervalLength n) (intervalLength n)
+
+abbrev pub cellOf : List ℤ → ℕ → List ℤ
+cellOf x a = part x (cellPlace a) accountWords
 
 module _ (o : Terms) where
   -- words of an interval: 4 + 24N

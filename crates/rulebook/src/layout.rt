@@ -3,7 +3,7 @@ use crate::units::INTERVALS;
 ghost use mathlib.Core.Path.{_≡_};
 ghost use Prim.Native.Nat.{_≤_};
 ghost use Rattle.rulebook.specs.Shares.{mostAccounts};
-ghost use Rattle.rulebook.specs.Layout.{intervalLength, slotLength};
+ghost use Rattle.rulebook.specs.Layout.{balanceWord, cellPlace, intervalLength, slotLength};
 
 // The header's words, to 63.
 pub const MARK: usize = 0;
@@ -84,12 +84,28 @@ pub const RESIDUAL_WORDS: usize = 5;
 
 pub const NCC_WORDS: usize = 2;
 
+// The word of account a's balance: 64 + 8a. After n accounts the slots start.
+pub fn balance_word(a: usize) -> usize
+    requires { ⌜ a ≤ mostAccounts ⌝ }
+    ensures { λ r. ⌜ r ≡ balanceWord a ⌝ }
+{
+    HEADER_WORDS + BALANCE_WORDS * a
+}
+
+// Where account a's cell starts in its interval: 4 + 24a.
+pub fn cell_place(a: usize) -> usize
+    requires { ⌜ a ≤ mostAccounts ⌝ }
+    ensures { λ r. ⌜ r ≡ cellPlace a ⌝ }
+{
+    INTERVAL_WORDS + ACCOUNT_WORDS * a
+}
+
 // The words of an interval of n accounts: 4 + 24n.
 pub fn interval_length(n: usize) -> usize
     requires { ⌜ n ≤ mostAccounts ⌝ }
     ensures { λ r. ⌜ r ≡ intervalLength n ⌝ }
 {
-    INTERVAL_WORDS + ACCOUNT_WORDS * n
+    cell_place(n)
 }
 
 // The words of a slot of n accounts.

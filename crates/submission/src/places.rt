@@ -12,7 +12,7 @@ pub fn place_of(sec: Section, account: usize) -> usize
     requires { ⌜ account ≤ mostAccounts ⌝ }
     ensures { λ r. ⌜ (r ≡ place sec account 0) × (r ≤ place Residual mostAccounts 0) ⌝ }
 {
-    let cell = layout::INTERVAL_WORDS + layout::ACCOUNT_WORDS * account;
+    let cell = layout::cell_place(account);
     match sec {
         Section::Vesting => cell + layout::VESTING_FLAG,
         Section::Meter => cell + layout::METER_FLAG,

@@ -12,10 +12,10 @@ use Rattle.rulebook.specs.Units.{mostLoad}
 use Rattle.rulebook.specs.laws.UnitsLaws.{load-range}
 use Rattle.rulebook.specs.Shares.{mostAccounts, leastResidual}
 use Rattle.rulebook.specs.DayAmount.{vestedQuantity, hedgeTotal, spareGeneration, residualLoad}
+use Rattle.rulebook.specs.Layout.{cellOf}
 use Rattle.rulebook.specs.Bounds.{Sized}
 use Rattle.rulebook.specs.laws.SizeLaws.{all-vested-size, spare-size, residual-load-size}
-use Rattle.amounts.specs.Interval.{cellOf, IntervalRanged, loadIn, dataIn, totalsOf, more, Room}
-use Rattle.amounts.specs.laws.CellLaws.{cell-sized}
+use Rattle.amounts.specs.Interval.{IntervalRanged, loadIn, dataIn, totalsOf, more, Room}
 
 pub totals-suc : (n : ℕ) (x : List ℤ) → totalsOf (n + 1) x ≡ more (totalsOf n x) (cellOf x n)
 unfolding hedgeTotal spareGeneration
@@ -27,7 +27,7 @@ totals-zero x = refl
 
 module _ (n : ℕ) (x : List ℤ) (h : IntervalRanged n x) where
   pub data-sized : (b : ℕ) → b < n → Sized (dataIn x b)
-  data-sized b l = cell-sized (cellOf x b) (h .cells b l)
+  data-sized b l = h .cells b l .sized
 
   pub totals-room : n ≤ mostAccounts → (m : ℕ) → m < n → Room (totalsOf m x)
   totals-room k m l = (omega (arith, all-vested-size n (dataIn x) data-sized m (omega arith)), omega (arith, spare-size n (dataIn x) data-sized m (omega arith)))

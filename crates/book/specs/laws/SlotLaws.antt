@@ -12,7 +12,7 @@ use Rattle.integer.specs.Words.{word, part}
 use Rattle.integer.specs.laws.WordsLaws.{row-fits, lent}
 use Rattle.rulebook.specs.declared.Terms.{Terms}
 use Rattle.rulebook.specs.Units.{intervals}
-use Rattle.rulebook.specs.Layout.{accountWords, intervalWords, accountPlace, intervalLength, slotLength, intervalSize, base, intervalWord}
+use Rattle.rulebook.specs.Layout.{accountWords, cellPlace, accountPlace, intervalLength, slotLength, intervalSize, base, intervalWord}
 use Rattle.rulebook.specs.laws.TestLaws.{all-same}
 use Rattle.rulebook.specs.laws.FitsLaws.{account-same, interval-same}
 use Rattle.rulebook.specs.WellFormed.{isZero, accountFits, intervalFits, intervalBlank, intervalAt, slotBlank, datedFits}
@@ -23,10 +23,9 @@ use Rattle.book.specs.laws.BlankLaws.{all-rows}
 -- ---- Lent by an interval, and by a slot
 
 -- account a's words
-pub account-lent : (closed : Bool) (xs : List ℤ) (a : ℕ)
-    → accountFits closed (word (take (intervalWords + a * accountWords + accountWords - (intervalWords + a * accountWords)) (drop (intervalWords + a * accountWords) xs))) ≡ accountFits closed (λ q. word xs (accountPlace a q))
-account-lent closed xs a =
-    let i : ℕ = intervalWords + a * accountWords in
+pub account-lent : (closed : Bool) (xs : List ℤ) (a : ℕ) {i : ℕ} → i ≡ cellPlace a
+    → accountFits closed (word (take (i + accountWords - i) (drop i xs))) ≡ accountFits closed (λ q. word xs (accountPlace a q))
+account-lent closed xs a {i} e =
     ap (λ (ys : List ℤ). accountFits closed (word ys)) (lent xs i accountWords)
     ∙ account-same closed (word (part xs i accountWords)) (λ q. word xs (accountPlace a q)) (λ q h. word-part xs i accountWords q h ∙ ap (word xs) (omega arith))
 

@@ -1,5 +1,5 @@
 -- The amount posted from two slots is the rule book's. Assumes nothing.
-use mathlib.Core.Path.{_≡_, refl, sym, ap, _∙_, subst}
+use mathlib.Core.Path.{_≡_, refl, sym, ap, _∙_}
 use mathlib.Core.Bool.{Bool, true, false, cond}
 use mathlib.Core.List.{List}
 use Prim.Native.Nat.{ℕ, _≤_, _<_}
@@ -7,29 +7,26 @@ use lib.Dec.{T}
 use lib.IntN.{ℤ, pos}
 use Rattle.integer.specs.laws.BelowLaws.{sumℤ-cong}
 use Rattle.rulebook.specs.declared.Terms.{Terms}
-use Rattle.rulebook.specs.Units.{lastDay, nearest, intervals, thousandthsPerCent}
+use Rattle.rulebook.specs.Units.{lastDay, intervals}
 use Rattle.rulebook.specs.Shares.{share}
-use Rattle.rulebook.specs.DayAmount.{spareGeneration, rvq, residualAmount, residualDue, residualDay, intervalAmount, exactAmount, postedAmount}
+use Rattle.rulebook.specs.DayAmount.{spareGeneration, rvq, residualAmount, residualDue, residualDay, intervalAmount, exactAmount, inCents, postedAmount}
+use Rattle.rulebook.specs.Layout.{intervalOf}
 use Rattle.rulebook.specs.BookData.{bookData, termsOf, nextDay}
 use Rattle.rulebook.specs.WellFormed.{wellFormed}
 use Rattle.rulebook.specs.Close.{posted}
 use Rattle.rulebook.specs.Bounds.{SizedDay}
 use Rattle.rulebook.specs.laws.AmountLaws.{SameFigures, vesting-same, residual-same}
 use Rattle.rulebook.specs.laws.BookSizeLaws.{close-sized}
-use Rattle.amounts.specs.declared.interval.Residual.{Residual}
 use Rattle.amounts.specs.declared.day.Residuals.{Residuals}
 use Rattle.amounts.specs.Cell.{cellData}
 use Rattle.amounts.specs.laws.CellLaws.{sum-cong}
 use Rattle.amounts.specs.Interval.{dataIn}
-use Rattle.amounts.specs.Day.{intervalOf, cellAt, residualsOf, noResiduals, residualIn, cellResidual, slotAmount, slotPosted}
-use Rattle.amounts.specs.laws.DayLaws.{cell-in-slot, residual-in}
+use Rattle.amounts.specs.Day.{cellAt, residualsOf, noResiduals, residualIn, cellResidual, slotAmount, totalTo, slotPosted}
+use Rattle.amounts.specs.laws.DayLaws.{residual-in}
 use Rattle.closing.specs.Slots.{slotWords, thenDay, residualsDue}
 use Rattle.closing.specs.laws.SlotDataLaws.{load-same, cell-alike}
 
 -- ---- One interval
-
-residual-cong : {c e : List ℤ} {r q : Residual} → c ≡ e → r ≡ q → cellResidual c r ≡ cellResidual e q
-residual-cong x y = cc
 
 module _ (o : Terms) (w : List ℤ) (a : ℕ) (ha : a < o .accounts) where
   module _ (d : ℕ) (sized : SizedDay (o .accounts) (bookData o w) d) (i : ℕ) (hi : i < intervals) where
@@ -37,8 +34,7 @@ module _ (o : Terms) (w : List ℤ) (a : ℕ) (ha : a < o .accounts) where
     interval = intervalOf (o .accounts) (slotWords o w d) i
 
     alike : (b : ℕ) → b < o .accounts → SameFigures (bookData o w .account b d i) (dataIn interval b)
-    alike b hb = subst (λ (c : List ℤ). SameFigures (bookData o w .account b d i) (cellData c)) (sym (cell-in-slot (o .accounts) (slotWords o w d) b i hb))
-        (cell-alike o w d b i hb hi (sized b i hb hi .few))
+    alike b hb = cell-alike o w d b i hb hi (sized b i hb hi .few)
 
     -- the residual amount of the book's data is that of the slot's cell, R and S
     slot-residual : residualAmount (bookData o w .load d i) (o .accounts) (λ b. bookData o w .account b d i) a
@@ -47,7 +43,7 @@ module _ (o : Terms) (w : List ℤ) (a : ℕ) (ha : a < o .accounts) where
     slot-residual =
         residual-same (bookData o w .load d i) (o .accounts) (λ b. bookData o w .account b d i) (dataIn interval) alike a ha
         ∙ ap (λ (l : ℕ). residualAmount l (o .accounts) (dataIn interval) a) (load-same o w d i hi)
-        ∙ residual-cong (cell-in-slot (o .accounts) (slotWords o w d) a i ha) (sym (residual-in (o .accounts) (slotWords o w d) i hi))
+        ∙ ap (cellResidual (cellAt (o .accounts) (slotWords o w d) a i)) (sym (residual-in (o .accounts) (slotWords o w d) i hi))
 
   -- ---- The day
 
@@ -70,8 +66,8 @@ module _ (o : Terms) (w : List ℤ) (a : ℕ) (ha : a < o .accounts) where
         go false s = refl
 
     slots-posted : slotPosted (o .accounts) (slotWords o w D) (slotWords o w (thenDay o D)) (residualDue o D) (residualsDue o w D) a ≡ posted o w D a
-    unfolding slotPosted posted postedAmount exactAmount
-    slots-posted = ap (λ (z : ℤ). nearest z thousandthsPerCent) (sumℤ-cong intervals _ _ amount-same)
+    unfolding slotPosted totalTo posted postedAmount exactAmount
+    slots-posted = ap inCents (sumℤ-cong intervals _ _ amount-same)
 
 module _ (w : List ℤ) (t : T (wellFormed w)) (left : nextDay w ≤ lastDay) where
   pub slot-posted-same : (a : ℕ) → a < termsOf w .accounts

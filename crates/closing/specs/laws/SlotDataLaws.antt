@@ -9,12 +9,12 @@ use Rattle.rulebook.specs.declared.Section.the-variants.{Vesting, Meter}
 use Rattle.rulebook.specs.declared.Terms.{Terms}
 use Rattle.rulebook.specs.Units.{positive, asQuantity, intervals}
 use Rattle.rulebook.specs.Sections.{TVQ, TVP, MEP, IEQ}
-use Rattle.rulebook.specs.Layout.{figureIndex, rowWord, flagAt}
+use Rattle.rulebook.specs.Layout.{figureIndex, rowWord, flagAt, intervalOf}
 use Rattle.rulebook.specs.BookData.{bookData}
 use Rattle.rulebook.specs.laws.AmountLaws.{SameFigures}
 use Rattle.rulebook.specs.laws.IndexLaws.{tender-words, facility-words}
 use Rattle.amounts.specs.Cell.{cellData}
-use Rattle.amounts.specs.Day.{intervalOf, cellAt}
+use Rattle.amounts.specs.Day.{cellAt}
 use Rattle.closing.specs.Slots.{slotWords}
 use Rattle.closing.specs.laws.SlotsLaws.{load-word, vesting-word, meter-word, residual-word}
 

@@ -7,7 +7,7 @@ use Prim.Native.Nat.{ℕ, _+_, _-_, _*_, _≤_, _<_}
 use native.Mathlib.Omega.{arith}
 use lib.Dec.{T}
 use lib.IntN.{ℤ, pos, natAbs}
-use lib.ListN.{getD-replicate}
+use lib.ListN.{length, getD-replicate}
 use Rattle.integer.specs.declared.Found.the-variants.{Nothing}
 use Rattle.integer.specs.Below.{all}
 use Rattle.integer.specs.laws.BelowLaws.{lt-or-le}
@@ -16,11 +16,11 @@ use Rattle.integer.specs.laws.WordsLaws.{row-fits, length-part}
 use Rattle.rulebook.specs.declared.Section.the-variants.{Meter}
 use Rattle.rulebook.specs.declared.Kind.{Kind}
 use Rattle.rulebook.specs.declared.Kind.the-variants.{Quantity, Load}
-use Rattle.rulebook.specs.Units.{lastDay, between, inRange, positive, mostPrice, mostQuantity, intervals}
+use Rattle.rulebook.specs.Units.{lastDay, between, inRange, positive, intervals}
 use Rattle.rulebook.specs.Shares.{leastResidual}
 use Rattle.rulebook.specs.Sections.{kindOf, accountsOf, Figure, BVQ, TVQ, UEGQ, MQ, NccLoad, figureSection, figurePlace}
 use Rattle.rulebook.specs.DayAmount.{residualDue, residualDay}
-use Rattle.rulebook.specs.Layout.{width, wordName, figureIndex, flagIndex, flagWord, intervalWords, accountWords, intervalLength, InWindow}
+use Rattle.rulebook.specs.Layout.{width, wordName, figureIndex, flagIndex, flagWord, cellPlace, accountWords, intervalLength, intervalOf, InWindow}
 use Rattle.rulebook.specs.BookData.{entriesOf, entryNamed, bookData, termsOf, nextDay}
 use Rattle.rulebook.specs.WellFormed.{isZero, rowFits, wellFormed}
 use Rattle.rulebook.specs.Close.{firstMissing}
@@ -33,13 +33,14 @@ use Rattle.rulebook.specs.laws.RowFlagLaws.{wordFlagged, rowFlagged, row-by-fla
 use Rattle.rulebook.specs.laws.FormedLaws.{opened-of, next-of, formed-fit}
 use Rattle.rulebook.specs.laws.BookSizeLaws.{book-ranged, D-inside, r-inside}
 use Rattle.rulebook.specs.laws.AmountLaws.{SameFigures}
+use Rattle.rulebook.specs.laws.SizeLaws.{same-sized}
 use Rattle.rulebook.specs.laws.IndexLaws.{tender-words}
 use Rattle.rulebook.specs.laws.SearchLaws.{needed-there}
-use Rattle.amounts.specs.Cell.{cellData, Ranged}
+use Rattle.amounts.specs.Cell.{cellData, RangedCell}
 use Rattle.amounts.specs.declared.interval.Residual.{Residual}
 use Rattle.amounts.specs.laws.IntervalLaws.{residual-le}
-use Rattle.amounts.specs.Day.{intervalOf, cellAt, SlotRanged, DaysRanged, residualsOf, noResiduals}
-use Rattle.amounts.specs.laws.DayLaws.{cell-in-slot, residual-in}
+use Rattle.amounts.specs.Day.{cellAt, SlotRanged, DaysRanged, residualsOf, noResiduals}
+use Rattle.amounts.specs.laws.DayLaws.{residual-in}
 use Rattle.closing.specs.Slots.{slotWords, thenDay, residualsDue}
 use Rattle.closing.specs.laws.SlotsLaws.{slot-length, load-word, vesting-word, residual-word}
 use Rattle.closing.specs.laws.SlotDataLaws.{cell-alike, vesting-at}
@@ -70,6 +71,11 @@ module _ (w : List ℤ) (t : T (wellFormed w)) (d : ℕ) (inside : InWindow (ter
       → kindOf (figureSection g) (figurePlace g) ≡ k → entryNamed (entriesOf (termsOf w) w) a d i g ≡ z → inRange k z ≡ true
   figure-passes g a i k u ha hi e f = rw (← e, ← f) (T-path _ (entries .ranged g a i u ha hi))
 
+  interval-length : (i : ℕ) → i < intervals → length (intervalOf (termsOf w .accounts) (slotWords (termsOf w) w d) i) ≡ intervalLength (termsOf w .accounts)
+  interval-length i hi =
+      let n = termsOf w .accounts in
+      length-part (slotWords (termsOf w) w d) (i * intervalLength n) (intervalLength n) (omega (arith, slot-length w t d, row-fits i intervals (intervalLength n) hi))
+
   module _ (a i : ℕ) (ha : a < termsOf w .accounts) (hi : i < intervals) where
     sized : Sized (bookData (termsOf w) w .account a d i)
     sized = data-sized (termsOf w .accounts) (entriesOf (termsOf w) w) d entries a i ha hi
@@ -77,39 +83,31 @@ module _ (w : List ℤ) (t : T (wellFormed w)) (d : ℕ) (inside : InWindow (ter
     alike : SameFigures (bookData (termsOf w) w .account a d i) (cellData (cellAt (termsOf w .accounts) (slotWords (termsOf w) w d) a i))
     alike = cell-alike (termsOf w) w d a i ha hi (sized .few)
 
-    cell-in-range : T (not (isZero (word w (flagWord (termsOf w) Meter a d i)))) → Ranged (cellAt (termsOf w .accounts) (slotWords (termsOf w) w d) a i)
+    cell-in-range : T (not (isZero (word w (flagWord (termsOf w) Meter a d i)))) → RangedCell (cellAt (termsOf w .accounts) (slotWords (termsOf w) w d) a i)
     cell-in-range there =
         let n = termsOf w .accounts in
         record {
-          whole = length-part (slotWords (termsOf w) w d) (i * intervalLength n + (intervalWords + a * accountWords)) accountWords (omega (arith, slot-length w t d, row-fits a n accountWords ha, row-fits i intervals (intervalLength n) hi));
+          whole = length-part (intervalOf n (slotWords (termsOf w) w d) i) (cellPlace a) accountWords (omega (arith, interval-length i hi));
+          sized = same-sized (bookData (termsOf w) w .account a d i) (cellData (cellAt n (slotWords (termsOf w) w d) a i)) alike sized;
+          some = subst (λ (k : ℕ). 1 ≤ k) (alike .facilities) (meter-some (entriesOf (termsOf w) w Meter a d i) (formed-fit w t .rows Meter a d i inside ha hi) there);
           bvq = figure-passes BVQ a i Quantity tt ha hi refl (vesting-word (termsOf w) w d a i ha hi 1 (omega arith));
-          bvp = subst (λ (z : ℤ). natAbs z ≤ mostPrice) (alike .bvp) (sized .bvp);
           tvq = λ k h. figure-passes (TVQ k) a i Quantity h ha hi (even (2 + 2 * k) (omega arith) .0)
               (vesting-at (termsOf w) w d a i ha hi (figureIndex (TVQ k)) (3 + 2 * k) (tender-words k h .0) (omega arith));
-          tvp = λ k h. subst (λ (z : ℤ). natAbs z ≤ mostPrice) (alike .tvp k h) (sized .tvp k h);
-          some = subst (λ (k : ℕ). 1 ≤ k) (alike .facilities) (meter-some (entriesOf (termsOf w) w Meter a d i) (formed-fit w t .rows Meter a d i inside ha hi) there);
-          few = subst (λ (k : ℕ). k ≤ 4) (alike .facilities) (sized .few);
-          mep = λ k h. subst (λ (z : ℤ). natAbs z ≤ mostPrice) (alike .mep k h) (sized .mep k h);
-          ieq = λ k h. subst (λ (z : ℤ). natAbs z ≤ mostQuantity) (alike .ieq k h) (sized .ieq k h);
           uegq = figure-passes UEGQ a i Quantity tt ha hi refl (residual-word (termsOf w) w d a i ha hi 1 (omega arith));
           mq = figure-passes MQ a i Quantity tt ha hi refl (residual-word (termsOf w) w d a i ha hi 2 (omega arith));
-          rvp1 = subst (λ (z : ℤ). natAbs z ≤ mostPrice) (alike .rvp1) (sized .rvp1);
-          rvp2 = subst (λ (z : ℤ). natAbs z ≤ mostPrice) (alike .rvp2) (sized .rvp2);
         }
 
   -- with its meter rows
   pub slot-ranged : ((a i : ℕ) → a < termsOf w .accounts → i < intervals → T (not (isZero (word w (flagWord (termsOf w) Meter a d i)))))
       → SlotRanged (termsOf w .accounts) (slotWords (termsOf w) w d)
-  slot-ranged there =
-      let n = termsOf w .accounts in
-      record {
-        whole = slot-length w t d;
-        each = λ i hi. record {
-          whole = length-part (slotWords (termsOf w) w d) (i * intervalLength n) (intervalLength n) (omega (arith, slot-length w t d, row-fits i intervals (intervalLength n) hi));
-          load = figure-passes NccLoad 0 i Load tt (omega arith) hi refl (load-word (termsOf w) w d i hi);
-          cells = λ a ha. subst Ranged (sym (cell-in-slot n (slotWords (termsOf w) w d) a i ha)) (cell-in-range a i ha hi (there a i ha hi));
-        };
-      }
+  slot-ranged there = record {
+    whole = slot-length w t d;
+    each = λ i hi. record {
+      whole = interval-length i hi;
+      load = figure-passes NccLoad 0 i Load tt (omega arith) hi refl (load-word (termsOf w) w d i hi);
+      cells = λ a ha. cell-in-range a i ha hi (there a i ha hi);
+    };
+  }
 
 -- ---- The slots of a close
 

@@ -21,8 +21,25 @@ use Rattle.rulebook.specs.Bounds.{Sized, SizedDay}
 use Rattle.rulebook.specs.laws.ReferencePriceLaws.{price-size}
 use Rattle.rulebook.specs.laws.SharesLaws.{share-cap}
 use Rattle.rulebook.specs.laws.TranchesLaws.{tranche-split}
+use Rattle.rulebook.specs.laws.AmountLaws.{SameFigures}
 
 -- ---- One account's interval
+
+-- the same figures are in the same range
+pub same-sized : (f g : AccountData) → SameFigures f g → Sized f → Sized g
+same-sized f g e h = record {
+  bvq = rw (← e .bvq) (h .bvq);
+  bvp = rw (← e .bvp) (h .bvp);
+  tvq = λ t l. rw (← e .tvq t l) (h .tvq t l);
+  tvp = λ t l. rw (← e .tvp t l) (h .tvp t l);
+  few = rw (← e .facilities) (h .few);
+  mep = λ k l. rw (← e .mep k l) (h .mep k l);
+  ieq = λ k l. rw (← e .ieq k l) (h .ieq k l);
+  uegq = rw (← e .uegq) (h .uegq);
+  mq = rw (← e .mq) (h .mq);
+  rvp1 = rw (← e .rvp1) (h .rvp1);
+  rvp2 = rw (← e .rvp2) (h .rvp2);
+}
 
 -- a price less v, and that times a quantity
 module _ (v : ℤ) (hv : natAbs v ≤ mostPrice) where

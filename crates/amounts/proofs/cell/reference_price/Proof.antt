@@ -17,8 +17,8 @@ price-of-requires c κs =
     let d = cellData (s .args .c .now) in
     let e = c .sums-of .ensures in
     let n = sums-count (d .facilities) (d .mep) (d .ieq) in
-    let k = s .pre .few in (
-      rw e (sums-within (d .facilities) (d .mep) (d .ieq) (λ f h. s .pre .mep f (omega arith)) (λ f h. s .pre .ieq f (omega arith))),
+    let k = s .pre .sized .few in (
+      rw e (sums-within (d .facilities) (d .mep) (d .ieq) (λ f h. s .pre .sized .mep f (omega arith)) (λ f h. s .pre .sized .ieq f (omega arith))),
       rw (e, n) (s .pre .some),
       rw (e, n) k,
     )

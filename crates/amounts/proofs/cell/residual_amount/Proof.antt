@@ -18,7 +18,7 @@ use Rattle.rulebook.specs.laws.TranchesLaws.{tranche-split}
 use Rattle.rulebook.specs.DayAmount.{shareAmount}
 use Rattle.rulebook.specs.laws.SizeLaws.{first-tranche-size, second-tranche-size}
 use Rattle.amounts.specs.Cell.{cellData}
-use Rattle.amounts.specs.laws.CellLaws.{cell-sized, priced-cong, shareOf-cong, tranche-cong, sum-cong}
+use Rattle.amounts.specs.laws.CellLaws.{priced-cong, shareOf-cong, tranche-cong, sum-cong}
 use Rattle.amounts.proofs.cell.residual_amount.Statement.{statement}
 use Rattle.amounts.proofs.cell.residual_amount.Tie as tie
 
@@ -59,7 +59,7 @@ module _ (c : tie.After-first-tranche) where
   first-is = c .first-tranche .ensures ∙ tranche-cong share-is (c .before .before .quantity-at .ensures .0) (c .before .quantity-at2 .ensures .0)
 
   share-le : share ≤ 10000000
-  share-le = omega (arith, share-cap (start .args .r) (start .args .s) (asQuantity (word cell 19)), cell-sized cell (start .pre .0) .uegq)
+  share-le = omega (arith, share-cap (start .args .r) (start .args .s) (asQuantity (word cell 19)), start .pre .0 .sized .uegq)
 
 -- V, read back
 price : (c : tie.After-first-tranche) → toZ w64 (ofZ w64 (start c .args .v)) ≡ start c .args .v
@@ -74,7 +74,7 @@ priced-at-requires c κs =
     let s = start b in
     let e = s .pre .0 .whole in
     let t = tranche-split (share b) (asQuantity (word (cell b) 1)) (asQuantity (word (cell b) 20)) .share in
-    (omega arith, s .pre .0 .rvp1, price-le c, omega (arith, first-is b, share-le b, t))
+    (omega arith, s .pre .0 .sized .rvp1, price-le c, omega (arith, first-is b, share-le b, t))
 
 sub-priced-at : tie.Need-sub-priced-at
 sub-priced-at c =
@@ -86,7 +86,7 @@ priced-at-requires-2 c κs =
     let b = c .before in
     let s = start b in
     let e = s .pre .0 .whole in
-    (omega arith, s .pre .0 .rvp2, price-le b, omega (arith, share-is b, share-le b))
+    (omega arith, s .pre .0 .sized .rvp2, price-le b, omega (arith, share-is b, share-le b))
 
 -- both amounts, read back
 module _ (c : tie.After-priced-at2) where
@@ -113,7 +113,7 @@ add-requires c κs =
     let d = cellData (cell b) in
     let v = start b .args .v in
     let h = start b .pre .1 in
-    let x = cell-sized (cell b) (start b .pre .0) in
+    let x = start b .pre .0 .sized in
     omega (
       arith,
       ap natAbs (one c),

@@ -23,7 +23,7 @@ loop-holds c = (omega arith, sums-zero (cellData (c .before .args .c .now) .mep)
 
 -- the facility of a turn is one of four
 facility : (c : tie.In-loop Inv-loop μ-loop) → c .before .loop .f < 4
-facility c = let b = c .before .before in let r = b .before .pre in omega (arith, b .facilities-of .ensures, r .few)
+facility c = let b = c .before .before in let r = b .before .pre in omega (arith, b .facilities-of .ensures, r .sized .few)
 
 mul-word-at : tie.Need-mul-word-at Inv-loop μ-loop
 mul-word-at c = omega (arith, facility c)
@@ -49,7 +49,7 @@ with-facility-requires c κs =
     let l = i .before .loop in
     let s = i .before .before .before in
     let d = cellData (s .args .c .now) in
-    let p = s .pre in
+    let p = s .pre .sized in
     let k = facility i in (
       rw (l .inv .1) (sums-within (l .f) (d .mep) (d .ieq) (λ f h. p .mep f (omega arith)) (λ f h. p .ieq f (omega arith))),
       rw (l .inv .1, sums-count (l .f) (d .mep) (d .ieq)) (omega arith),

@@ -16,7 +16,6 @@ use Rattle.rulebook.specs.Units.{asQuantity}
 use Rattle.rulebook.specs.DayAmount.{tenderAmount}
 use Rattle.rulebook.specs.laws.SizeLaws.{tender-size, tenders-size}
 use Rattle.amounts.specs.Cell.{cellData}
-use Rattle.amounts.specs.laws.CellLaws.{cell-sized}
 use Rattle.amounts.proofs.cell.tender_amount.Statement.{statement}
 use Rattle.amounts.proofs.cell.tender_amount.Tie as tie
 
@@ -56,7 +55,7 @@ priced-at-requires : tie.Need-priced-at-requires Inv-loop μ-loop
 priced-at-requires c κs =
     let s = c .before .before .before in
     let e = s .pre .0 .whole in
-    (omega arith, s .pre .0 .tvp (c .before .before .loop .t) (c .before .loop-test .taken), omega (int, known (s .fits .v), s .pre .1), c .quantity-at .ensures .1)
+    (omega arith, s .pre .0 .sized .tvp (c .before .before .loop .t) (c .before .loop-test .taken), omega (int, known (s .fits .v), s .pre .1), c .quantity-at .ensures .1)
 
 -- the amount of a turn, read back
 amount : (c : tie.After-priced-at Inv-loop μ-loop) → toZ w64 (ofZ w64 (c .priced-at .result)) ≡ one (c .before .before .before .before .args .c .now) (toZ w64 (ofZ w64 (c .before .before .before .before .args .v))) (c .before .before .before .loop .t)
@@ -71,7 +70,7 @@ add-requires c κs =
     let small = s .pre .1 in
     let k = known (s .fits .v) in
     let h : natAbs v ≤ 1000000 = omega int in
-    let x = cell-sized w (s .pre .0) in
+    let x = s .pre .0 .sized in
     rw (amount c, l .inv .1 .is)
     (omega (arith, tenders-size (cellData w) x v h (l .t) (l .inv .0), tender-size (cellData w) x v h (l .t) (c .before .before .loop-test .taken)))
 

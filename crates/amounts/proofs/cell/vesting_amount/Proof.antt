@@ -13,7 +13,7 @@ use Rattle.rulebook.specs.Units.{asQuantity}
 use Rattle.rulebook.specs.DayAmount.{referencePriceOf, tenderAmount, vestingAmount}
 use Rattle.rulebook.specs.laws.SizeLaws.{price-sized, base-size, tender-amount-size}
 use Rattle.amounts.specs.Cell.{cellData}
-use Rattle.amounts.specs.laws.CellLaws.{cell-sized, priced-cong, sum-cong}
+use Rattle.amounts.specs.laws.CellLaws.{priced-cong, sum-cong}
 use Rattle.amounts.proofs.cell.vesting_amount.Statement.{statement}
 use Rattle.amounts.proofs.cell.vesting_amount.Tie as tie
 
@@ -25,13 +25,13 @@ price : (c : tie.After-reference-price) → toZ w64 (ofZ w64 (c .reference-price
 price c = got (c .reference-price .result) (c .reference-price .ok) ∙ c .reference-price .ensures
 
 price-le : (c : tie.After-reference-price) → natAbs (toZ w64 (ofZ w64 (c .reference-price .result))) ≤ 1000000
-price-le c = rw (price c) (price-sized (cellData (c .before .args .c .now)) (cell-sized (c .before .args .c .now) (c .before .pre)))
+price-le c = rw (price c) (price-sized (cellData (c .before .args .c .now)) (c .before .pre .sized))
 
 quantity-at-requires : tie.Need-quantity-at-requires
 quantity-at-requires c κs = let e = c .before .pre .whole in (omega arith, c .before .pre .bvq)
 
 priced-at-requires : tie.Need-priced-at-requires
-priced-at-requires c κs = let s = c .before .before in let e = s .pre .whole in (omega arith, s .pre .bvp, price-le (c .before), c .quantity-at .ensures .1)
+priced-at-requires c κs = let s = c .before .before in let e = s .pre .whole in (omega arith, s .pre .sized .bvp, price-le (c .before), c .quantity-at .ensures .1)
 
 tender-amount-requires : tie.Need-tender-amount-requires
 tender-amount-requires c κs = (c .before .before .before .pre, price-le (c .before .before))
@@ -54,7 +54,7 @@ add-requires : tie.Need-add-requires
 add-requires c κs =
     let d = cellData (cell c) in
     let v = referencePriceOf d in
-    let x = cell-sized (cell c) (c .before .before .before .before .pre) in
+    let x = c .before .before .before .before .pre .sized in
     let h = price-sized d x in
     rw (base c, tender c) (omega (arith, base-size d x v h, tender-amount-size d x v h))
 

@@ -1,46 +1,46 @@
 -- `amount_at` meets its contract: what is lent are the account's two cells at the interval.
-use mathlib.Core.Path.{_≡_, ap, _∙_}
+use mathlib.Core.Path.{_≡_, sym, ap, _∙_}
 use mathlib.Core.Bool.{Bool}
 use mathlib.Core.List.{List}
-use Prim.Native.Nat.{ℕ, _+_, _-_, _*_, _≤_}
+use Prim.Native.Nat.{ℕ, _+_, _-_, _*_, _≤_, _<_}
 use native.Mathlib.Omega.{arith}
 use borrow.Author.Needs.{needs}
 use lib.IntN.{ℤ}
 use lib.ListN.{length, take, drop}
-use Rattle.integer.specs.Words.{part}
 use Rattle.integer.specs.laws.WordsLaws.{lent}
 use Rattle.integer.specs.Bits.{got}
-use Rattle.rulebook.specs.Layout.{intervalWords, accountWords, intervalLength}
+use Rattle.rulebook.specs.Layout.{cellPlace, accountWords, intervalLength}
 use Rattle.amounts.specs.declared.interval.Residual.{Residual}
 use Rattle.amounts.specs.Day.{cellAt, amountAt, slotAmount}
-use Rattle.amounts.specs.laws.DayLaws.{cell-ranged, cell-fits}
+use Rattle.amounts.specs.laws.DayLaws.{cell-in-slot, cell-fits}
 use Rattle.amounts.proofs.day.amount_at.Statement.{statement}
 use Rattle.amounts.proofs.day.amount_at.Tie as tie
 
-fits : (c : tie.After-interval-length) → c .before .args .h * c .interval-length .result + (intervalWords + c .before .args .a * accountWords) + accountWords ≤ length (c .before .args .today .now)
-fits c =
+-- the cells lie within the slots
+before-fits : (c : tie.After-interval-length) → c .before .args .h * c .interval-length .result + cellPlace (c .before .args .a) + accountWords ≤ length (c .before .args .today .now)
+before-fits c =
     let s = c .before in
     rw (c .interval-length .ensures) (cell-fits (s .args .n) (s .args .today .now) (s .pre .0 .closing) (s .args .a) (s .args .h) (s .pre .2) (s .pre .3))
 
+fits : (c : tie.After-cell-place) → c .before .before .args .h * c .before .interval-length .result + c .cell-place .result + accountWords ≤ length (c .before .before .args .today .now)
+fits c = rw (c .cell-place .ensures) (before-fits (c .before))
+
 -- what is lent is the cell
-lent-cell : (n : ℕ) (x : List ℤ) (a h size : ℕ) → size ≡ intervalLength n
-    → take (h * size + (intervalWords + a * accountWords) + accountWords - (h * size + (intervalWords + a * accountWords))) (drop (h * size + (intervalWords + a * accountWords)) x) ≡ cellAt n x a h
-lent-cell n x a h size e = lent x (h * size + (intervalWords + a * accountWords)) accountWords ∙ ap (λ (k : ℕ). part x (h * k + (intervalWords + a * accountWords)) accountWords) e
+lent-cell : (n : ℕ) (x : List ℤ) (a h : ℕ) {size at : ℕ} → a < n → size ≡ intervalLength n → at ≡ cellPlace a
+    → take (h * size + at + accountWords - (h * size + at)) (drop (h * size + at) x) ≡ cellAt n x a h
+lent-cell n x a h {size} {at} l e f = lent x (h * size + at) accountWords ∙ rw (e, f) (sym (cell-in-slot n x a h l))
 
 interval-length-requires : tie.Need-interval-length-requires
 interval-length-requires c κs = search needs
 
 mul-i : tie.Need-mul-i
-mul-i c = omega (arith, fits c)
+mul-i c = omega (arith, before-fits c)
 
-mul-i-2 : tie.Need-mul-i-2
-mul-i-2 c = search needs
+cell-place-requires : tie.Need-cell-place-requires
+cell-place-requires c κs = search needs
 
 add-i : tie.Need-add-i
-add-i c = search needs
-
-add-i-2 : tie.Need-add-i-2
-add-i-2 c = omega (arith, fits c)
+add-i c = omega (arith, fits c)
 
 add-e : tie.Need-add-e
 add-e c = omega (arith, fits c)
@@ -67,19 +67,20 @@ part-interval-amount-start-2 : tie.Need-part-interval-amount-start-2
 part-interval-amount-start-2 c = search needs
 
 part-interval-amount-end-2 : tie.Need-part-interval-amount-end-2
-part-interval-amount-end-2 c = let h = fits (c .before) in let l = c .before .before .pre .0 .long in search needs
+part-interval-amount-end-2 c = let h = fits (c .before) in let l = c .before .before .before .pre .0 .long in search needs
 
 residual-at-requires : tie.Need-residual-at-requires
 residual-at-requires c κs = search needs
 
 interval-amount-requires : tie.Need-interval-amount-requires
 interval-amount-requires c κs =
-    let k = c .before .before .before in
+    let i = c .before .before .before in
+    let k = i .before in
     let s = k .before in
     let a = s .args in
     let p = s .pre .0 in (
-      rw (lent-cell (a .n) (a .today .now) (a .a) (a .h) (k .interval-length .result) (k .interval-length .ensures)) (cell-ranged (a .n) (a .today .now) (p .closing) (a .a) (a .h) (s .pre .2) (s .pre .3)),
-      λ e. rw (lent-cell (a .n) (a .then .now) (a .a) (a .h) (k .interval-length .result) (k .interval-length .ensures)) (cell-ranged (a .n) (a .then .now) (p .settled e) (a .a) (a .h) (s .pre .2) (s .pre .3)),
+      rw (lent-cell (a .n) (a .today .now) (a .a) (a .h) (s .pre .2) (k .interval-length .ensures) (i .cell-place .ensures)) (p .closing .each (a .h) (s .pre .3) .cells (a .a) (s .pre .2)),
+      λ e. rw (lent-cell (a .n) (a .then .now) (a .a) (a .h) (s .pre .2) (k .interval-length .ensures) (i .cell-place .ensures)) (p .settled e .each (a .h) (s .pre .3) .cells (a .a) (s .pre .2)),
       rw (ap (λ (r : Residual). r .load) (c .residual-at .ensures)) (p .loads (a .h) (s .pre .3)),
     )
 
@@ -89,13 +90,15 @@ amount-cong due e f g = cc
 returns : tie.Need-returns
 unfolding slotAmount
 returns c =
-    let k = c .before .before .before .before in
-    let a = k .before .args in
+    let i = c .before .before .before .before in
+    let k = i .before in
+    let s = k .before in
+    let a = s .args in
     got (c .interval-amount .result) (c .interval-amount .ok) ∙ c .interval-amount .ensures
-    ∙ amount-cong (a .due) (lent-cell (a .n) (a .today .now) (a .a) (a .h) (k .interval-length .result) (k .interval-length .ensures)) (lent-cell (a .n) (a .then .now) (a .a) (a .h) (k .interval-length .result) (k .interval-length .ensures)) (c .before .residual-at .ensures)
+    ∙ amount-cong (a .due) (lent-cell (a .n) (a .today .now) (a .a) (a .h) (s .pre .2) (k .interval-length .ensures) (i .cell-place .ensures)) (lent-cell (a .n) (a .then .now) (a .a) (a .h) (s .pre .2) (k .interval-length .ensures) (i .cell-place .ensures)) (c .before .residual-at .ensures)
 
 pub amount-at-spec : {M : Type 1} → statement M
 amount-at-spec =
     tie.close
-    (tie.spec interval-length-requires mul-i mul-i-2 add-i add-i-2 add-e mul-interval-amount sub-interval-amount part-interval-amount-start part-interval-amount-end mul-interval-amount-2 sub-interval-amount-2 part-interval-amount-start-2 part-interval-amount-end-2
+    (tie.spec interval-length-requires mul-i cell-place-requires add-i add-e mul-interval-amount sub-interval-amount part-interval-amount-start part-interval-amount-end mul-interval-amount-2 sub-interval-amount-2 part-interval-amount-start-2 part-interval-amount-end-2
     residual-at-requires interval-amount-requires returns)

@@ -17,7 +17,7 @@ use Rattle.rulebook.specs.laws.SizeLaws.{price-sized, vesting-size}
 use Rattle.amounts.specs.declared.interval.Residual.{Residual}
 use Rattle.amounts.specs.Cell.{cellData}
 use Rattle.amounts.specs.Day.{cellResidual, amountAt}
-use Rattle.amounts.specs.laws.CellLaws.{cell-sized, sum-cong}
+use Rattle.amounts.specs.laws.CellLaws.{sum-cong}
 use Rattle.amounts.specs.laws.DayLaws.{cell-residual-le}
 use Rattle.amounts.proofs.day.interval_amount.Statement.{statement}
 use Rattle.amounts.proofs.day.interval_amount.Tie as tie
@@ -41,7 +41,7 @@ residual-amount-requires c κs =
     let p = c .before in
     let s = p .before .before .before in
     let h = s .pre .1 (p .before .if1 .taken) in
-    (h, rw (price p) (price-sized (cellData (s .args .then .now)) (cell-sized (s .args .then .now) h)), omega (int, known (load-fits s), s .pre .2))
+    (h, rw (price p) (price-sized (cellData (s .args .then .now)) (h .sized)), omega (int, known (load-fits s), s .pre .2))
 
 -- vesting, read back
 vesting : (c : tie.After-vesting-amount) → toZ w64 (ofZ w64 (c .vesting-amount .result)) ≡ vestingAmount (cellData (c .before .args .today .now))
@@ -65,7 +65,7 @@ add-requires c κs =
       arith,
       ap natAbs (vesting (c .before .before .before .before)),
       ap natAbs (residual c),
-      vesting-size (cellData (s .args .today .now)) (cell-sized (s .args .today .now) (s .pre .0)),
+      vesting-size (cellData (s .args .today .now)) (s .pre .0 .sized),
       cell-residual-le (s .args .then .now) (s .pre .1 (c .before .before .before .if1 .taken)) (s .args .r),
     )
 

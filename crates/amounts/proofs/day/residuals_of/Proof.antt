@@ -14,21 +14,20 @@ use Rattle.integer.specs.laws.IntegerLaws.{int, fits-abs}
 use Rattle.integer.specs.Words.{part, filled}
 use Rattle.integer.specs.laws.WordsLaws.{row-fits, lent, filled-step, filled-whole}
 use Rattle.rulebook.specs.Units.{intervals}
-use Rattle.rulebook.specs.Layout.{intervalLength}
+use Rattle.rulebook.specs.Layout.{intervalLength, intervalOf}
 use Rattle.amounts.specs.declared.interval.Residual.{Residual}
 use Rattle.amounts.specs.declared.day.Residuals.{Residuals}
-use Rattle.rulebook.specs.DayAmount.{residualLoad, spareGeneration}
-use Rattle.amounts.specs.Interval.{loadIn, dataIn, residualAt}
+use Rattle.amounts.specs.Interval.{residualAt}
 use Rattle.amounts.specs.laws.IntervalLaws.{residual-le}
-use Rattle.amounts.specs.Day.{intervalOf, residualsOf}
+use Rattle.amounts.specs.Day.{residualsOf}
 use Rattle.amounts.proofs.day.residuals_of.Statement.{statement}
 use Rattle.amounts.proofs.day.residuals_of.Tie as tie
 
 abbrev loadAt : ℕ → List ℤ → ℕ → ℤ
-loadAt n x i = residualLoad (loadIn (intervalOf n x i)) n (dataIn (intervalOf n x i))
+loadAt n x i = residualAt n (intervalOf n x i) .load
 
 abbrev spareAt : ℕ → List ℤ → ℕ → ℕ
-spareAt n x i = spareGeneration n (dataIn (intervalOf n x i))
+spareAt n x i = residualAt n (intervalOf n x i) .spare
 
 abbrev Inv-loop : tie.InvT-loop
 Inv-loop slot n size loads₀ spares₀ h₀ loads spares h =

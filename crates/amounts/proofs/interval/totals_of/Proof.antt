@@ -1,13 +1,14 @@
 -- `totals_of` meets its contract: each turn takes one cell more, and 32 cells leave room.
 use mathlib.Core.Path.{_≡_, sym, ap, _∙_, subst}
 use mathlib.Core.List.{List}
-use Prim.Native.Nat.{ℕ, _+_, _*_, _-_, _≤_}
+use Prim.Native.Nat.{ℕ, _+_, _-_, _≤_}
 use native.Mathlib.Omega.{arith}
 use borrow.Author.Needs.{needs}
 use lib.IntN.{ℤ}
-use lib.ListN.{length}
-use Rattle.integer.specs.laws.WordsLaws.{row-fits, lent}
-use Rattle.rulebook.specs.Layout.{intervalWords, accountWords}
+use lib.ListN.{length, take, drop}
+use Rattle.integer.specs.Words.{part}
+use Rattle.integer.specs.laws.WordsLaws.{lent}
+use Rattle.rulebook.specs.Layout.{cellPlace, accountWords, cellOf}
 use Rattle.amounts.specs.declared.interval.Totals.{Totals}
 use Rattle.amounts.specs.Interval.{totalsOf, more, Room}
 use Rattle.amounts.specs.laws.IntervalLaws.{totals-zero, totals-suc, totals-room}
@@ -23,15 +24,16 @@ abbrev μ-loop : tie.MeasureT-loop
 loop-holds : tie.Need-loop-holds Inv-loop μ-loop
 loop-holds c = (omega arith, totals-zero (c .args .x .now))
 
+cell-place-requires : tie.Need-cell-place-requires Inv-loop μ-loop
+cell-place-requires c κs = search needs
+
 -- cell b lies within the interval
-fits : (c : tie.In-loop Inv-loop μ-loop) → intervalWords + c .before .loop .b * accountWords + accountWords ≤ length (c .before .before .args .x .now)
-fits c = let s = c .before .before in omega (arith, row-fits (c .before .loop .b) (s .args .n) accountWords (c .loop-test .taken), s .pre .0 .whole)
+fits : (c : tie.After-cell-place Inv-loop μ-loop) → c .cell-place .result + accountWords ≤ length (c .before .before .before .args .x .now)
+fits c = let s = c .before .before .before in omega (arith, c .cell-place .ensures, c .before .loop-test .taken, s .pre .0 .whole)
 
-mul-i : tie.Need-mul-i Inv-loop μ-loop
-mul-i c = omega (arith, fits c)
-
-add-i : tie.Need-add-i Inv-loop μ-loop
-add-i c = omega (arith, fits c)
+-- what is lent is the cell
+lent-cell : (x : List ℤ) (b i : ℕ) → i ≡ cellPlace b → take (i + accountWords - i) (drop i x) ≡ cellOf x b
+lent-cell x b i e = lent x i accountWords ∙ ap (λ (k : ℕ). part x k accountWords) e
 
 add-e : tie.Need-add-e Inv-loop μ-loop
 add-e c = omega (arith, fits c)
@@ -50,11 +52,12 @@ part-with-cell-end c = omega (arith, fits c)
 
 with-cell-requires : tie.Need-with-cell-requires Inv-loop μ-loop
 with-cell-requires c κs =
-    let l = c .before .before .loop in
-    let s = c .before .before .before in
+    let p = c .before .cell-place in
+    let l = c .before .before .before .loop in
+    let s = c .before .before .before .before in
     let x = s .args .x .now in (
-      rw (lent x (intervalWords + l .b * accountWords) accountWords) (s .pre .0 .cells (l .b) (c .before .loop-test .taken)),
-      subst Room (sym (l .inv .1)) (totals-room (s .args .n) x (s .pre .0) (s .pre .1) (l .b) (c .before .loop-test .taken)),
+      rw (lent-cell x (l .b) (p .result) (p .ensures)) (s .pre .0 .cells (l .b) (c .before .before .loop-test .taken)),
+      subst Room (sym (l .inv .1)) (totals-room (s .args .n) x (s .pre .0) (s .pre .1) (l .b) (c .before .before .loop-test .taken)),
     )
 
 add-b : tie.Need-add-b Inv-loop μ-loop
@@ -68,9 +71,10 @@ more-cong e f = cc
 
 loop-again : tie.Need-loop-again Inv-loop μ-loop
 loop-again c =
-    let l = c .before .before .before .loop in
-    let x = c .before .before .before .before .args .x .now in
-    (omega arith, c .with-cell .ensures ∙ more-cong (l .inv .1) (lent x (intervalWords + l .b * accountWords) accountWords) ∙ sym (totals-suc (l .b) x))
+    let p = c .before .before .cell-place in
+    let l = c .before .before .before .before .loop in
+    let x = c .before .before .before .before .before .args .x .now in
+    (omega arith, c .with-cell .ensures ∙ more-cong (l .inv .1) (lent-cell x (l .b) (p .result) (p .ensures)) ∙ sym (totals-suc (l .b) x))
 
 returns : tie.Need-returns Inv-loop μ-loop
 returns c =
@@ -79,4 +83,4 @@ returns c =
     c .before .loop .inv .1 ∙ ap (λ (n : ℕ). totalsOf n (s .args .x .now)) e
 
 pub totals-of-spec : {M : Type 1} → statement M
-totals-of-spec = tie.close (tie.spec Inv-loop μ-loop loop-holds mul-i add-i add-e mul-with-cell sub-with-cell part-with-cell-start part-with-cell-end with-cell-requires add-b loop-less loop-again returns)
+totals-of-spec = tie.close (tie.spec Inv-loop μ-loop loop-holds cell-place-requires add-e mul-with-cell sub-with-cell part-with-cell-start part-with-cell-end with-cell-requires add-b loop-less loop-again returns)

@@ -10,17 +10,14 @@ use Rattle.book.specs.laws.BlankLaws.{blank-part}
 use Rattle.book.proofs.header.balance_fits.Statement.{statement}
 use Rattle.book.proofs.header.balance_fits.Tie as tie
 
-mul-i : tie.Need-mul-i
-mul-i c = search needs
-
-add-i : tie.Need-add-i
-add-i c = search needs
+balance-word-requires : tie.Need-balance-word-requires
+balance-word-requires c κs = search needs
 
 add-s : tie.Need-add-s
-add-s c = search needs
+add-s c = omega (arith, c .balance-word .ensures)
 
 add-e : tie.Need-add-e
-add-e c = search needs
+add-e c = omega (arith, c .balance-word .ensures)
 
 mul-within-at : tie.Need-mul-within-at
 mul-within-at c = search needs
@@ -46,17 +43,17 @@ is-blank-requires c κs = search needs
 returns : tie.Need-returns
 unfolding balanceWordsFit balanceFits
 returns c =
-    let a = c .before .before .before .args in
-    let i : 64 + 8 * a .a ≡ 64 + a .a * 8 = omega arith in
-    let s : 65 + 8 * a .a ≡ 64 + a .a * 8 + 1 = omega arith in
-    rw (i, s, one-mul, c .before .before .within-at .ensures, c .is-blank .ensures, lent (a .book .now) (64 + a .a * 8 + 1) 7, blank-part (a .book .now) (64 + a .a * 8 + 1) 7 (omega arith))
+    let b = c .before .before .before in
+    let a = b .before .args in
+    let i = b .balance-word .result in
+    let s : 65 + 8 * a .a ≡ i + 1 = omega (arith, b .balance-word .ensures) in
+    rw (← b .balance-word .ensures, s, one-mul, c .before .before .within-at .ensures, c .is-blank .ensures, lent (a .book .now) (i + 1) 7, blank-part (a .book .now) (i + 1) 7 (omega (arith, b .balance-word .ensures)))
 
 pub balance-fits-spec : {M : Type 1} → statement M
 balance-fits-spec =
     tie.close
     (tie.spec
-    mul-i
-    add-i
+    balance-word-requires
     add-s
     add-e
     mul-within-at

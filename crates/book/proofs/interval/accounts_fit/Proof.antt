@@ -1,11 +1,12 @@
 -- `accounts_fit` meets its contract: each turn is one account more.
 use mathlib.Core.Path.{_≡_, _∙_}
-use Prim.Native.Nat.{_+_, _-_, _*_, _≤_}
+use Prim.Native.Nat.{_+_, _-_, _≤_}
 use native.Mathlib.Omega.{arith}
 use borrow.Author.Needs.{needs}
+use lib.ListN.{length}
 use Rattle.integer.specs.Below.{fold, all}
 use Rattle.integer.specs.Words.{word}
-use Rattle.rulebook.specs.Layout.{intervalWords, accountWords, accountPlace}
+use Rattle.rulebook.specs.Layout.{accountWords, accountPlace}
 use Rattle.rulebook.specs.WellFormed.{accountFits}
 use Rattle.book.specs.laws.LoopLaws.{all-step, length-lent}
 use Rattle.book.specs.laws.SlotLaws.{account-lent}
@@ -22,14 +23,15 @@ loop-holds : tie.Need-loop-holds Inv-loop μ-loop
 unfolding fold
 loop-holds c = search needs
 
-mul-i : tie.Need-mul-i Inv-loop μ-loop
-mul-i c = search needs
+cell-place-requires : tie.Need-cell-place-requires Inv-loop μ-loop
+cell-place-requires c κs = search needs
 
-add-i : tie.Need-add-i Inv-loop μ-loop
-add-i c = search needs
+-- account a's words lie within the interval
+fits : (c : tie.After-cell-place Inv-loop μ-loop) → c .cell-place .result + accountWords ≤ length (c .before .before .before .args .interval .now)
+fits c = let s = c .before .before .before in omega (arith, c .cell-place .ensures, c .before .loop-test .taken, s .pre .0)
 
 add-e : tie.Need-add-e Inv-loop μ-loop
-add-e c = search needs
+add-e c = omega (arith, c .cell-place .ensures, c .before .loop-test .taken, c .before .before .before .pre .1)
 
 mul-account-fits : tie.Need-mul-account-fits Inv-loop μ-loop
 mul-account-fits c = search needs
@@ -41,10 +43,10 @@ part-account-fits-start : tie.Need-part-account-fits-start Inv-loop μ-loop
 part-account-fits-start c = search needs
 
 part-account-fits-end : tie.Need-part-account-fits-end Inv-loop μ-loop
-part-account-fits-end c = search needs
+part-account-fits-end c = omega (arith, fits c)
 
 account-fits-requires : tie.Need-account-fits-requires Inv-loop μ-loop
-account-fits-requires c κs = length-lent (c .before .before .before .args .interval .now) (intervalWords + c .before .before .loop .a * accountWords) accountWords (omega arith)
+account-fits-requires c κs = length-lent (c .before .before .before .before .args .interval .now) (c .before .cell-place .result) accountWords (fits (c .before))
 
 add-a : tie.Need-add-a Inv-loop μ-loop
 add-a c = search needs
@@ -54,9 +56,9 @@ loop-less c = search needs
 
 loop-again : tie.Need-loop-again Inv-loop μ-loop
 loop-again c =
-    let s = c .before .before .before .before .args in
-    let l = c .before .before .before .loop in
-    (omega arith, all-step (l .a) _ (l .inv .1) (c .account-fits .ensures ∙ account-lent (s .closed) (s .interval .now) (l .a)))
+    let s = c .before .before .before .before .before .args in
+    let l = c .before .before .before .before .loop in
+    (omega arith, all-step (l .a) _ (l .inv .1) (c .account-fits .ensures ∙ account-lent (s .closed) (s .interval .now) (l .a) (c .before .before .cell-place .ensures)))
 
 returns : tie.Need-returns Inv-loop μ-loop
 returns c = let e : c .before .loop .a ≡ c .before .before .args .n = omega arith in rw e at (c .before .loop .inv .1)
@@ -68,8 +70,7 @@ accounts-fit-spec =
     Inv-loop
     μ-loop
     loop-holds
-    mul-i
-    add-i
+    cell-place-requires
     add-e
     mul-account-fits
     sub-account-fits

@@ -27,27 +27,24 @@ add-slot c = search needs
 rem-slot : tie.Need-rem-slot
 rem-slot c = search needs
 
+balance-word-requires : tie.Need-balance-word-requires
+balance-word-requires c κs = search needs
+
 mul-result : tie.Need-mul-result
-mul-result c = search needs
-
-add-result : tie.Need-add-result
-add-result c = search needs
-
-mul-result-2 : tie.Need-mul-result-2
-mul-result-2 c = omega (arith, few (c .before .before .before))
+mul-result c = omega (arith, few (c .before .before .before))
 
 interval-size-requires : tie.Need-interval-size-requires
 interval-size-requires c κs = search needs
 
-mul-result-3 : tie.Need-mul-result-3
-mul-result-3 c = omega (arith, small c)
+mul-result-2 : tie.Need-mul-result-2
+mul-result-2 c = omega (arith, small c)
 
-add-result-2 : tie.Need-add-result-2
-add-result-2 c = omega (arith, small c)
+add-result : tie.Need-add-result
+add-result c = omega (arith, small c, c .before .balance-word .ensures)
 
 returns : tie.Need-returns
 unfolding slotStart intervalWord base slot ring
-returns c = rw (← c .interval-size .ensures .0) (omega arith)
+returns c = rw (← c .interval-size .ensures .0) (omega (arith, c .before .balance-word .ensures))
 
 pub slot-start-spec : {M : Type 1} → statement M
 slot-start-spec =
@@ -56,10 +53,9 @@ slot-start-spec =
     sub-slot
     add-slot
     rem-slot
+    balance-word-requires
     mul-result
-    add-result
-    mul-result-2
     interval-size-requires
-    mul-result-3
-    add-result-2
+    mul-result-2
+    add-result
     returns)

@@ -22,25 +22,23 @@ abbrev μ-loop : tie.MeasureT-loop
 loop-holds : tie.Need-loop-holds Inv-loop μ-loop
 loop-holds c = (omega arith, refl, grown-none _ _)
 
-mul-grow : tie.Need-mul-grow Inv-loop μ-loop
-mul-grow c = omega (arith, c .before .before .before .pre .1)
-
-add-grow : tie.Need-add-grow Inv-loop μ-loop
-add-grow c = omega (arith, c .before .before .before .pre .1)
+balance-word-requires : tie.Need-balance-word-requires Inv-loop μ-loop
+balance-word-requires c κs = omega (arith, c .before .before .before .pre .1)
 
 word-at-requires : tie.Need-word-at-requires Inv-loop μ-loop
-word-at-requires c κs = omega (arith, c .before .before .before .pre .0 .statement)
+word-at-requires c κs = omega (arith, c .before .before .before .before .pre .0 .statement)
 
 -- the amount of a turn, read back
-amount : (c : tie.After-word-at Inv-loop μ-loop) → toZ w64 (ofZ w64 (c .word-at .result)) ≡ word (c .before .before .before .before .args .statement .now) (c .before .before .before .loop .a)
+amount : (c : tie.After-word-at Inv-loop μ-loop) → toZ w64 (ofZ w64 (c .word-at .result)) ≡ word (c .before .before .before .before .before .args .statement .now) (c .before .before .before .before .loop .a)
 amount c = got (c .word-at .result) (c .word-at .ok) ∙ c .word-at .ensures
 
 grow-requires : tie.Need-grow-requires Inv-loop μ-loop
 grow-requires c κs =
-    let l = c .before .before .before .loop in
-    let s = c .before .before .before .before in
-    let k = c .before .before .loop-test .taken in
-    (omega (arith, s .pre .0 .book), rw (amount c, l .inv .2, grown-next (s .args .book .now) (word (s .args .statement .now)) (l .a) (balanceWord (l .a)) (omega arith)) (s .pre .0 .each (l .a) k))
+    let b = c .before in
+    let l = b .before .before .before .loop in
+    let s = b .before .before .before .before in
+    let k = b .before .before .loop-test .taken in
+    (omega (arith, s .pre .0 .book, b .balance-word .ensures), rw (amount c, b .balance-word .ensures, l .inv .2, grown-next (s .args .book .now) (word (s .args .statement .now)) (l .a) (balanceWord (l .a)) (omega arith)) (s .pre .0 .each (l .a) k))
 
 add-a : tie.Need-add-a Inv-loop μ-loop
 add-a c = omega arith
@@ -51,10 +49,11 @@ loop-less c = omega arith
 loop-again : tie.Need-loop-again Inv-loop μ-loop
 loop-again c =
     let b = c .before .before in
-    let l = b .before .before .before .loop in
-    let s = b .before .before .before .before in
+    let p = b .before .balance-word in
+    let l = b .before .before .before .before .loop in
+    let s = b .before .before .before .before .before in
     let g = c .before .grow in
-    (omega arith, g .kept .0 ∙ l .inv .1, g .ensures ∙ grown-step (s .args .book .now) (word (s .args .statement .now)) (l .a) (l .inv .2) (amount b))
+    (omega arith, g .kept .0 ∙ l .inv .1, g .ensures ∙ rw (p .ensures) (grown-step (s .args .book .now) (word (s .args .statement .now)) (l .a) (l .inv .2) (amount b)))
 
 same-length : tie.Need-same-length Inv-loop μ-loop
 same-length c = c .before .loop .inv .1
@@ -73,8 +72,7 @@ grow-balances-spec =
     Inv-loop
     μ-loop
     loop-holds
-    mul-grow
-    add-grow
+    balance-word-requires
     word-at-requires
     grow-requires
     add-a

@@ -4,11 +4,8 @@ use borrow.Author.Needs.{needs}
 use Rattle.submission.proofs.places.place_of.Statement.{statement}
 use Rattle.submission.proofs.places.place_of.Tie as tie
 
-mul-cell : tie.Need-mul-cell
-mul-cell c = search needs
-
-add-cell : tie.Need-add-cell
-add-cell c = search needs
+cell-place-requires : tie.Need-cell-place-requires
+cell-place-requires c κs = search needs
 
 enum-told : tie.Need-enum-told
 enum-told c = search needs
@@ -47,8 +44,7 @@ pub place-of-spec : {M : Type 1} → statement M
 place-of-spec =
     tie.close
     (tie.spec
-    mul-cell
-    add-cell
+    cell-place-requires
     enum-told
     add-result
     enum-told-2
