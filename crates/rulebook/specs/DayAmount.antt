@@ -93,7 +93,7 @@ module _ (load n : ℕ) (x : ℕ → AccountData) where
 
 -- what these shares total
 abbrev pub IntervalShares : ℕ → ℕ → (ℕ → AccountData) → Type 0
-IntervalShares load n x = ShareTotal (residualLoad load n x) n (λ b. x b .uegq)
+IntervalShares load n x = ShareTotal (rvq load n x) (residualLoad load n x) n (λ b. x b .uegq)
 
 -- ---- The day
 

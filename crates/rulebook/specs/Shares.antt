@@ -37,9 +37,9 @@ pub record RuleShare (r : ℤ) (s u q : ℕ) : Type 0 where
   pub fits : NotAbove r s u q
   pub greatest : (p : ℕ) → NotAbove r s u p → p ≤ q
 
--- with S the spare generation and max(R, 0) the residual load: the shares total at most each, and fall short of the smaller by fewer kWh
+-- with S the spare generation and max(R, 0) the residual load: the shares q total at most each, and fall short of the smaller by fewer kWh
 -- than there are accounts
-pub record ShareTotal (r : ℤ) (n : ℕ) (uegq : ℕ → ℕ) : Type 0 where
-  pub spare : sumℕ n (share r n uegq) ≤ sumℕ n uegq
-  pub residual : sumℕ n (share r n uegq) ≤ positive r
-  pub short : 0 < n → min (sumℕ n uegq) (positive r) < sumℕ n (share r n uegq) + n
+pub record ShareTotal (q : ℕ → ℕ) (r : ℤ) (n : ℕ) (uegq : ℕ → ℕ) : Type 0 where
+  pub spare : sumℕ n q ≤ sumℕ n uegq
+  pub residual : sumℕ n q ≤ positive r
+  pub short : 0 < n → min (sumℕ n uegq) (positive r) < sumℕ n q + n

@@ -14,7 +14,7 @@ use Rattle.rulebook.specs.declared.Terms.{Terms}
 use Rattle.rulebook.specs.declared.Section.{Section}
 use Rattle.rulebook.specs.declared.Verdict.the-variants.{Accepted}
 use Rattle.rulebook.specs.Units.{lastDay, intervals, nearest}
-use Rattle.rulebook.specs.Shares.{shareOf, ShareTotal, RuleShare}
+use Rattle.rulebook.specs.Shares.{shareOf, share, ShareTotal, RuleShare}
 use Rattle.rulebook.specs.Tranches.{TrancheSplit}
 use Rattle.rulebook.specs.DayAmount.{AccountData, SettlementData, exactAmount, postedAmount, msslAmount, IntervalShares, msslExact}
 use Rattle.rulebook.specs.Terms.{InTerms}
@@ -135,7 +135,7 @@ pub record Theorems : Type 0 where
 
   pub nearestIs : (z : ℤ) (d : ℕ) → 0 < d → IsNearest z d (nearest z d)
   pub shareRule : (r : ℤ) (s u : ℕ) → 0 < s → RuleShare r s u (shareOf r s u)
-  pub shareTotal : (r : ℤ) (n : ℕ) (uegq : ℕ → ℕ) → ShareTotal r n uegq
+  pub shareTotal : (r : ℤ) (n : ℕ) (uegq : ℕ → ℕ) → ShareTotal (share r n uegq) r n uegq
   pub intervalShares : (load n : ℕ) (x : ℕ → AccountData) → IntervalShares load n x
   pub tranches : (rvq bvq mq : ℕ) → TrancheSplit rvq bvq mq
   -- posted cents are within 500 thousandths of the exact amount, the MSSL's within N × 500

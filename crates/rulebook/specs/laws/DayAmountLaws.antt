@@ -11,10 +11,11 @@ use Rattle.integer.specs.Ring.{as-diff, diffs, ring}
 use Rattle.integer.specs.laws.NearestLaws.{nearest-is}
 use Rattle.rulebook.specs.declared.Terms.{Terms}
 use Rattle.rulebook.specs.Units.{thousandthsPerCent}
-use Rattle.rulebook.specs.DayAmount.{AccountData, SettlementData, residualLoad, IntervalShares, exactAmount, postedAmount, msslAmount, msslExact}
+use Rattle.rulebook.specs.DayAmount.{AccountData, SettlementData, residualLoad, rvq, IntervalShares, exactAmount, postedAmount, msslAmount, msslExact}
 use Rattle.rulebook.specs.laws.SharesLaws.{share-total}
 
 pub interval-shares : (load n : ℕ) (x : ℕ → AccountData) → IntervalShares load n x
+unfolding rvq
 interval-shares load n x = share-total (residualLoad load n x) n (λ b. x b .uegq)
 
 module _ (o : Terms) (x : SettlementData) (D : ℕ) where

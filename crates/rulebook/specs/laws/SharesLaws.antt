@@ -112,11 +112,11 @@ quotients-say (suc n) r s u h =
     let c = suc-mul n s in
     (omega (arith, x .0, y .0), omega (arith, x .1, y .1))
 
-pub share-total : (r : ℤ) (n : ℕ) (uegq : ℕ → ℕ) → ShareTotal r n uegq
+pub share-total : (r : ℤ) (n : ℕ) (uegq : ℕ → ℕ) → ShareTotal (share r n uegq) r n uegq
 unfolding share
 share-total r n uegq = ⊎-elim none (λ k. ⊎-elim (part (k .0)) (full (k .1)) (lt-or-le (positive r) (sumℕ n uegq))) (none-or-some r (sumℕ n uegq))
   where
-    none : (positive r ≡ 0) ⊎ (sumℕ n uegq ≡ 0) → ShareTotal r n uegq
+    none : (positive r ≡ 0) ⊎ (sumℕ n uegq ≡ 0) → ShareTotal (share r n uegq) r n uegq
     none k =
         let e = fold-unit _+_ 0 refl n (λ a. shareOf r (sumℕ n uegq) (uegq a)) (λ a l. share-none r (sumℕ n uegq) (uegq a) k) in
         record {
@@ -125,7 +125,7 @@ share-total r n uegq = ⊎-elim none (λ k. ⊎-elim (part (k .0)) (full (k .1))
           short = λ l. ⊎-elim (λ p. omega arith) (λ p. omega arith) k;
         }
 
-    full : 0 < sumℕ n uegq → sumℕ n uegq ≤ positive r → ShareTotal r n uegq
+    full : 0 < sumℕ n uegq → sumℕ n uegq ≤ positive r → ShareTotal (share r n uegq) r n uegq
     full h k =
         let e = sumℕ-cong n (λ a. shareOf r (sumℕ n uegq) (uegq a)) uegq (λ a l. share-full r (sumℕ n uegq) (uegq a) h k) in
         record { spare = omega arith; residual = omega arith; short = λ l. omega arith }
@@ -136,7 +136,7 @@ share-total r n uegq = ⊎-elim none (λ k. ⊎-elim (part (k .0)) (full (k .1))
       λ l. lt-of-mul-lt-mul-left s {m = positive r} {n = q + n} (omega (arith, x .1, mul-add s q n, mul-comm (positive r) s, mul-comm n s)),
     )
 
-    part : 0 < positive r → positive r < sumℕ n uegq → ShareTotal r n uegq
+    part : 0 < positive r → positive r < sumℕ n uegq → ShareTotal (share r n uegq) r n uegq
     part h k =
         let q = sumℕ n (λ a. positive r * uegq a / sumℕ n uegq) in
         let e : sumℕ n (λ a. shareOf r (sumℕ n uegq) (uegq a)) ≡ q = sumℕ-cong n _ (λ a. positive r * uegq a / sumℕ n uegq) (λ a l. share-part r (sumℕ n uegq) (uegq a) h k) in
