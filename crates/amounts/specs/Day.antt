@@ -11,7 +11,7 @@ use Rattle.rulebook.specs.Shares.{leastResidual, shareOf}
 use Rattle.rulebook.specs.Units.{intervals}
 use Rattle.rulebook.specs.DayAmount.{referencePriceOf, vestingAmount, shareAmount, inCents}
 use Rattle.rulebook.specs.Layout.{slotLength, intervalOf, cellOf}
-use Rattle.amounts.specs.declared.interval.Residual.{Residual}
+use Rattle.amounts.specs.declared.interval.ResidualAndSpare.{ResidualAndSpare}
 use Rattle.amounts.specs.declared.day.Residuals.{Residuals}
 use Rattle.amounts.specs.declared.total.DayTotal.{DayTotal}
 use Rattle.amounts.specs.Cell.{cellData}
@@ -37,7 +37,7 @@ abbrev pub noResiduals : Residuals
 noResiduals = record { loads = replicate intervals (pos 0); spares = replicate intervals 0 }
 
 -- those of interval i
-abbrev pub residualIn : Residuals → ℕ → Residual
+abbrev pub residualIn : Residuals → ℕ → ResidualAndSpare
 residualIn rs i = record { load = word (rs .loads) i; spare = getD (rs .spares) i 0 }
 
 -- the slots of today and, where a residual is due, of then; R of each interval within what a share takes
@@ -48,11 +48,11 @@ pub record DaysRanged (n : ℕ) (today then : List ℤ) (due : Bool) (rs : Resid
   pub loads : (i : ℕ) → i < intervals → natAbs (word (rs .loads) i) ≤ leastResidual
 
 -- a cell's share of R and S, at its V
-abbrev pub cellResidual : List ℤ → Residual → ℤ
+abbrev pub cellResidual : List ℤ → ResidualAndSpare → ℤ
 cellResidual c r = shareAmount (cellData c) (referencePriceOf (cellData c)) (shareOf (r .load) (r .spare) (cellData c .uegq))
 
 -- what an account has at an interval: vesting of today's cell and, where due, the residual of then's
-abbrev pub amountAt : List ℤ → List ℤ → Bool → Residual → ℤ
+abbrev pub amountAt : List ℤ → List ℤ → Bool → ResidualAndSpare → ℤ
 amountAt today then due r = vestingAmount (cellData today) +ℤ cond due (cellResidual then r) (pos 0)
 
 -- account a's amount at interval i of two slots

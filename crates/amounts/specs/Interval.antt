@@ -13,7 +13,7 @@ use Rattle.rulebook.specs.Sections.{NccLoad, loadBy}
 use Rattle.rulebook.specs.DayAmount.{AccountData, tenders, vestedQuantity, hedgeTotal, spareGeneration, residualLoad}
 use Rattle.rulebook.specs.Layout.{intervalLength, cellOf, figureAt}
 use Rattle.amounts.specs.declared.interval.Totals.{Totals}
-use Rattle.amounts.specs.declared.interval.Residual.{Residual}
+use Rattle.amounts.specs.declared.interval.ResidualAndSpare.{ResidualAndSpare}
 use Rattle.amounts.specs.Cell.{cellData, RangedCell}
 
 -- ---- An interval of n accounts: its own words, then the cells
@@ -31,7 +31,7 @@ abbrev pub dataIn : List ℤ → ℕ → AccountData
 dataIn x b = cellData (cellOf x b)
 
 -- R and S
-abbrev pub residualAt : ℕ → List ℤ → Residual
+abbrev pub residualAt : ℕ → List ℤ → ResidualAndSpare
 residualAt n x = record { load = residualLoad (loadIn x) n (dataIn x); spare = spareGeneration n (dataIn x) }
 
 -- what R is formed of, and S

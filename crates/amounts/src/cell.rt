@@ -73,7 +73,7 @@ fn sums_of(c: &[i64]) -> Sums
 }
 
 // V.
-pub fn reference_price(c: &[i64]) -> i64
+pub fn price_at(c: &[i64]) -> i64
     requires { ⌜ RangedCell (now c) ⌝ }
     ensures { λ r. ⌜ r ≡ referencePriceOf (cellData (now (c .entry))) ⌝ }
 {
@@ -111,13 +111,13 @@ pub fn vesting_amount(c: &[i64]) -> i64
     requires { ⌜ RangedCell (now c) ⌝ }
     ensures { λ r. ⌜ r ≡ vestingAmount (cellData (now (c .entry))) ⌝ }
 {
-    let v = reference_price(c);
+    let v = price_at(c);
     let base = priced_at(c, BVP, v, quantity_at(c, BVQ));
     add(base, tender_amount(c, v))
 }
 
 // UEGQ.
-pub fn spare_generation(c: &[i64]) -> u64
+pub fn uegq_of(c: &[i64]) -> u64
     requires { ⌜ RangedCell (now c) ⌝ }
     ensures { λ r. ⌜ (r ≡ cellData (now (c .entry)) .uegq) × (r ≤ mostQuantity) ⌝ }
 {
@@ -129,7 +129,7 @@ pub fn residual_amount(c: &[i64], v: i64, r: i64, s: u64) -> i64
     requires { ⌜ RangedCell (now c) × (natAbs v ≤ mostPrice) × (natAbs r ≤ leastResidual) ⌝ }
     ensures { λ z. ⌜ z ≡ shareAmount (cellData (now (c .entry))) v (shareOf r s (cellData (now (c .entry)) .uegq)) ⌝ }
 {
-    let share = share_of(r, s, spare_generation(c));
+    let share = share_of(r, s, uegq_of(c));
     let first = first_tranche(share, quantity_at(c, BVQ), quantity_at(c, MQ));
     let one = priced_at(c, RVP1, v, first);
     add(one, priced_at(c, RVP2, v, share - first))

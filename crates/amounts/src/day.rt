@@ -1,9 +1,9 @@
 // Document 01, "Day amount": an account's posted amount from the slots of D and of r.
-use crate::cell::reference_price;
+use crate::cell::price_at;
 use crate::cell::residual_amount;
 use crate::cell::vesting_amount;
-use crate::interval::Residual;
-use crate::interval::residual_of;
+use crate::interval::ResidualAndSpare;
+use crate::interval::residual_at;
 use crate::total::DayTotal;
 use crate::total::absorb;
 use integer::add;
@@ -39,7 +39,7 @@ fn residuals_of(slot: &[i64], n: usize) -> Residuals
     for h in 0..INTERVALS {
         let i = h * size;
         let e = i + size;
-        let r = residual_of(&slot[i..e], n);
+        let r = residual_at(&slot[i..e], n);
         let load = r.load;
         loads[h] = load;
         spares[h] = r.spare;
@@ -73,23 +73,23 @@ pub fn residuals_due(slot: &[i64], due: bool, n: usize) -> Residuals
 }
 
 // R and S of interval h.
-fn residual_at(residuals: Residuals, h: usize) -> Residual
+fn residual_in(residuals: Residuals, h: usize) -> ResidualAndSpare
     requires { ⌜ h < intervals ⌝ }
     ensures { λ r. ⌜ r ≡ residualIn residuals h ⌝ }
 {
     let load = residuals.loads[h];
     let spare = residuals.spares[h];
-    Residual { load, spare }
+    ResidualAndSpare { load, spare }
 }
 
 // One account at one interval: vesting of today's cell and, where a residual is due, that of then's with V of then.
-fn interval_amount(today: &[i64], then: &[i64], due: bool, r: Residual) -> i64
+fn amount_at(today: &[i64], then: &[i64], due: bool, r: ResidualAndSpare) -> i64
     requires { ⌜ RangedCell (now today) × (due ≡ true → RangedCell (now then)) × (natAbs (r .load) ≤ leastResidual) ⌝ }
     ensures { λ z. ⌜ z ≡ amountAt (now (today .entry)) (now (then .entry)) due r ⌝ }
 {
     let vesting = vesting_amount(today);
     if due {
-        let v = reference_price(then);
+        let v = price_at(then);
         add(vesting, residual_amount(then, v, r.load, r.spare))
     } else {
         vesting
@@ -97,7 +97,7 @@ fn interval_amount(today: &[i64], then: &[i64], due: bool, r: Residual) -> i64
 }
 
 // The account's amount at interval h of today's slot and, where a residual is due, of then's.
-fn amount_at(
+fn slot_amount(
     today: &[i64],
     then: &[i64],
     due: bool,
@@ -111,7 +111,7 @@ fn amount_at(
 {
     let i = h * interval_length(n) + cell_place(a);
     let e = i + ACCOUNT_WORDS;
-    interval_amount(&today[i..e], &then[i..e], due, residual_at(residuals, h))
+    amount_at(&today[i..e], &then[i..e], due, residual_in(residuals, h))
 }
 
 // The account's amount over the 48 intervals: the day's total is lent to take each.
@@ -128,7 +128,10 @@ fn exact_amount(
 {
     let mut total = DayTotal { thousandths: 0 };
     for h in 0..INTERVALS {
-        absorb(&mut total, amount_at(today, then, due, residuals, n, a, h));
+        absorb(
+            &mut total,
+            slot_amount(today, then, due, residuals, n, a, h),
+        );
     }
     total
 }

@@ -1,5 +1,5 @@
 // Document 01, "Shares and tranches": R and S of one interval. An interval is its own 4 words and a cell for each account.
-use crate::cell::spare_generation;
+use crate::cell::uegq_of;
 use crate::cell::vested_quantity;
 use integer::signed;
 use integer::word_at;
@@ -21,7 +21,7 @@ pub struct Totals {
 }
 
 // The residual load R and the spare generation S.
-pub struct Residual {
+pub struct ResidualAndSpare {
     pub load: i64,
     pub spare: u64,
 }
@@ -33,7 +33,7 @@ fn with_cell(totals: Totals, c: &[i64]) -> Totals
 {
     Totals {
         vested: totals.vested + vested_quantity(c),
-        spare: totals.spare + spare_generation(c),
+        spare: totals.spare + uegq_of(c),
     }
 }
 
@@ -63,12 +63,12 @@ fn less_vested(load: i64, vested: u64) -> i64
 }
 
 // R and S.
-pub fn residual_of(x: &[i64], n: usize) -> Residual
+pub fn residual_at(x: &[i64], n: usize) -> ResidualAndSpare
     requires { ⌜ IntervalRanged n (now x) × (n ≤ mostAccounts) ⌝ }
     ensures { λ r. ⌜ r ≡ residualAt n (now (x .entry)) ⌝ }
 {
     let totals = totals_of(x, n);
-    Residual {
+    ResidualAndSpare {
         load: less_vested(word_at(x, NCC_LOAD), totals.vested),
         spare: totals.spare,
     }

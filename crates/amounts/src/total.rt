@@ -11,7 +11,7 @@ pub struct DayTotal {
 }
 
 // The total with one interval's amount more.
-pub fn added(total: DayTotal, amount: i64) -> DayTotal
+pub fn total_after(total: DayTotal, amount: i64) -> DayTotal
     requires { ⌜ SFits w64 (total .thousandths +ℤ amount) ⌝ }
     ensures { λ r. ⌜ r ≡ absorbed total amount ⌝ }
 {
@@ -25,5 +25,5 @@ pub fn absorb(total: &mut DayTotal, amount: i64)
     requires { ⌜ SFits w64 (now total .thousandths +ℤ amount) ⌝ }
     ensures { λ _. ⌜ now (total .exit) ≡ absorbed (now (total .entry)) amount ⌝ }
 {
-    *total = added(*total, amount);
+    *total = total_after(*total, amount);
 }

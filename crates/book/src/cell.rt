@@ -18,7 +18,7 @@ ghost use Rattle.integer.specs.Words.{word};
 ghost use Rattle.rulebook.specs.declared.Section.the-variants.{Vesting, Meter, Residual};
 ghost use Rattle.rulebook.specs.Layout.{accountWords};
 ghost use Rattle.rulebook.specs.Units.{inRange};
-ghost use Rattle.rulebook.specs.WellFormed.{isZero, rowFits, rowOf, rowsThere, accountFits};
+ghost use Rattle.rulebook.specs.WellFormed.{isZero, rowFits, wordOfRow, rowsThere, accountFits};
 ghost use Rattle.rulebook.specs.RowPairs.{rowPairs, pairsInRange, restZero, pairsFit};
 
 // Pairs of a vesting row, its base and three tenders, and of a meter row.
@@ -89,7 +89,7 @@ fn pairs_fit(cell: &[i64], flag: usize, first: Kind, second: Kind) -> bool
 // 0 absent or 1 + tranche count; BVQ, BVP; three TVQ and TVP pairs.
 fn vesting_fits(cell: &[i64]) -> bool
     requires { ⌜ length (now cell) ≡ accountWords ⌝ }
-    ensures { λ r. ⌜ r ≡ rowFits Vesting (rowOf (word (now (cell .entry))) Vesting) ⌝ }
+    ensures { λ r. ⌜ r ≡ rowFits Vesting (wordOfRow (word (now (cell .entry))) Vesting) ⌝ }
 {
     pairs_fit(cell, VESTING_FLAG, Kind::Quantity, Kind::Price)
 }
@@ -97,7 +97,7 @@ fn vesting_fits(cell: &[i64]) -> bool
 // 0 absent or facility count; four MEP and IEQ pairs.
 fn meter_fits(cell: &[i64]) -> bool
     requires { ⌜ length (now cell) ≡ accountWords ⌝ }
-    ensures { λ r. ⌜ r ≡ rowFits Meter (rowOf (word (now (cell .entry))) Meter) ⌝ }
+    ensures { λ r. ⌜ r ≡ rowFits Meter (wordOfRow (word (now (cell .entry))) Meter) ⌝ }
 {
     pairs_fit(cell, METER_FLAG, Kind::Price, Kind::Injection)
 }
@@ -105,7 +105,7 @@ fn meter_fits(cell: &[i64]) -> bool
 // Residual present; UEGQ, MQ, RVP1, RVP2.
 fn residual_fits(cell: &[i64]) -> bool
     requires { ⌜ length (now cell) ≡ accountWords ⌝ }
-    ensures { λ r. ⌜ r ≡ rowFits Residual (rowOf (word (now (cell .entry))) Residual) ⌝ }
+    ensures { λ r. ⌜ r ≡ rowFits Residual (wordOfRow (word (now (cell .entry))) Residual) ⌝ }
 {
     if !between_at(cell, RESIDUAL_FLAG, 0, 1) {
         return false;

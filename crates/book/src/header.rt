@@ -69,7 +69,7 @@ pub fn header_fits(book: &[i64]) -> bool
 }
 
 // A word that is not below zero, as an unsigned number.
-fn count_at(book: &[i64], i: usize) -> usize
+fn unsigned_at(book: &[i64], i: usize) -> usize
     requires { ⌜ (i < length (now book)) × (negative (word (now book) i) ≡ 0) ⌝ }
     ensures { λ r. ⌜ r ≡ positive (word (now (book .entry)) i) ⌝ }
 {
@@ -81,10 +81,10 @@ pub fn terms_of(book: &[i64]) -> Terms
     requires { ⌜ (headerWords ≤ length (now book)) × (headerFits (now book) ≡ true) ⌝ }
     ensures { λ r. ⌜ r ≡ termsOf (now (book .entry)) ⌝ }
 {
-    let accounts = count_at(book, layout::ACCOUNTS);
-    let lag = count_at(book, layout::LAG);
-    let horizon = count_at(book, layout::HORIZON);
-    let first = count_at(book, layout::FIRST_DAY);
+    let accounts = unsigned_at(book, layout::ACCOUNTS);
+    let lag = unsigned_at(book, layout::LAG);
+    let horizon = unsigned_at(book, layout::HORIZON);
+    let first = unsigned_at(book, layout::FIRST_DAY);
     Terms {
         accounts: accounts,
         lag: lag,
@@ -98,7 +98,7 @@ pub fn next_day_of(book: &[i64]) -> usize
     requires { ⌜ (headerWords ≤ length (now book)) × (headerFits (now book) ≡ true) ⌝ }
     ensures { λ r. ⌜ r ≡ nextDay (now (book .entry)) ⌝ }
 {
-    count_at(book, layout::NEXT_DAY)
+    unsigned_at(book, layout::NEXT_DAY)
 }
 
 // "The book": "Size: 64 + 8N + 48(L + H)(4 + 24N) words"
@@ -111,7 +111,7 @@ pub fn book_size(terms: Terms) -> usize
 }
 
 // Account a's balance within (C − F) × 4,800,000,000,000 cents either way, and its seven zeros.
-fn balance_fits(book: &[i64], closes: usize, a: usize) -> bool
+fn balance_words_fit(book: &[i64], closes: usize, a: usize) -> bool
     requires { ⌜ (a < mostAccounts) × (closes ≤ lastDay) × (balanceWord a + balanceWords ≤ length (now book)) ⌝ }
     ensures { λ r. ⌜ r ≡ balanceWordsFit (now (book .entry)) closes a ⌝ }
 {
@@ -128,7 +128,7 @@ pub fn balances_fit(book: &[i64], n: usize, closes: usize) -> bool
 {
     let mut ok = true;
     for a in 0..n {
-        ok = ok & balance_fits(book, closes, a);
+        ok = ok & balance_words_fit(book, closes, a);
     }
     ok
 }

@@ -5,7 +5,7 @@ use Prim.Native.Nat.{ℕ}
 use lib.IntN.{ℤ}
 use Rattle.integer.specs.Words.{part}
 use Rattle.rulebook.specs.declared.Terms.{Terms}
-use Rattle.rulebook.specs.DayAmount.{residualDue, residualDay}
+use Rattle.rulebook.specs.DayAmount.{settlesResidual, residualDay}
 use Rattle.rulebook.specs.Layout.{slotLength, slotStart}
 use Rattle.amounts.specs.declared.day.Residuals.{Residuals}
 use Rattle.amounts.specs.Day.{residualsOf, noResiduals}
@@ -16,8 +16,8 @@ slotWords o w d = part w (slotStart o d) (slotLength (o .accounts))
 
 -- the day whose slot a close settles residuals from: r, and D itself where none is due (its slot is lent but not read)
 unfoldable pub thenDay : Terms → ℕ → ℕ
-thenDay o D = cond (residualDue o D) (residualDay o D) D
+thenDay o D = cond (settlesResidual o D) (residualDay o D) D
 
 -- R and S of each interval of r, none where no residual is due
 unfoldable pub residualsDue : Terms → List ℤ → ℕ → Residuals
-residualsDue o w D = cond (residualDue o D) (residualsOf (o .accounts) (slotWords o w (thenDay o D))) noResiduals
+residualsDue o w D = cond (settlesResidual o D) (residualsOf (o .accounts) (slotWords o w (thenDay o D))) noResiduals

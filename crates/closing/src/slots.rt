@@ -2,13 +2,13 @@
 use rulebook::Terms;
 ghost use mathlib.Core.Path.{_≡_};
 ghost use Rattle.rulebook.specs.Terms.{InTerms};
-ghost use Rattle.rulebook.specs.DayAmount.{residualDue};
+ghost use Rattle.rulebook.specs.DayAmount.{settlesResidual};
 ghost use Rattle.closing.specs.Slots.{thenDay};
 
 // A residual is due: r is not before F.
 pub fn is_due(terms: Terms, day: usize) -> bool
     requires { ⌜ InTerms terms ⌝ }
-    ensures { λ r. ⌜ r ≡ residualDue terms day ⌝ }
+    ensures { λ r. ⌜ r ≡ settlesResidual terms day ⌝ }
 {
     terms.first + terms.lag <= day
 }

@@ -32,7 +32,7 @@ use denote.Triple.Spec.{tripleOf}
 use denote.Triple.Walked.{says}
 use Rattle.files.specs.Fields.{fieldAt, nextOf, past}
 use Rattle.files.specs.declared.reader.Reader.{Reader}
-use Rattle.files.specs.declared.fields.Field.{Field}
+use Rattle.files.specs.declared.fields.FieldRead.{FieldRead}
 use Rattle.files.proofs.reader.Reader as T
 use Rattle.files.proofs.reader.Reader.Laws as T′
 use Rattle.files.proofs.reader.reader_at as reader-at
@@ -50,14 +50,14 @@ abbrev pub x : Reader → ℕ → GName → RefT Reader
 x r a δ = record { ptr = (a, 0); name = δ; now = r }
 
 -- what `take` says of the field f that it answers and the reader z that it leaves
-abbrev pub Said : ℕ → Reader → Field → Reader → Type 0
+abbrev pub Said : ℕ → Reader → FieldRead → Reader → Type 0
 Said n r f z = (f ≡ fieldAt n (now (r .file)) (r .at)) × ((z .file ≡ r .file) × (z .at ≡ nextOf f (r .at)))
 
 -- a reader of the file s at a
 abbrev pub Reads : RefT (List ℕ) → Reader → ℕ → Type 0
 Reads s r a = (r .file ≡ s) × (r .at ≡ a)
 
-pub taken : (s : RefT (List ℕ)) (n : ℕ) (r z : Reader) (f : Field) (a : ℕ) → Reads s r a → Said n r f z → (f ≡ fieldAt n (now s) a) × Reads s z (past n (now s) a)
+pub taken : (s : RefT (List ℕ)) (n : ℕ) (r z : Reader) (f : FieldRead) (a : ℕ) → Reads s r a → Said n r f z → (f ≡ fieldAt n (now s) a) × Reads s z (past n (now s) a)
 taken s n r z f a e said = (same, (said .1 .0 ∙ e .0, said .1 .1 ∙ (λ i. nextOf (same i) (e .1 i))))
   where
     same : f ≡ fieldAt n (now s) a

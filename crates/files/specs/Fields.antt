@@ -10,8 +10,8 @@ use Rattle.rulebook.specs.declared.Verdict.{Verdict}
 use Rattle.rulebook.specs.declared.Verdict.the-variants.{Accepted, Refused}
 use Rattle.rulebook.specs.File.{num}
 use Rattle.rulebook.specs.Judging.{numberIn}
-use Rattle.files.specs.declared.fields.Field.{Field}
-use Rattle.files.specs.declared.fields.Field.the-variants.{Whole, Cut}
+use Rattle.files.specs.declared.fields.FieldRead.{FieldRead}
+use Rattle.files.specs.declared.fields.FieldRead.the-variants.{Whole, Cut}
 use Rattle.files.specs.declared.fields.Outcome.{Outcome}
 use Rattle.files.specs.declared.fields.Outcome.the-variants.{Passed, Stopped}
 use Rattle.files.specs.declared.reader.Heading.{Heading}
@@ -23,20 +23,20 @@ outcome (Refused w at) n = Stopped w at
 
 -- ---- Read
 
-abbrev pub wholeOr : Bool → Field → Field
+abbrev pub wholeOr : Bool → FieldRead → FieldRead
 wholeOr true f = f
 wholeOr false f = Cut
 
 -- the field of n bytes at `at`
-unfoldable pub fieldAt : ℕ → List ℕ → ℕ → Field
+unfoldable pub fieldAt : ℕ → List ℕ → ℕ → FieldRead
 fieldAt n s at = wholeOr (leb (at + n) (length s)) (Whole (num n s at) (at + n))
 
 -- where reading goes on: past a whole field, or where it was
-abbrev pub nextOf : Field → ℕ → ℕ
+abbrev pub nextOf : FieldRead → ℕ → ℕ
 nextOf (Whole v next) at = next
 nextOf Cut at = at
 
-abbrev pub headingOf : Field → Field → Field → ℕ → Heading
+abbrev pub headingOf : FieldRead → FieldRead → FieldRead → ℕ → Heading
 headingOf account day count next = record { account = account; day = day; count = count; next = next }
 
 -- where reading goes on after the field of n bytes at `at`
@@ -50,6 +50,6 @@ headingAt n m s at = headingOf (fieldAt n s at) (fieldAt 2 s (past n s at)) (fie
 -- ---- Judged
 
 -- a field that was read at `at`: whole, and from low to high
-abbrev pub fieldOutcome : Field → ℕ → ℕ → ℕ → Why → Outcome
+abbrev pub fieldOutcome : FieldRead → ℕ → ℕ → ℕ → Why → Outcome
 fieldOutcome (Whole v next) at low high why = outcome (numberIn low high why v at) v
 fieldOutcome Cut at low high why = Stopped NotWhole at

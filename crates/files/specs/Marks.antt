@@ -16,12 +16,12 @@ use Rattle.rulebook.specs.Judging.{openFrom, upTo, given, judgedRow}
 use Rattle.files.specs.Judgeable.{Judgeable}
 
 -- the place of the mark of account a and day d, where the open days begin at `low`
-abbrev pub mark : ℕ → ℕ → ℕ → ℕ
-mark low a d = mostAccounts * (d - low) + a
+abbrev pub markPlace : ℕ → ℕ → ℕ → ℕ
+markPlace low a d = mostAccounts * (d - low) + a
 
 -- that of the row at `at`
 abbrev pub markOf : Limits → Section → List ℕ → ℕ → ℕ
-markOf l sec s at = mark (openFrom l sec) (accountAt sec s at) (dayAt sec s at)
+markOf l sec s at = markPlace (openFrom l sec) (accountAt sec s at) (dayAt sec s at)
 
 abbrev pub marked : List ℕ → ℕ → Bool
 marked marks k = eqb (getD marks k 0) 1
@@ -38,7 +38,7 @@ marksAfter (Refused w p) k marks = marks
 -- the marks say, of each account and open day, whether a row before row i of the section has them
 unfoldable pub Marked : Limits → Section → List ℕ → ℕ → ℕ → List ℕ → Type 0
 Marked l sec s first i marks =
-    (a d : ℕ) → a < mostAccounts → openFrom l sec ≤ d → d ≤ l .last → marked marks (mark (openFrom l sec) a d) ≡ given sec s first i a d
+    (a d : ℕ) → a < mostAccounts → openFrom l sec ≤ d → d ≤ l .last → marked marks (markPlace (openFrom l sec) a d) ≡ given sec s first i a d
 
 -- what holds before row i of a section is judged, which stands at `at`
 pub record Before (l : Limits) (sec : Section) (s : List ℕ) (first i at : ℕ) (marks : List ℕ) : Type 0 where

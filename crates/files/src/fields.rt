@@ -9,7 +9,7 @@ ghost use Rattle.rulebook.specs.File.{signed32, valueAt};
 ghost use Rattle.files.specs.Fields.{fieldAt, nextOf, fieldOutcome};
 
 // What stands at a position: a whole field, with the number that it spells and the position past it, or less than the field.
-pub enum Field {
+pub enum FieldRead {
     Whole(usize, usize),
     Cut,
 }
@@ -28,36 +28,36 @@ fn wide(x: u8) -> u32
 }
 
 // The field of n bytes at a position, wherever that is.
-pub fn field_at(s: &[u8], at: usize, n: usize) -> Field
+pub fn field_at(s: &[u8], at: usize, n: usize) -> FieldRead
     requires { ⌜ n ≤ 2 ⌝ }
     ensures { λ r. ⌜ r ≡ fieldAt n (now (s .entry)) at ⌝ }
 {
     if s.len() < at {
-        return Field::Cut;
+        return FieldRead::Cut;
     }
     if s.len() - at < n {
-        return Field::Cut;
+        return FieldRead::Cut;
     }
-    Field::Whole(number(s, at, n), at + n)
+    FieldRead::Whole(number(s, at, n), at + n)
 }
 
 // Where reading goes on: past a whole field, or where it was.
-pub fn next_of(f: Field, at: usize) -> usize
+pub fn next_of(f: FieldRead, at: usize) -> usize
     ensures { λ r. ⌜ r ≡ nextOf f at ⌝ }
 {
     match f {
-        Field::Whole(_, next) => next,
-        Field::Cut => at,
+        FieldRead::Whole(_, next) => next,
+        FieldRead::Cut => at,
     }
 }
 
 // A field that was read at a position: whole, and from low to high, else refused for `why`.
-pub fn judge_field(f: Field, at: usize, low: usize, high: usize, why: Why) -> Outcome
+pub fn judge_field(f: FieldRead, at: usize, low: usize, high: usize, why: Why) -> Outcome
     ensures { λ r. ⌜ r ≡ fieldOutcome f at low high why ⌝ }
 {
     match f {
-        Field::Cut => Outcome::Stopped(Why::NotWhole, at),
-        Field::Whole(v, _) => if v < low {
+        FieldRead::Cut => Outcome::Stopped(Why::NotWhole, at),
+        FieldRead::Whole(v, _) => if v < low {
             Outcome::Stopped(why, at)
         } else {
             if high < v {

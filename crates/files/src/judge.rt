@@ -1,5 +1,5 @@
 // Document 01, "A submission file": the rows of a section, the four sections, and the end of the file.
-use crate::fields::Field;
+use crate::fields::FieldRead;
 use crate::fields::Outcome;
 use crate::marks::clear_marks;
 use crate::reader::read_count;
@@ -49,8 +49,8 @@ fn judge_section(limits: Limits, sec: Section, file: &[u8], at: usize, marks: &m
     ensures { λ r. ⌜ r ≡ outcome (judgedSection limits sec (now (file .entry)) at) (sectionEnd sec (now (file .entry)) at) ⌝ }
 {
     match read_count(file, at) {
-        Field::Cut => Outcome::Stopped(Why::NotWhole, at),
-        Field::Whole(count, first) => {
+        FieldRead::Cut => Outcome::Stopped(Why::NotWhole, at),
+        FieldRead::Whole(count, first) => {
             if count == 0 {
                 return Outcome::Passed(first);
             }

@@ -1,5 +1,5 @@
 // Document 01: a reader over the submission moves on only past a whole field. Here it reads the heading of a row, and a section's count of rows.
-use crate::fields::Field;
+use crate::fields::FieldRead;
 use crate::fields::field_at;
 use crate::fields::next_of;
 ghost use mathlib.Core.Path.{_≡_};
@@ -14,14 +14,14 @@ pub struct Reader<'a> {
 
 // What stands before a row's values, as it was read: account, day and tranche or facility count, and the position past the last whole one.
 pub struct Heading {
-    pub account: Field,
-    pub day: Field,
-    pub count: Field,
+    pub account: FieldRead,
+    pub day: FieldRead,
+    pub count: FieldRead,
     pub next: usize,
 }
 
 // The three fields and the position together.
-fn heading_of(account: Field, day: Field, count: Field, next: usize) -> Heading
+fn heading_of(account: FieldRead, day: FieldRead, count: FieldRead, next: usize) -> Heading
     ensures { λ r. ⌜ r ≡ headingOf account day count next ⌝ }
 {
     Heading {
@@ -40,7 +40,7 @@ pub fn reader_at<'a>(file: &'a [u8], at: usize) -> Reader<'a>
 }
 
 // The field of n bytes that comes next. The reader moves on only past a whole field.
-pub fn take<'s, 'a>(r: &'s mut Reader<'a>, n: usize) -> Field
+pub fn take<'s, 'a>(r: &'s mut Reader<'a>, n: usize) -> FieldRead
     requires { ⌜ n ≤ 2 ⌝ }
     ensures { λ f. ⌜ (f ≡ fieldAt n (now (now (r .entry) .file)) (now (r .entry) .at)) × ((now (r .exit) .file ≡ now (r .entry) .file) × (now (r .exit) .at ≡ nextOf f (now (r .entry) .at))) ⌝ }
 {
@@ -63,7 +63,7 @@ pub fn read_heading(file: &[u8], at: usize, n: usize, m: usize) -> Heading
 }
 
 // The count of rows of the section at a position.
-pub fn read_count(file: &[u8], at: usize) -> Field
+pub fn read_count(file: &[u8], at: usize) -> FieldRead
     ensures { λ f. ⌜ f ≡ fieldAt 2 (now (file .entry)) at ⌝ }
 {
     let mut r = reader_at(file, at);

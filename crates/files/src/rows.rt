@@ -1,5 +1,5 @@
 // Document 01, "A submission file": one row, its fields judged in file order.
-use crate::fields::Field;
+use crate::fields::FieldRead;
 use crate::fields::Outcome;
 use crate::fields::judge_field;
 use crate::fields::value_at;
@@ -98,7 +98,7 @@ fn outcome_of(v: Verdict, next: usize) -> Outcome
 }
 
 // The tranche or facility count that was read at a position.
-fn judge_count(sec: Section, f: Field, at: usize) -> Outcome
+fn judge_count(sec: Section, f: FieldRead, at: usize) -> Outcome
     ensures { λ r. ⌜ r ≡ fieldOutcome f at (leastCount sec) (mostCount sec) OutOfRange ⌝ }
 {
     judge_field(f, at, least_count(sec), most_count(sec), Why::OutOfRange)

@@ -15,7 +15,7 @@ use Rattle.rulebook.specs.Close.{closed}
 use Rattle.rulebook.specs.Numbers.{accepted, ofOpen, ofSubmit, ofClose}
 use Rattle.console.specs.declared.input.Item.{Item}
 use Rattle.console.specs.declared.input.Item.the-variants.{Close, Submit, Bad, End}
-use Rattle.interpreter.specs.declared.Turn.{Turn as Code·Turn}
+use Rattle.interpreter.specs.declared.Handed.{Handed}
 use Rattle.console.specs.Input.{openingBytes, openingTerms, itemOf, wanted}
 use Rattle.console.specs.Lines.{openLine, submitLine, closeLine, badLine}
 use Rattle.console.specs.Written.{Put}
@@ -92,7 +92,7 @@ printed s =
 
 -- each figure of a turn that began at `from` and had the bytes s; and for the next one: a book has at most 32 accounts, each item at least a
 -- byte, and the input goes at least as far as the item that was done
-pub record Hands (from : ℕ) (s : List ℕ) (t : Turn) (line : List ℕ) (r : Code·Turn) (bookAfter : List ℤ) (lineAfter : List ℕ) : Type 0 where
+pub record Hands (from : ℕ) (s : List ℕ) (t : Turn) (line : List ℕ) (r : Handed) (bookAfter : List ℤ) (lineAfter : List ℕ) : Type 0 where
   pub printed : Put line 0 (t .line) lineAfter (r .end)
   pub bookLeft : bookAfter ≡ t .book
   pub counted : r .accounts ≡ t .accounts
@@ -102,8 +102,8 @@ pub record Hands (from : ℕ) (s : List ℕ) (t : Turn) (line : List ℕ) (r : C
   pub further : from < r .position
   pub within : r .more ≡ true → r .position ≤ from + length s
 
-abbrev pub Begins : List ℤ → List ℕ → List ℕ → Code·Turn → List ℤ → List ℕ → Type 0
+abbrev pub Begins : List ℤ → List ℕ → List ℕ → Handed → List ℤ → List ℕ → Type 0
 Begins book s = Hands 0 s (beginning book s)
 
-abbrev pub Performs : ℕ → ℕ → List ℤ → List ℕ → List ℕ → Code·Turn → List ℤ → List ℕ → Type 0
+abbrev pub Performs : ℕ → ℕ → List ℤ → List ℕ → List ℕ → Handed → List ℤ → List ℕ → Type 0
 Performs accounts position book s = Hands position s (turn accounts position book s)

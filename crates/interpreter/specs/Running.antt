@@ -7,7 +7,7 @@ use Prim.Native.Nat.{ℕ, _≤_}
 use lib.IntN.{ℤ}
 use lib.ListN.{length, take, drop}
 use Rattle.console.specs.Input.{itemBytes}
-use Rattle.interpreter.specs.declared.Turn.{Turn as Code·Turn}
+use Rattle.interpreter.specs.declared.Handed.{Handed}
 use Rattle.interpreter.specs.Interpreter.{Turn, beginning, turn, Performs}
 
 -- which bytes are read for the item at a position: some item's, or those of an input that is at hand
@@ -40,7 +40,7 @@ module _ (Read : ℕ → List ℕ → Type 0) where
     pub whole : written ≡ true → (left .last .more ≡ false) ⊎ (farthest ≤ left .last .position)
 
   -- and between two turns, with what the last one handed on
-  pub record Stands (book : List ℤ) (opening : List ℕ) (r : Code·Turn) (bookNow : List ℤ) (lineNow : List ℕ) : Type 0 where
+  pub record Stands (book : List ℤ) (opening : List ℕ) (r : Handed) (bookNow : List ℤ) (lineNow : List ℕ) : Type 0 where
     pub left : Leaves book opening bookNow lineNow
     pub ended : r .end ≡ length (left .last .line)
     pub counted : r .accounts ≡ left .last .accounts
@@ -48,7 +48,7 @@ module _ (Read : ℕ → List ℕ → Type 0) where
     pub goesOn : r .more ≡ left .last .more
 
   -- what a step promises: bytes were read, and performed
-  pub record Steps (accounts position : ℕ) (book : List ℤ) (line : List ℕ) (r : Code·Turn) (bookAfter : List ℤ) (lineAfter : List ℕ) : Type 0 where
+  pub record Steps (accounts position : ℕ) (book : List ℤ) (line : List ℕ) (r : Handed) (bookAfter : List ℤ) (lineAfter : List ℕ) : Type 0 where
     pub read : List ℕ
     pub item : Read position read
     pub done : Performs accounts position book read line r bookAfter lineAfter

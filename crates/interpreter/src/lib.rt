@@ -33,7 +33,7 @@ const STATEMENT_WORDS: usize = MOST_ACCOUNTS + 1;
 
 // What an opening or an item hands to the next: its line's length, how many accounts the book has, where the next item stands in the input, and
 // whether the input is read on.
-pub struct Turn {
+pub struct Handed {
     pub end: usize,
     pub accounts: usize,
     pub position: u64,
@@ -41,13 +41,13 @@ pub struct Turn {
 }
 
 // The opening; s has its five bytes, or what there is of them.
-pub fn begin(book: &mut [i64], s: &[u8], line: &mut [u8]) -> Turn
+pub fn begin(book: &mut [i64], s: &[u8], line: &mut [u8]) -> Handed
     requires { ⌜ lineRoom ≤ length (now line) ⌝ }
     ensures { λ r. ⌜ Begins (now (book .entry)) (now (s .entry)) (now (line .entry)) r (now (book .exit)) (now (line .exit)) ⌝ }
 {
     if s.len() < OPENING {
         let end = bad_line(line, 0);
-        return Turn {
+        return Handed {
             end: end,
             accounts: 0,
             position: OPENING as u64,
@@ -58,14 +58,14 @@ pub fn begin(book: &mut [i64], s: &[u8], line: &mut [u8]) -> Turn
     let answer = open_book(book, terms);
     let end = open_line(line, answer);
     if of_open(answer).number == ACCEPTED {
-        return Turn {
+        return Handed {
             end: end,
             accounts: terms.accounts,
             position: OPENING as u64,
             more: true,
         };
     }
-    Turn {
+    Handed {
         end: end,
         accounts: 0,
         position: OPENING as u64,
@@ -95,7 +95,7 @@ fn close_next(book: &mut [i64], accounts: usize, line: &mut [u8]) -> usize
 }
 
 // The item that the last turn named; s is the input from its position on, at least as far as the item goes.
-pub fn perform(book: &mut [i64], turn: Turn, s: &[u8], line: &mut [u8]) -> Turn
+pub fn perform(book: &mut [i64], turn: Handed, s: &[u8], line: &mut [u8]) -> Handed
     requires { ⌜ (turn .accounts ≤ mostAccounts) × (turn .position < 2 ^ 63) × (lineRoom ≤ length (now line)) ⌝ }
     ensures { λ r. ⌜ Performs (turn .accounts) (turn .position) (now (book .entry)) (now (s .entry)) (now (line .entry)) r (now (book .exit)) (now (line .exit)) ⌝ }
 {
@@ -105,7 +105,7 @@ pub fn perform(book: &mut [i64], turn: Turn, s: &[u8], line: &mut [u8]) -> Turn
     match item_of(s) {
         Item::Close => {
             let end = close_next(book, accounts, line);
-            Turn {
+            Handed {
                 end: end,
                 accounts: accounts,
                 position: next,
@@ -114,7 +114,7 @@ pub fn perform(book: &mut [i64], turn: Turn, s: &[u8], line: &mut [u8]) -> Turn
         }
         Item::Submit(n) => {
             let end = submit_file(book, s, n, line);
-            Turn {
+            Handed {
                 end: end,
                 accounts: accounts,
                 position: next,
@@ -123,14 +123,14 @@ pub fn perform(book: &mut [i64], turn: Turn, s: &[u8], line: &mut [u8]) -> Turn
         }
         Item::Bad(k) => {
             let end = bad_line(line, position + k as u64);
-            Turn {
+            Handed {
                 end: end,
                 accounts: accounts,
                 position: next,
                 more: false,
             }
         }
-        Item::End => Turn {
+        Item::End => Handed {
             end: 0,
             accounts: accounts,
             position: next,

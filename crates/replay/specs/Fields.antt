@@ -22,7 +22,7 @@ unfoldable pub wordsIn : ℕ → List ℕ → List ℤ
 wordsIn n s = tabulate n (λ i. wordIn s (8 * i))
 
 -- n words at the start of a list are those that bytes spell, the words beyond kept
-pub record Listed (n : ℕ) (before after : List ℤ) (bytes : List ℕ) : Type 0 where
+pub record ListRead (n : ℕ) (before after : List ℤ) (bytes : List ℕ) : Type 0 where
   pub counts : Counts n after
   pub words : take n after ≡ wordsIn n bytes
   pub beyond : drop n after ≡ drop n before

@@ -7,7 +7,7 @@ ghost use lib.ListN.{length, drop};
 ghost use Rattle.io.specs.Counts.{Counts as Counts·bytes};
 ghost use Rattle.rulebook.specs.File.{num};
 ghost use Rattle.replay.specs.Counts.{Counts};
-ghost use Rattle.replay.specs.Fields.{wordIn, wordsIn, Listed};
+ghost use Rattle.replay.specs.Fields.{wordIn, wordsIn, ListRead};
 
 // 1,200 words.
 const LISTED_BYTES: usize = 9600;
@@ -110,7 +110,7 @@ fn words_in(list: &mut [i64], bytes: &[u8])
 
 // A list of words after its count, by way of `bytes`; it stands at the start of `space`.
 fn list_by(space: &mut [i64], bytes: &mut [u8]) -> usize
-    ensures { λ r. ⌜ Listed r (now (space .entry)) (now (space .exit)) (now (bytes .exit)) ⌝ }
+    ensures { λ r. ⌜ ListRead r (now (space .entry)) (now (space .exit)) (now (bytes .exit)) ⌝ }
 {
     let n = at_most(least(space.len(), bytes.len() / 8));
     let end = 8 * n;

@@ -4,7 +4,7 @@
 use console::lines::LINE_ROOM;
 use console::lines::print;
 use interpreter::BOOK_WORDS;
-use interpreter::Turn;
+use interpreter::Handed;
 use interpreter::begin;
 use interpreter::perform;
 use libc::STDIN_FILENO;
@@ -42,7 +42,7 @@ fn fill(space: &mut [u8], n: usize) -> usize
 }
 
 // The item that the last turn named, of an input in memory: what `printedFrom` says of it.
-fn item(book: &mut [i64], turn: Turn, s: &[u8], line: &mut [u8]) -> Turn
+fn item(book: &mut [i64], turn: Handed, s: &[u8], line: &mut [u8]) -> Handed
     requires { ⌜ (turn .accounts ≤ mostAccounts) × (turn .position ≤ length (now s)) × (length (now s) ≤ 40000) × (lineRoom ≤ length (now line)) ⌝ }
     ensures { λ r. ⌜ Performs (turn .accounts) (turn .position) (now (book .entry)) (drop (turn .position) (now (s .entry))) (now (line .entry)) r (now (book .exit)) (now (line .exit)) ⌝ }
 {

@@ -7,7 +7,7 @@ use lib.IntN.{ℤ, natAbs, _+ℤ_}
 use Rattle.integer.specs.Words.{word}
 use Rattle.rulebook.specs.Units.{intervals, mostQuantity, mostLoad, mostPrice}
 use Rattle.rulebook.specs.ReferencePrice.{mostFacilities}
-use Rattle.rulebook.specs.DayAmount.{AccountData, SettlementData, tenders, residualDue, residualDay, postedAmount, msslAmount}
+use Rattle.rulebook.specs.DayAmount.{AccountData, SettlementData, tenders, settlesResidual, residualDay, postedAmount, msslAmount}
 use Rattle.rulebook.specs.Layout.{balanceWord, msslWord}
 use Rattle.rulebook.specs.BookData.{bookData, termsOf, nextDay}
 use Rattle.rulebook.specs.WellFormed.{dayBound}
@@ -34,8 +34,8 @@ SizedDay n x d = (a i : ℕ) → a < n → i < intervals → Sized (x .account a
 pub record CloseSized (w : List ℤ) : Type 0 where
   -- the data of D, and where a residual is due those of r
   pub now : SizedDay (termsOf w .accounts) (bookData (termsOf w) w) (nextDay w)
-  pub then : T (residualDue (termsOf w) (nextDay w)) → SizedDay (termsOf w .accounts) (bookData (termsOf w) w) (residualDay (termsOf w) (nextDay w))
-  pub loads : T (residualDue (termsOf w) (nextDay w)) → (i : ℕ) → i < intervals → bookData (termsOf w) w .load (residualDay (termsOf w) (nextDay w)) i ≤ mostLoad
+  pub then : T (settlesResidual (termsOf w) (nextDay w)) → SizedDay (termsOf w .accounts) (bookData (termsOf w) w) (residualDay (termsOf w) (nextDay w))
+  pub loads : T (settlesResidual (termsOf w) (nextDay w)) → (i : ℕ) → i < intervals → bookData (termsOf w) w .load (residualDay (termsOf w) (nextDay w)) i ≤ mostLoad
   -- the posted amounts, and the MSSL's
   pub posted : (a : ℕ) → a < termsOf w .accounts → natAbs (postedAmount (termsOf w) (bookData (termsOf w) w) a (nextDay w)) ≤ dayBound
   pub mssl : natAbs (msslAmount (termsOf w) (bookData (termsOf w) w) (nextDay w)) ≤ 153600000000000

@@ -16,7 +16,7 @@ use Rattle.rulebook.specs.declared.CloseFigures.{CloseFigures}
 use Rattle.rulebook.specs.declared.CloseAnswer.{CloseAnswer}
 use Rattle.rulebook.specs.declared.CloseAnswer.the-variants.{Closed, BookIllFormed, Finished, NoRoom, DatumMissing}
 use Rattle.rulebook.specs.Units.{lastDay, intervals}
-use Rattle.rulebook.specs.DayAmount.{residualDue, residualDay, postedAmount, msslAmount}
+use Rattle.rulebook.specs.DayAmount.{settlesResidual, residualDay, postedAmount, msslAmount}
 use Rattle.rulebook.specs.Layout.{stored, nextDayWord, msslWord, balanceWord, slotLength, slotStart, flagWord}
 use Rattle.rulebook.specs.BookData.{bookData, termsOf, nextDay}
 use Rattle.rulebook.specs.WellFormed.{isZero, wellFormed}
@@ -53,7 +53,7 @@ module _ (o : Terms) (w : List ℤ) (D : ℕ) where
 
   -- the search in interval i, and in all
   unfoldable pub missingAt : ℕ → Found
-  missingAt i = searched (o .accounts) (residualDue o D) (absentFlag i)
+  missingAt i = searched (o .accounts) (settlesResidual o D) (absentFlag i)
 
   unfoldable pub firstMissing : Found
   firstMissing = first intervals missingAt
@@ -67,7 +67,7 @@ balancesGrownBy w amount (suc n) = set (balancesGrownBy w amount n) (balanceWord
 
 -- zeros in r's slot, if r ≥ F
 unfoldable pub slotBlanked : Terms → ℕ → List ℤ → List ℤ
-slotBlanked o D w = cond (residualDue o D) (stored w (slotStart o (residualDay o D)) (slotLength (o .accounts)) (λ m. pos 0)) w
+slotBlanked o D w = cond (settlesResidual o D) (stored w (slotStart o (residualDay o D)) (slotLength (o .accounts)) (λ m. pos 0)) w
 
 module _ (o : Terms) (w : List ℤ) (D : ℕ) where
   unfoldable pub posted : ℕ → ℤ
@@ -91,7 +91,7 @@ module _ (o : Terms) (w : List ℤ) (D : ℕ) where
 
 -- the residuals that a close of D settles: 48N if r ≥ F, else none
 unfoldable pub residualCount : Terms → ℕ → ℕ
-residualCount o D = cond (residualDue o D) (intervals * o .accounts) 0
+residualCount o D = cond (settlesResidual o D) (intervals * o .accounts) 0
 
 -- what an accepted close answers
 abbrev pub closeFigures : Terms → ℕ → CloseFigures

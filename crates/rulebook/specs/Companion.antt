@@ -16,7 +16,7 @@ use Rattle.rulebook.specs.declared.Section.{Section}
 use Rattle.rulebook.specs.declared.Terms.{Terms}
 use Rattle.rulebook.specs.declared.OpenAnswer.{OpenAnswer}
 use Rattle.rulebook.specs.Units.{lastDay}
-use Rattle.rulebook.specs.DayAmount.{residualDue}
+use Rattle.rulebook.specs.DayAmount.{settlesResidual}
 use Rattle.rulebook.specs.Terms.{InTerms}
 use Rattle.rulebook.specs.Layout.{size, flagWord}
 use Rattle.rulebook.specs.Opening.{header}
@@ -45,7 +45,7 @@ module _ (o : Terms) (past : List Event) where
 
   -- in the order of the search
   unfoldable pub firstLacking : Found
-  firstLacking = searched (o .accounts) (residualDue o (closingDay o past)) (λ s a. lacking s a (neededDay o (closingDay o past) s))
+  firstLacking = searched (o .accounts) (settlesResidual o (closingDay o past)) (λ s a. lacking s a (neededDay o (closingDay o past) s))
 
   abbrev pub searchAnswered : Found → Answer
   searchAnswered (At at) = numbered datumAbsent at

@@ -103,8 +103,8 @@ inCents thousandths = nearest thousandths thousandthsPerCent
 
 module _ (o : Terms) where
   -- the close of D settles a residual day: r = D − L is not before F
-  unfoldable pub residualDue : ℕ → Bool
-  residualDue D = leb (o .first + o .lag) D
+  unfoldable pub settlesResidual : ℕ → Bool
+  settlesResidual D = leb (o .first + o .lag) D
 
   -- r
   abbrev pub residualDay : ℕ → ℕ
@@ -115,7 +115,7 @@ module _ (o : Terms) where
     unfoldable pub intervalAmount : ℕ → ℤ
     intervalAmount i =
         vestingAmount (x .account a D i)
-        +ℤ cond (residualDue D) (residualAmount (x .load (residualDay D) i) (o .accounts) (λ b. x .account b (residualDay D) i) a) (pos 0)
+        +ℤ cond (settlesResidual D) (residualAmount (x .load (residualDay D) i) (o .accounts) (λ b. x .account b (residualDay D) i) a) (pos 0)
 
     unfoldable pub exactAmount : ℤ
     exactAmount = sumℤ intervals intervalAmount

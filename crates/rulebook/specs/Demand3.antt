@@ -14,7 +14,7 @@ use Rattle.rulebook.specs.declared.Section.the-variants.{Vesting, Meter,
 use Rattle.rulebook.specs.declared.Terms.{Terms}
 use Rattle.rulebook.specs.declared.OpenAnswer.{OpenAnswer}
 use Rattle.rulebook.specs.Units.{lastDay, intervals}
-use Rattle.rulebook.specs.DayAmount.{residualDue, residualDay}
+use Rattle.rulebook.specs.DayAmount.{settlesResidual, residualDay}
 use Rattle.rulebook.specs.Layout.{balanceWord, msslWord}
 use Rattle.rulebook.specs.Opening.{opened}
 use Rattle.rulebook.specs.Numbers.{Answer, accepted, datumAbsent, ofOpen}
@@ -27,8 +27,8 @@ use Rattle.rulebook.specs.Promises.{OpenPromise, Run, bookOf, historyOf}
 pub data Needed (o : Terms) (D : ℕ) : Section → ℕ → ℕ → Type 0 where
   vestingOf : {a : ℕ} → a < o .accounts → Needed o D Vesting a D
   meterOf : {a : ℕ} → a < o .accounts → Needed o D Meter a D
-  nccOf : T (residualDue o D) → Needed o D Ncc 0 (residualDay o D)
-  residualOf : {a : ℕ} → T (residualDue o D) → a < o .accounts → Needed o D Residual a (residualDay o D)
+  nccOf : T (settlesResidual o D) → Needed o D Ncc 0 (residualDay o D)
+  residualOf : {a : ℕ} → T (settlesResidual o D) → a < o .accounts → Needed o D Residual a (residualDay o D)
 
 pub record Missing (o : Terms) (past : List Event) : Type 0 where
   pub section : Section

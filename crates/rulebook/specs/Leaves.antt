@@ -58,11 +58,11 @@ wordsOf Residual count f = pos 1 ∷ f UEGQ ∷ f MQ ∷ f RVP1 ∷ f RVP2 ∷ [
 wordsOf Ncc count f = f NccLoad ∷ pos 1 ∷ []
 
 -- how many they are, and where the first stands in the interval
-abbrev pub wordsIn : Section → ℕ
-wordsIn Vesting = 9
-wordsIn Meter = 9
-wordsIn Residual = 5
-wordsIn Ncc = 2
+abbrev pub wordCount : Section → ℕ
+wordCount Vesting = 9
+wordCount Meter = 9
+wordCount Residual = 5
+wordCount Ncc = 2
 
 abbrev pub placeOf : Section → ℕ → ℕ
 placeOf Vesting a = 4 + 24 * a
@@ -76,11 +76,11 @@ rowIndex o r i j = dayIndex o (r .day) i (placeOf (r .section) (r .account) + j)
 
 -- all that row r names is as it says
 abbrev pub Replaced : Terms → List ℤ → NamedRow → Type 0
-Replaced o after r = (i j : ℕ) → i < 48 → j < wordsIn (r .section) → word after (rowIndex o r i j) ≡ word (wordsOf (r .section) (r .count) (r .figure i)) j
+Replaced o after r = (i j : ℕ) → i < 48 → j < wordCount (r .section) → word after (rowIndex o r i j) ≡ word (wordsOf (r .section) (r .count) (r .figure i)) j
 
 -- row r does not name the word at n
 abbrev pub NotNamed : Terms → ℕ → NamedRow → Type 0
-NotNamed o n r = (i j : ℕ) → i < 48 → j < wordsIn (r .section) → n ≢ rowIndex o r i j
+NotNamed o n r = (i j : ℕ) → i < 48 → j < wordCount (r .section) → n ≢ rowIndex o r i j
 
 -- of a book with these terms, that took a file of these rows
 pub record SubmitLeaves (o : Terms) (rows : List NamedRow) (before after : List ℤ) : Type 0 where

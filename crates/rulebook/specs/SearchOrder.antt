@@ -13,7 +13,7 @@ use Rattle.integer.specs.Words.{word}
 use Rattle.rulebook.specs.declared.Section.the-variants.{Vesting, Meter, Residual, Ncc}
 use Rattle.rulebook.specs.declared.Terms.{Terms}
 use Rattle.rulebook.specs.Units.{lastDay, intervals}
-use Rattle.rulebook.specs.DayAmount.{residualDue, residualDay}
+use Rattle.rulebook.specs.DayAmount.{settlesResidual, residualDay}
 use Rattle.rulebook.specs.Layout.{flagWord}
 use Rattle.rulebook.specs.BookData.{termsOf, nextDay}
 use Rattle.rulebook.specs.WellFormed.{wellFormed}
@@ -28,7 +28,7 @@ module _ (o : Terms) (D : ℕ) where
   -- in interval i: accounts ascending, vesting then meter of D; then NCC of r, then residual of r by account
   unfoldable pub flagsAt : ℕ → List ℕ
   flagsAt i = inTurn (o .accounts) (λ a. flagWord o Vesting a D i ∷ flagWord o Meter a D i ∷ [])
-      ++ cond (residualDue o D) (flagWord o Ncc 0 (residualDay o D) i ∷ inTurn (o .accounts) (λ a. flagWord o Residual a (residualDay o D) i ∷ [])) []
+      ++ cond (settlesResidual o D) (flagWord o Ncc 0 (residualDay o D) i ∷ inTurn (o .accounts) (λ a. flagWord o Residual a (residualDay o D) i ∷ [])) []
 
   -- interval after interval
   unfoldable pub flagOrder : List ℕ

@@ -47,8 +47,8 @@ paddingZero table f = all (length table) (λ q. not (isPadding (getD table q pad
 -- ---- The words f 0, f 1, .. of an account at an interval, and of an interval of n accounts
 
 -- word j of the row of section s, among the words of its table
-abbrev pub rowOf : (ℕ → ℤ) → Section → ℕ → ℤ
-rowOf f s j = f (tablePlace s j)
+abbrev pub wordOfRow : (ℕ → ℤ) → Section → ℕ → ℤ
+wordOfRow f s j = f (tablePlace s j)
 
 -- vesting and meter rows are there
 unfoldable pub rowsThere : (ℕ → ℤ) → Bool
@@ -56,12 +56,12 @@ rowsThere f = not (isZero (f (flagAt Vesting))) && not (isZero (f (flagAt Meter)
 
 -- an account's: padding zero, each row absent or fitting; of a closed day, vesting and meter rows there
 unfoldable pub accountFits : Bool → (ℕ → ℤ) → Bool
-accountFits closed f = paddingZero accountTable f && rowFits Vesting (rowOf f Vesting) && rowFits Meter (rowOf f Meter) && rowFits Residual (rowOf f Residual)
+accountFits closed f = paddingZero accountTable f && rowFits Vesting (wordOfRow f Vesting) && rowFits Meter (wordOfRow f Meter) && rowFits Residual (wordOfRow f Residual)
     && (not closed || rowsThere f)
 
 -- the interval's own: padding zero, the NCC row absent or fitting
 unfoldable pub nccFits : (ℕ → ℤ) → Bool
-nccFits f = paddingZero intervalTable f && rowFits Ncc (rowOf f Ncc)
+nccFits f = paddingZero intervalTable f && rowFits Ncc (wordOfRow f Ncc)
 
 -- its own, then those of each account
 unfoldable pub intervalFits : ℕ → Bool → (ℕ → ℤ) → Bool

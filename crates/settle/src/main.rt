@@ -6,7 +6,7 @@ use console::input::wanted;
 use console::lines::LINE_ROOM;
 use console::lines::print;
 use interpreter::BOOK_WORDS;
-use interpreter::Turn;
+use interpreter::Handed;
 use interpreter::begin;
 use interpreter::perform;
 use libc::STDIN_FILENO;
@@ -41,7 +41,7 @@ fn read_item(bytes: &mut [u8]) -> usize
 }
 
 // The next item.
-fn step(book: &mut [i64], turn: Turn, bytes: &mut [u8], line: &mut [u8]) -> Turn
+fn step(book: &mut [i64], turn: Handed, bytes: &mut [u8], line: &mut [u8]) -> Handed
     requires { ⌜ (turn .accounts ≤ mostAccounts) × (turn .position < 2 ^ 63) × (longestItem ≤ length (now bytes)) × (lineRoom ≤ length (now line)) ⌝ }
     ensures { λ r. ⌜ Steps SomeItem (turn .accounts) (turn .position) (now (book .entry)) (now (line .entry)) r (now (book .exit)) (now (line .exit)) ⌝ }
 {

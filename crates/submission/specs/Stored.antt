@@ -26,12 +26,12 @@ unfoldable pub numberFrom : ℕ → List ℕ → ℕ → ℕ → ℤ
 numberFrom n s from k = cond (ltb k n) (valueAt s (from + 4 * k)) (pos 0)
 
 -- which number word j is, where the flag stands at a place
-abbrev pub turnOf : ℕ → ℕ → ℕ
-turnOf place j = cond (ltb j place) j (j - 1)
+abbrev pub valueNumber : ℕ → ℕ → ℕ
+valueNumber place j = cond (ltb j place) j (j - 1)
 
 -- word j of an interval whose numbers start at `from`
 unfoldable pub wordFrom : Form → List ℕ → ℕ → ℕ → ℤ
-wordFrom form s from j = cond (eqb j (form .place)) (pos (form .flag)) (numberFrom (form .values) s from (turnOf (form .place) j))
+wordFrom form s from j = cond (eqb j (form .place)) (pos (form .flag)) (numberFrom (form .values) s from (valueNumber (form .place) j))
 
 -- the words of interval i of a row whose numbers start at `from`
 unfoldable pub rowFrom : Form → List ℕ → ℕ → ℕ → ℕ → ℤ

@@ -20,21 +20,21 @@ use Rattle.rulebook.specs.Layout.{cellPlace, accountWords, intervalLength, inte
 use Rattle.rulebook.specs.DayAmount.{referencePriceOf, vestingAmount}
 use Rattle.rulebook.specs.laws.TestLaws.{T-path}
 use Rattle.rulebook.specs.laws.SizeLaws.{price-sized, vesting-size, share-amount-size, amount-size}
-use Rattle.amounts.specs.declared.interval.Residual.{Residual}
+use Rattle.amounts.specs.declared.interval.ResidualAndSpare.{ResidualAndSpare}
 use Rattle.amounts.specs.Cell.{cellData, RangedCell}
 use Rattle.amounts.specs.declared.day.Residuals.{Residuals}
 use Rattle.amounts.specs.Interval.{residualAt}
 use Rattle.amounts.specs.Total.{absorbed}
 use Rattle.amounts.specs.Day.{cellAt, SlotRanged, DaysRanged, residualsOf, residualIn, cellResidual, amountAt, slotAmount, totalTo}
 
-module _ (c : List ℤ) (h : RangedCell c) (r : Residual) where
+module _ (c : List ℤ) (h : RangedCell c) (r : ResidualAndSpare) where
   pub cell-residual-le : natAbs (cellResidual c r) ≤ 20000000000000
   cell-residual-le =
       let x = h .sized in
       share-amount-size (cellData c) x (referencePriceOf (cellData c)) (price-sized (cellData c) x) (shareOf (r .load) (r .spare) (cellData c .uegq))
       (omega (arith, share-cap (r .load) (r .spare) (cellData c .uegq), x .uegq))
 
-pub amount-le : (today then : List ℤ) (due : Bool) (r : Residual) → RangedCell today → (due ≡ true → RangedCell then) → natAbs (amountAt today then due r) ≤ 100000000000000
+pub amount-le : (today then : List ℤ) (due : Bool) (r : ResidualAndSpare) → RangedCell today → (due ≡ true → RangedCell then) → natAbs (amountAt today then due r) ≤ 100000000000000
 amount-le today then due r h g =
     amount-size (vestingAmount (cellData today)) (cellResidual then r) due (vesting-size (cellData today) (h .sized)) (λ t. cell-residual-le then (g (T-path due t)) r)
 

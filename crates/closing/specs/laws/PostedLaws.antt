@@ -9,7 +9,7 @@ use Rattle.integer.specs.laws.BelowLaws.{sumℤ-cong}
 use Rattle.rulebook.specs.declared.Terms.{Terms}
 use Rattle.rulebook.specs.Units.{lastDay, intervals}
 use Rattle.rulebook.specs.Shares.{share}
-use Rattle.rulebook.specs.DayAmount.{spareGeneration, rvq, residualAmount, residualDue, residualDay, intervalAmount, exactAmount, inCents, postedAmount}
+use Rattle.rulebook.specs.DayAmount.{spareGeneration, rvq, residualAmount, settlesResidual, residualDay, intervalAmount, exactAmount, inCents, postedAmount}
 use Rattle.rulebook.specs.Layout.{intervalOf}
 use Rattle.rulebook.specs.BookData.{bookData, termsOf, nextDay}
 use Rattle.rulebook.specs.WellFormed.{wellFormed}
@@ -47,11 +47,11 @@ module _ (o : Terms) (w : List ℤ) (a : ℕ) (ha : a < o .accounts) where
 
   -- ---- The day
 
-  module _ (D : ℕ) (now : SizedDay (o .accounts) (bookData o w) D) (then : T (residualDue o D) → SizedDay (o .accounts) (bookData o w) (residualDay o D)) where
+  module _ (D : ℕ) (now : SizedDay (o .accounts) (bookData o w) D) (then : T (settlesResidual o D) → SizedDay (o .accounts) (bookData o w) (residualDay o D)) where
     amount-same : (i : ℕ) → i < intervals
-        → slotAmount (o .accounts) (slotWords o w D) (slotWords o w (thenDay o D)) (residualDue o D) (residualsDue o w D) a i ≡ intervalAmount o (bookData o w) a D i
+        → slotAmount (o .accounts) (slotWords o w D) (slotWords o w (thenDay o D)) (settlesResidual o D) (residualsDue o w D) a i ≡ intervalAmount o (bookData o w) a D i
     unfolding slotAmount intervalAmount thenDay residualsDue
-    amount-same i hi = sum-cong (sym (vesting-same (bookData o w .account a D i) (cellData (cellAt (o .accounts) (slotWords o w D) a i)) alike)) (go (residualDue o D) then)
+    amount-same i hi = sum-cong (sym (vesting-same (bookData o w .account a D i) (cellData (cellAt (o .accounts) (slotWords o w D) a i)) alike)) (go (settlesResidual o D) then)
       where
         alike : SameFigures (bookData o w .account a D i) (cellData (cellAt (o .accounts) (slotWords o w D) a i))
         alike = cell-alike o w D a i ha hi (now a i ha hi .few)
@@ -65,13 +65,13 @@ module _ (o : Terms) (w : List ℤ) (a : ℕ) (ha : a < o .accounts) where
         go true s = sym (slot-residual (residualDay o D) (s tt) i hi)
         go false s = refl
 
-    slots-posted : slotPosted (o .accounts) (slotWords o w D) (slotWords o w (thenDay o D)) (residualDue o D) (residualsDue o w D) a ≡ posted o w D a
+    slots-posted : slotPosted (o .accounts) (slotWords o w D) (slotWords o w (thenDay o D)) (settlesResidual o D) (residualsDue o w D) a ≡ posted o w D a
     unfolding slotPosted totalTo posted postedAmount exactAmount
     slots-posted = ap inCents (sumℤ-cong intervals _ _ amount-same)
 
 module _ (w : List ℤ) (t : T (wellFormed w)) (left : nextDay w ≤ lastDay) where
   pub slot-posted-same : (a : ℕ) → a < termsOf w .accounts
       → slotPosted (termsOf w .accounts) (slotWords (termsOf w) w (nextDay w)) (slotWords (termsOf w) w (thenDay (termsOf w) (nextDay w)))
-      (residualDue (termsOf w) (nextDay w)) (residualsDue (termsOf w) w (nextDay w)) a
+      (settlesResidual (termsOf w) (nextDay w)) (residualsDue (termsOf w) w (nextDay w)) a
       ≡ posted (termsOf w) w (nextDay w) a
   slot-posted-same a ha = slots-posted (termsOf w) w a ha (nextDay w) (close-sized w t left .now) (close-sized w t left .then)

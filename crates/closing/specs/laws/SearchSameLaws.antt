@@ -10,7 +10,7 @@ use Rattle.integer.specs.laws.BelowLaws.{first-cong}
 use Rattle.rulebook.specs.declared.Section.{Section}
 use Rattle.rulebook.specs.declared.Section.the-variants.{Meter, Residual}
 use Rattle.rulebook.specs.declared.Terms.{Terms}
-use Rattle.rulebook.specs.DayAmount.{residualDue, residualDay}
+use Rattle.rulebook.specs.DayAmount.{settlesResidual, residualDay}
 use Rattle.rulebook.specs.Layout.{slotStart, rowWord, flagWord, intervalLength, accountPlace, flagAt}
 use Rattle.rulebook.specs.Units.{intervals}
 use Rattle.rulebook.specs.Close.{absentAt, absentFlag, missingAt, firstMissing}
@@ -21,9 +21,9 @@ use Rattle.closing.specs.Slots.{thenDay}
 use Rattle.closing.specs.laws.SlotsLaws.{slot-index, vesting-index, meter-index, residual-index}
 
 module _ (o : Terms) (w : List ℤ) (D : ℕ) where
-  then-is : T (residualDue o D) → thenDay o D ≡ residualDay o D
+  then-is : T (settlesResidual o D) → thenDay o D ≡ residualDay o D
   unfolding thenDay
-  then-is t = go (residualDue o D) t
+  then-is t = go (settlesResidual o D) t
     where
       go : (b : Bool) → T b → cond b (residualDay o D) D ≡ residualDay o D
       go true x = refl
@@ -38,7 +38,7 @@ module _ (o : Terms) (w : List ℤ) (D : ℕ) where
     flag-same (residualOf {a = a} t h) =
         rw (then-is t) (omega (arith, slot-index o w (residualDay o D) i (accountPlace a (flagAt Residual + 0)), residual-index o w (residualDay o D) a i h hi 0 (omega arith)))
 
-  pub search-same : firstAbsent w (o .accounts) (slotStart o D) (slotStart o (thenDay o D)) (residualDue o D) ≡ firstMissing o w D
+  pub search-same : firstAbsent w (o .accounts) (slotStart o D) (slotStart o (thenDay o D)) (settlesResidual o D) ≡ firstMissing o w D
   unfolding firstAbsent absentIn firstMissing missingAt
   search-same = first-cong intervals _ _ (λ i hi. searched-cong o D (flagAbsent w (intervalLength (o .accounts)) (slotStart o D) (slotStart o (thenDay o D)) i) (absentFlag o w D i)
       (λ s a n. ap (absentAt w) (flag-same i hi n)))

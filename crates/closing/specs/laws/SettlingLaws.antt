@@ -16,7 +16,7 @@ use Rattle.integer.specs.Words.{word, filled, onPart}
 use Rattle.rulebook.specs.declared.Terms.{Terms}
 use Rattle.rulebook.specs.Units.{lastDay}
 use Rattle.rulebook.specs.Terms.{InTerms}
-use Rattle.rulebook.specs.DayAmount.{residualDue, residualDay, postedAmount, msslAmount}
+use Rattle.rulebook.specs.DayAmount.{settlesResidual, residualDay, postedAmount, msslAmount}
 use Rattle.rulebook.specs.Layout.{stored, size, base, msslWord, nextDayWord, balanceWord, slotLength, slotStart}
 use Rattle.rulebook.specs.BookData.{bookData, termsOf, nextDay}
 use Rattle.rulebook.specs.WellFormed.{wellFormed, dayBound}
@@ -36,7 +36,7 @@ use Rattle.closing.specs.Written.{Small, Settling, StatementOf, Balances
 use Rattle.closing.specs.laws.WrittenLaws.{grown-header}
 
 -- r's slot, lent to be cleared
-pub slot-blanked : (o : Terms) (D : ℕ) (v : List ℤ) {a n : ℕ} → InTerms o → size o ≤ length v → residualDue o D ≡ true → a ≡ slotStart o (residualDay o D) → n ≡ slotLength (o .accounts)
+pub slot-blanked : (o : Terms) (D : ℕ) (v : List ℤ) {a n : ℕ} → InTerms o → size o ≤ length v → settlesResidual o D ≡ true → a ≡ slotStart o (residualDay o D) → n ≡ slotLength (o .accounts)
     → onPart a (a + n) (λ p. tabulate (length p) (λ m. pos 0)) v ≡ slotBlanked o D v
 unfolding slotBlanked
 slot-blanked o D v {a} {n} h l due start words = rw (due, start, words) (sym (stored-part v (slotStart o (residualDay o D)) (slotLength (o .accounts)) (λ m. pos 0) (omega (arith, slot-sized o (residualDay o D) h))))
@@ -53,19 +53,19 @@ module _ (w : List ℤ) (o : Terms) (D : ℕ) (s : Settling w o D) where
   left = omega (arith, s .book .next, s .left)
 
   -- the slots that it reads are in range
-  pub settling-ranged : DaysRanged (o .accounts) (slotWords o w D) (slotWords o w (thenDay o D)) (residualDue o D) (residualsDue o w D)
+  pub settling-ranged : DaysRanged (o .accounts) (slotWords o w D) (slotWords o w (thenDay o D)) (settlesResidual o D) (residualsDue o w D)
   settling-ranged =
       days-ranged-at (s .none)
     where
-      days-ranged-at : firstMissing o w D ≡ Nothing → DaysRanged (o .accounts) (slotWords o w D) (slotWords o w (thenDay o D)) (residualDue o D) (residualsDue o w D)
+      days-ranged-at : firstMissing o w D ≡ Nothing → DaysRanged (o .accounts) (slotWords o w D) (slotWords o w (thenDay o D)) (settlesResidual o D) (residualsDue o w D)
       days-ranged-at =
-          at (λ (o : Terms) (D : ℕ). firstMissing o w D ≡ Nothing → DaysRanged (o .accounts) (slotWords o w D) (slotWords o w (thenDay o D)) (residualDue o D) (residualsDue o w D))
+          at (λ (o : Terms) (D : ℕ). firstMissing o w D ≡ Nothing → DaysRanged (o .accounts) (slotWords o w D) (slotWords o w (thenDay o D)) (settlesResidual o D) (residualsDue o w D))
           (days-ranged w formed left)
 
   -- the amounts posted are the rule book's
-  pub settling-posted : (a : ℕ) → a < o .accounts → slotPosted (o .accounts) (slotWords o w D) (slotWords o w (thenDay o D)) (residualDue o D) (residualsDue o w D) a ≡ posted o w D a
+  pub settling-posted : (a : ℕ) → a < o .accounts → slotPosted (o .accounts) (slotWords o w D) (slotWords o w (thenDay o D)) (settlesResidual o D) (residualsDue o w D) a ≡ posted o w D a
   settling-posted =
-      at (λ (o : Terms) (D : ℕ). (a : ℕ) → a < o .accounts → slotPosted (o .accounts) (slotWords o w D) (slotWords o w (thenDay o D)) (residualDue o D) (residualsDue o w D) a ≡ posted o w D a)
+      at (λ (o : Terms) (D : ℕ). (a : ℕ) → a < o .accounts → slotPosted (o .accounts) (slotWords o w D) (slotWords o w (thenDay o D)) (settlesResidual o D) (residualsDue o w D) a ≡ posted o w D a)
       (slot-posted-same w formed left)
 
   sized : (a : ℕ) → a < o .accounts → natAbs (posted o w D a) ≤ dayBound
@@ -77,7 +77,7 @@ module _ (w : List ℤ) (o : Terms) (D : ℕ) (s : Settling w o D) where
   module _ (st : List ℤ) (room : o .accounts + 1 ≤ length st) where
     -- the amounts written
     abbrev amounts : List ℤ
-    amounts = filled (o .accounts) (slotPosted (o .accounts) (slotWords o w D) (slotWords o w (thenDay o D)) (residualDue o D) (residualsDue o w D)) st
+    amounts = filled (o .accounts) (slotPosted (o .accounts) (slotWords o w D) (slotWords o w (thenDay o D)) (settlesResidual o D) (residualsDue o w D)) st
 
     amounts-same : amounts ≡ stored st 0 (o .accounts) (posted o w D)
     amounts-same = ap (λ (xs : List ℤ). xs ++ drop (o .accounts) st) (tabulate-cong (o .accounts) _ _ settling-posted) ∙ sym (stored-filled st (o .accounts) (posted o w D) (omega arith))

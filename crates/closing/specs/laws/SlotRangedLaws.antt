@@ -19,7 +19,7 @@ use Rattle.rulebook.specs.declared.Kind.the-variants.{Quantity, Load}
 use Rattle.rulebook.specs.Units.{lastDay, between, inRange, positive, intervals}
 use Rattle.rulebook.specs.Shares.{leastResidual}
 use Rattle.rulebook.specs.Sections.{kindOf, accountsOf, Figure, BVQ, TVQ, UEGQ, MQ, NccLoad, figureSection, figurePlace}
-use Rattle.rulebook.specs.DayAmount.{residualDue, residualDay}
+use Rattle.rulebook.specs.DayAmount.{settlesResidual, residualDay}
 use Rattle.rulebook.specs.Layout.{width, wordName, figureIndex, flagIndex, flagWord, cellPlace, accountWords, intervalLength, intervalOf, InWindow}
 use Rattle.rulebook.specs.BookData.{entriesOf, entryNamed, bookData, termsOf, nextDay}
 use Rattle.rulebook.specs.WellFormed.{isZero, rowFits, wellFormed}
@@ -37,7 +37,7 @@ use Rattle.rulebook.specs.laws.SizeLaws.{same-sized}
 use Rattle.rulebook.specs.laws.IndexLaws.{tender-words}
 use Rattle.rulebook.specs.laws.SearchLaws.{needed-there}
 use Rattle.amounts.specs.Cell.{cellData, RangedCell}
-use Rattle.amounts.specs.declared.interval.Residual.{Residual}
+use Rattle.amounts.specs.declared.interval.ResidualAndSpare.{ResidualAndSpare}
 use Rattle.amounts.specs.laws.IntervalLaws.{residual-le}
 use Rattle.amounts.specs.Day.{cellAt, SlotRanged, DaysRanged, residualsOf, noResiduals}
 use Rattle.amounts.specs.laws.DayLaws.{residual-in}
@@ -113,7 +113,7 @@ module _ (w : List ℤ) (t : T (wellFormed w)) (d : ℕ) (inside : InWindow (ter
 
 module _ (w : List ℤ) (t : T (wellFormed w)) (left : nextDay w ≤ lastDay) where
   -- r's
-  settled-ranged : T (residualDue (termsOf w) (nextDay w)) → SlotRanged (termsOf w .accounts) (slotWords (termsOf w) w (residualDay (termsOf w) (nextDay w)))
+  settled-ranged : T (settlesResidual (termsOf w) (nextDay w)) → SlotRanged (termsOf w .accounts) (slotWords (termsOf w) w (residualDay (termsOf w) (nextDay w)))
   settled-ranged x =
       let inside = r-inside w t left x in
       slot-ranged w t (residualDay (termsOf w) (nextDay w)) inside (omega arith)
@@ -121,13 +121,13 @@ module _ (w : List ℤ) (t : T (wellFormed w)) (left : nextDay w ≤ lastDay) wh
 
   pub days-ranged : firstMissing (termsOf w) w (nextDay w) ≡ Nothing
       → DaysRanged (termsOf w .accounts) (slotWords (termsOf w) w (nextDay w)) (slotWords (termsOf w) w (thenDay (termsOf w) (nextDay w)))
-      (residualDue (termsOf w) (nextDay w)) (residualsDue (termsOf w) w (nextDay w))
+      (settlesResidual (termsOf w) (nextDay w)) (residualsDue (termsOf w) w (nextDay w))
   unfolding thenDay residualsDue
   days-ranged none = record {
     closing = slot-ranged w t (nextDay w) (D-inside w t left) left (λ a i ha hi. needed-there (termsOf w) w (nextDay w) none Meter a (nextDay w) i (meterOf ha) hi);
     long = slot-length w t (thenDay (termsOf w) (nextDay w)) ∙ sym (slot-length w t (nextDay w));
-    settled = then (residualDue (termsOf w) (nextDay w)) settled-ranged;
-    loads = loads (residualDue (termsOf w) (nextDay w)) settled-ranged;
+    settled = then (settlesResidual (termsOf w) (nextDay w)) settled-ranged;
+    loads = loads (settlesResidual (termsOf w) (nextDay w)) settled-ranged;
   }
     where
       then : (b : Bool) → (T b → SlotRanged (termsOf w .accounts) (slotWords (termsOf w) w (residualDay (termsOf w) (nextDay w))))
@@ -140,5 +140,5 @@ module _ (w : List ℤ) (t : T (wellFormed w)) (left : nextDay w ≤ lastDay) wh
       loads true s i hi =
           let n = termsOf w .accounts in
           let x = slotWords (termsOf w) w (residualDay (termsOf w) (nextDay w)) in
-          rw (ap (λ (r : Residual). r .load) (residual-in n x i hi)) (residual-le n (intervalOf n x i) (s tt .each i hi) (opened-of w t .accountsTo))
+          rw (ap (λ (r : ResidualAndSpare). r .load) (residual-in n x i hi)) (residual-le n (intervalOf n x i) (s tt .each i hi) (opened-of w t .accountsTo))
       loads false s i hi = rw (getD-replicate intervals i (pos 0) (pos 0) hi) (omega arith)

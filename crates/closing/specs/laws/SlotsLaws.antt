@@ -14,7 +14,7 @@ use Rattle.rulebook.specs.declared.Section.{Section}
 use Rattle.rulebook.specs.declared.Section.the-variants.{Vesting, Meter, Residual, Ncc}
 use Rattle.rulebook.specs.declared.Terms.{Terms}
 use Rattle.rulebook.specs.Terms.{InTerms}
-use Rattle.rulebook.specs.DayAmount.{residualDue}
+use Rattle.rulebook.specs.DayAmount.{settlesResidual}
 use Rattle.rulebook.specs.Layout.{width, ring, size, slot, intervalSize, intervalWord, rowWord, place, cellPlace, accountWords, intervalLength, slotLength, slotStart, intervalOf, accountPlace, flagAt}
 use Rattle.rulebook.specs.Units.{intervals}
 use Rattle.rulebook.specs.BookData.{termsOf}
@@ -34,7 +34,7 @@ slot-sized o d h = omega (arith, row-fits (slot o d) (ring o) (slotLength (o .ac
 
 -- the days of a close are not before F
 pub then-late : (o : Terms) (D : ℕ) → o .first ≤ D → o .first ≤ thenDay o D
-unfolding thenDay residualDue
+unfolding thenDay settlesResidual
 then-late o D h = go (leb (o .first + o .lag) D) (leb→le (o .first + o .lag) D)
   where
     go : (b : Bool) → (T b → o .first + o .lag ≤ D) → o .first ≤ cond b (D - o .lag) D

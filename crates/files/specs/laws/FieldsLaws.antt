@@ -12,7 +12,7 @@ use Rattle.rulebook.specs.declared.Verdict.{Verdict}
 use Rattle.rulebook.specs.declared.Verdict.the-variants.{Accepted, Refused}
 use Rattle.rulebook.specs.File.{num}
 use Rattle.rulebook.specs.Judging.{_andThen_, upTo, fieldIn}
-use Rattle.files.specs.declared.fields.Field.the-variants.{Whole, Cut}
+use Rattle.files.specs.declared.fields.FieldRead.the-variants.{Whole, Cut}
 use Rattle.files.specs.declared.fields.Outcome.the-variants.{Passed, Stopped}
 use Rattle.files.specs.Fields.{outcome, fieldAt, fieldOutcome}
 

@@ -20,7 +20,7 @@ use Rattle.rulebook.specs.File.{accountAt, dayAt, rowPos}
 use Rattle.rulebook.specs.Judging.{openFrom, given, key}
 use Rattle.rulebook.specs.laws.JudgingLaws.{keyed}
 use Rattle.files.specs.Judgeable.{Judgeable}
-use Rattle.files.specs.Marks.{mark, markOf, unmarked, Marked}
+use Rattle.files.specs.Marks.{markPlace, markOf, unmarked, Marked}
 
 -- ---- Places
 
@@ -29,7 +29,7 @@ pub judgeable-more : {l : Limits} {n m : ℕ} → n ≤ m → Judgeable l n → 
 judgeable-more h b = record { some = b .some; few = b .few; room = λ sec. omega (arith, b .room sec) }
 
 -- every account and open day has its mark
-mark-fits : (l : Limits) (sec : Section) (n a d : ℕ) → Judgeable l n → a < mostAccounts → openFrom l sec ≤ d → d ≤ l .last → mark (openFrom l sec) a d < n
+mark-fits : (l : Limits) (sec : Section) (n a d : ℕ) → Judgeable l n → a < mostAccounts → openFrom l sec ≤ d → d ≤ l .last → markPlace (openFrom l sec) a d < n
 mark-fits l sec n a d b p q r = omega (arith, b .room sec)
 
 -- so has a row whose account and day are accepted
@@ -39,7 +39,7 @@ row-mark-fits l sec s at n b e =
     mark-fits l sec n (accountAt sec s at) (dayAt sec s at) b (omega (arith, b .some, b .few, k .account .to)) (k .day .from) (k .day .to)
 
 -- and no two have the same
-mark-same : (low a d b e : ℕ) → a < mostAccounts → b < mostAccounts → low ≤ d → low ≤ e → mark low a d ≡ mark low b e → (a ≡ b) × (d ≡ e)
+mark-same : (low a d b e : ℕ) → a < mostAccounts → b < mostAccounts → low ≤ d → low ≤ e → markPlace low a d ≡ markPlace low b e → (a ≡ b) × (d ≡ e)
 mark-same low a d b e p q h k t = (omega arith, omega arith)
 
 -- ---- The marks of a section
@@ -57,7 +57,7 @@ length-unmarked n = length-tabulate n (λ _. 0)
 module _ (l : Limits) (sec : Section) (s : List ℕ) (first : ℕ) where
   pub marked-none : (n : ℕ) → Marked l sec s first 0 (unmarked n)
   unfolding Marked given fold unmarked
-  marked-none n a d p q r = rw (zeros n (mark (openFrom l sec) a d))
+  marked-none n a d p q r = rw (zeros n (markPlace (openFrom l sec) a d))
 
   -- one row more, its account and day accepted
   pub marked-more : (i : ℕ) (marks : List ℕ) → Judgeable l (length marks) → key l sec s (rowPos sec s first i) ≡ Accepted → Marked l sec s first i marks
@@ -74,10 +74,10 @@ module _ (l : Limits) (sec : Section) (s : List ℕ) (first : ℕ) where
       let u = and-true (eqb a' a) (eqb d' d) t in
       let x = eqb-true a' a (u .0) in
       let y = eqb-true d' d (u .1) in
-      rw (t, ← x, ← y, getD-set-same marks (mark (openFrom l sec) a' d') 1 0 (omega arith)) (sym (or-true (given sec s first i a' d'))))
+      rw (t, ← x, ← y, getD-set-same marks (markPlace (openFrom l sec) a' d') 1 0 (omega arith)) (sym (or-true (given sec s first i a' d'))))
       (λ t.
       ap (λ v. eqb v 1)
-      (getD-set-other marks (mark (openFrom l sec) a' d') (mark (openFrom l sec) a d) 1 0
+      (getD-set-other marks (markPlace (openFrom l sec) a' d') (markPlace (openFrom l sec) a d) 1 0
       (λ w. differ a d t (mark-same (openFrom l sec) a d a' d' p (omega (arith, b .some, b .few, k .account .to)) q (k .day .from) w)))
       ∙ m a d p q r
       ∙ sym (or-false (given sec s first i a d))

@@ -18,13 +18,13 @@ abbrev pub openingOf : ℕ → ℕ → ℕ → List ℕ
 openingOf n l h = n ∷ l ∷ h ∷ 0x19 ∷ 0x25 ∷ []
 
 -- a vesting row of 9,497 without tenders, a meter row of one facility; in interval 0 its first two values, of which only the lower bytes are not zero
-abbrev pub rowOf : ℕ → ℕ → ℕ → ℕ → ℕ → ℕ → List ℕ
-rowOf account count low high low′ high′ = account ∷ 0x19 ∷ 0x25 ∷ count ∷ low ∷ high ∷ 0x00 ∷ 0x00 ∷ low′ ∷ high′ ∷ 0x00 ∷ 0x00 ∷ zeros 376
+abbrev pub rowBytes : ℕ → ℕ → ℕ → ℕ → ℕ → ℕ → List ℕ
+rowBytes account count low high low′ high′ = account ∷ 0x19 ∷ 0x25 ∷ count ∷ low ∷ high ∷ 0x00 ∷ 0x00 ∷ low′ ∷ high′ ∷ 0x00 ∷ 0x00 ∷ zeros 376
 
 -- a file of 1,560 bytes: BVQ 400, BVP 15,000 and BVQ 1, BVP 3,000; MEP 10,000 with IEQ 1 for both
 abbrev pub dayFile : List ℕ
-dayFile = 0x02 ∷ 0x00 ∷ rowOf 0 0 0x90 0x01 0x98 0x3A ++ (rowOf 1 0 0x01 0x00 0xB8 0x0B
-    ++ (0x02 ∷ 0x00 ∷ rowOf 0 1 0x10 0x27 0x01 0x00 ++ (rowOf 1 1 0x10 0x27 0x01 0x00 ++ zeros 4)))
+dayFile = 0x02 ∷ 0x00 ∷ rowBytes 0 0 0x90 0x01 0x98 0x3A ++ (rowBytes 1 0 0x01 0x00 0xB8 0x0B
+    ++ (0x02 ∷ 0x00 ∷ rowBytes 0 1 0x10 0x27 0x01 0x00 ++ (rowBytes 1 1 0x10 0x27 0x01 0x00 ++ zeros 4)))
 
 -- N = 2, L = H = 1; it is submitted and closed, and then there is a byte that is no command
 abbrev pub dayInput : List ℕ

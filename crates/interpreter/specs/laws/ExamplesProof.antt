@@ -14,7 +14,7 @@ use Rattle.rulebook.specs.declared.Terms.{Terms}
 use Rattle.rulebook.specs.Units.{nearest}
 use Rattle.rulebook.specs.ReferencePrice.{average, referencePrice}
 use Rattle.rulebook.specs.Shares.{share}
-use Rattle.rulebook.specs.DayAmount.{referencePriceOf, vestedQuantity, tenderAmount, vestingAmount, residualLoad, rvq, residualAmount, residualDue, intervalAmount, exactAmount, postedAmount}
+use Rattle.rulebook.specs.DayAmount.{referencePriceOf, vestedQuantity, tenderAmount, vestingAmount, residualLoad, rvq, residualAmount, settlesResidual, intervalAmount, exactAmount, postedAmount}
 use Rattle.rulebook.specs.Terms.{termsFit}
 use Rattle.rulebook.specs.Layout.{base, ring, intervalSize, size, slot, intervalWord, rowWord}
 use Rattle.rulebook.specs.File.{num, valueAt, rowEnd, rowPos, sectionEnd, sectionRows, fileRows, numberOf, figureOf}
@@ -141,12 +141,12 @@ abbrev dayAnswer : Answer
 dayAnswer = record { number = 0; position = 0; day = 9497; count = 0 }
 
 day-closed : closeTold two history newStatement ≡ dayAnswer
-unfolding closeTold firstLacking searched residualCount inForce latest lastFor acceptedRows closes residualDue fold orElse fileRows sectionRows tabulate num rowEnd rowPos sectionEnd turns valueAt twosComplement numberOf figureOf base ring intervalSize slot intervalWord rowWord
+unfolding closeTold firstLacking searched residualCount inForce latest lastFor acceptedRows closes settlesResidual fold orElse fileRows sectionRows tabulate num rowEnd rowPos sectionEnd turns valueAt twosComplement numberOf figureOf base ring intervalSize slot intervalWord rowWord
 day-closed = refl
 
 -- the accounts' amounts, and the MSSL's
 day-amount : (formulaAmount two history 0 ≡ pos 2000) × (formulaAmount two history 1 ≡ minus 7)
-unfolding formulaAmount postedAmount exactAmount intervalAmount tenderAmount vestingAmount vestedQuantity residualLoad rvq share residualAmount residualDue referencePriceOf referencePrice average nearest withSign inForce latest lastFor acceptedRows closes fold fileRows sectionRows tabulate num rowEnd rowPos sectionEnd turns valueAt twosComplement numberOf figureOf
+unfolding formulaAmount postedAmount exactAmount intervalAmount tenderAmount vestingAmount vestedQuantity residualLoad rvq share residualAmount settlesResidual referencePriceOf referencePrice average nearest withSign inForce latest lastFor acceptedRows closes fold fileRows sectionRows tabulate num rowEnd rowPos sectionEnd turns valueAt twosComplement numberOf figureOf
 day-amount = (refl, refl)
 
 day-mssl : negℤ (sumℤ 2 (formulaAmount two history)) ≡ minus 1993

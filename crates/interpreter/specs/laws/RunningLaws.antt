@@ -8,7 +8,7 @@ use lib.IntN.{ℤ}
 use lib.ListN.{length, take}
 use Rattle.console.specs.Written.{Put}
 use Rattle.console.specs.laws.WrittenLaws.{length-written, written-front}
-use Rattle.interpreter.specs.declared.Turn.{Turn as Code·Turn}
+use Rattle.interpreter.specs.declared.Handed.{Handed}
 use Rattle.interpreter.specs.Interpreter.{Turn, beginning, turn, Hands, Begins}
 use Rattle.interpreter.specs.Running.{Reached, begun, next, Leaves, Stands, Steps}
 
@@ -20,7 +20,7 @@ put-front {line} {text} {after} {end} p =
 
 module _ (Read : ℕ → List ℕ → Type 0) {start : List ℤ} {opening : List ℕ} where
   -- the figures of a turn that was reached
-  stands-at : (from : ℕ) (s : List ℕ) (t : Turn) {line lineAfter : List ℕ} {bookAfter : List ℤ} {r : Code·Turn} → Reached Read start opening t → Hands from s t line r bookAfter lineAfter
+  stands-at : (from : ℕ) (s : List ℕ) (t : Turn) {line lineAfter : List ℕ} {bookAfter : List ℤ} {r : Handed} → Reached Read start opening t → Hands from s t line r bookAfter lineAfter
       → Stands Read start opening r bookAfter lineAfter
   stands-at from s t h p = record {
     left = record { last = t; reached = h; bookLeft = p .bookLeft; printed = put-front (p .printed) };
@@ -30,10 +30,10 @@ module _ (Read : ℕ → List ℕ → Type 0) {start : List ℤ} {opening : List
     goesOn = p .goesOn;
   }
 
-  pub stands-begun : {line lineAfter : List ℕ} {bookAfter : List ℤ} {r : Code·Turn} → Begins start opening line r bookAfter lineAfter → Stands Read start opening r bookAfter lineAfter
+  pub stands-begun : {line lineAfter : List ℕ} {bookAfter : List ℤ} {r : Handed} → Begins start opening line r bookAfter lineAfter → Stands Read start opening r bookAfter lineAfter
   stands-begun p = stands-at 0 opening (beginning start opening) begun p
 
-  pub stands-next : {book : List ℤ} {line lineAfter : List ℕ} {bookAfter : List ℤ} {q r : Code·Turn} → Stands Read start opening q book line → q .more ≡ true
+  pub stands-next : {book : List ℤ} {line lineAfter : List ℕ} {bookAfter : List ℤ} {q r : Handed} → Stands Read start opening q book line → q .more ≡ true
       → Steps Read (q .accounts) (q .position) book line r bookAfter lineAfter → Stands Read start opening r bookAfter lineAfter
   stands-next {book} {q = q} h m p =
       stands-at (q .position) (p .read) (turn (q .accounts) (q .position) book (p .read))

@@ -8,7 +8,7 @@ use lib.ListN.{length, take, drop, length-append, length-drop}
 use lib.Seq.{take-at, drop-at, length-take-le}
 use Rattle.rulebook.specs.Close.{closed}
 use Rattle.rulebook.specs.Calls.{shareCall}
-use Rattle.replay.specs.Fields.{wordsIn, Listed}
+use Rattle.replay.specs.Fields.{wordsIn, ListRead}
 use Rattle.replay.specs.Frames.{Lent, Submits, Closes, SubmittedFrom, ClosedWith, SharedFrom}
 
 -- n first words, or bytes, of xs came back as ys
@@ -35,7 +35,7 @@ module _ (n : ℕ) (xs ys : List ℤ) (within : n ≤ length xs) (same : length 
   closed-with-of book after e =
       record { count = n; within = within; book-words = e .0; statement-words = first-back n xs ys within same ∙ e .1; beyond = beyond-back n xs ys within same }
 
-  pub listed-of : (bytes : List ℕ) → ys ≡ wordsIn (length (take n xs)) bytes → Listed n xs (ys ++ drop n xs) bytes
+  pub listed-of : (bytes : List ℕ) → ys ≡ wordsIn (length (take n xs)) bytes → ListRead n xs (ys ++ drop n xs) bytes
   listed-of bytes e =
       record {
         counts = counts-back n xs ys within same;

@@ -12,7 +12,7 @@ use Rattle.rulebook.specs.Units.{nearest}
 use Rattle.rulebook.specs.ReferencePrice.{average, referencePrice}
 use Rattle.rulebook.specs.Shares.{share, shareOf}
 use Rattle.rulebook.specs.Tranches.{tranche1, tranche2}
-use Rattle.rulebook.specs.DayAmount.{AccountData, SettlementData, referencePriceOf, vestedQuantity, tenderAmount, vestingAmount, shareAmount, hedgeTotal, spareGeneration, residualLoad, rvq, residualAmount, residualDue, intervalAmount, exactAmount, postedAmount, msslAmount}
+use Rattle.rulebook.specs.DayAmount.{AccountData, SettlementData, referencePriceOf, vestedQuantity, tenderAmount, vestingAmount, shareAmount, hedgeTotal, spareGeneration, residualLoad, rvq, residualAmount, settlesResidual, intervalAmount, exactAmount, postedAmount, msslAmount}
 use Rattle.rulebook.specs.examples.Figures.{accountData, nothing}
 use Rattle.rulebook.specs.examples.Examples.{one}
 
@@ -30,7 +30,7 @@ pub record BoundReached : Type 0 where
   pub mssl : msslAmount one (days (extreme (pos 1000000) (minus 1000000))) 9498 ≡ minus 4800000000000
 
 pub bound-reached : BoundReached
-unfolding fold share shareOf tranche1 tranche2 referencePrice average nearest withSign msslAmount postedAmount exactAmount intervalAmount residualDue tenderAmount vestingAmount vestedQuantity hedgeTotal spareGeneration residualLoad rvq shareAmount residualAmount referencePriceOf
+unfolding fold share shareOf tranche1 tranche2 referencePrice average nearest withSign msslAmount postedAmount exactAmount intervalAmount settlesResidual tenderAmount vestingAmount vestedQuantity hedgeTotal spareGeneration residualLoad rvq shareAmount residualAmount referencePriceOf
 bound-reached = record { most = refl; least = refl; mssl = refl }
 
 -- 1000 less three times 10 + 1 + 2 + 4
@@ -58,12 +58,12 @@ spareDays = record {
 
 pub record LagOfTwo : Type 0 where
   -- r of 9,498 is before F, r of 9,499 is F
-  pub notDue : residualDue lagged 9498 ≡ false
-  pub due : residualDue lagged 9499 ≡ true
+  pub notDue : settlesResidual lagged 9498 ≡ false
+  pub due : settlesResidual lagged 9499 ≡ true
   pub nothingYet : postedAmount lagged spareDays 0 9498 ≡ pos 0
   pub ofFirst : postedAmount lagged spareDays 0 9499 ≡ pos 10
   pub ofSecond : postedAmount lagged spareDays 0 9500 ≡ pos 20
 
 pub lag-of-two : LagOfTwo
-unfolding fold share shareOf tranche1 tranche2 referencePrice average nearest withSign postedAmount exactAmount intervalAmount residualDue tenderAmount vestingAmount vestedQuantity hedgeTotal spareGeneration residualLoad rvq shareAmount residualAmount referencePriceOf
+unfolding fold share shareOf tranche1 tranche2 referencePrice average nearest withSign postedAmount exactAmount intervalAmount settlesResidual tenderAmount vestingAmount vestedQuantity hedgeTotal spareGeneration residualLoad rvq shareAmount residualAmount referencePriceOf
 lag-of-two = record { notDue = refl; due = refl; nothingYet = refl; ofFirst = refl; ofSecond = refl }

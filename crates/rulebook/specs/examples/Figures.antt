@@ -14,7 +14,7 @@ use Rattle.rulebook.specs.Units.{nearest, thousandthsPerCent}
 use Rattle.rulebook.specs.ReferencePrice.{average, referencePrice}
 use Rattle.rulebook.specs.Shares.{share, shareOf}
 use Rattle.rulebook.specs.Tranches.{tranche1, tranche2}
-use Rattle.rulebook.specs.DayAmount.{AccountData, referencePriceOf, tenderAmount, vestingAmount, residualDue, intervalAmount, exactAmount, postedAmount}
+use Rattle.rulebook.specs.DayAmount.{AccountData, referencePriceOf, tenderAmount, vestingAmount, settlesResidual, intervalAmount, exactAmount, postedAmount}
 
 -- ---- Data for examples
 
@@ -87,5 +87,5 @@ starred =
     ∷ []
 
 pub starred-right : Each Right starred
-unfolding fold tabulate share shareOf tranche1 tranche2 referencePrice average nearest withSign postedAmount exactAmount intervalAmount residualDue tenderAmount vestingAmount referencePriceOf
+unfolding fold tabulate share shareOf tranche1 tranche2 referencePrice average nearest withSign postedAmount exactAmount intervalAmount settlesResidual tenderAmount vestingAmount referencePriceOf
 starred-right = (refl, (refl, (refl, (refl, (refl, ((refl, refl), ((refl, refl), (refl, (refl, (refl, (refl, (refl, (refl, (refl, tt))))))))))))))

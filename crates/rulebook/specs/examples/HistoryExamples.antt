@@ -12,7 +12,7 @@ use Rattle.integer.specs.Integer.{twosComplement}
 use Rattle.integer.specs.Below.{fold, orElse, tabulate, turns}
 use Rattle.rulebook.specs.declared.Section.the-variants.{Ncc}
 use Rattle.rulebook.specs.declared.Terms.{Terms}
-use Rattle.rulebook.specs.DayAmount.{residualDue}
+use Rattle.rulebook.specs.DayAmount.{settlesResidual}
 use Rattle.rulebook.specs.Terms.{InTerms}
 use Rattle.rulebook.specs.Layout.{size, base, ring, intervalSize, slot, intervalWord, rowWord}
 use Rattle.rulebook.specs.Opening.{newBook}
@@ -109,7 +109,7 @@ pub record Closes : Type 0 where
   pub notRevised : figureIn (inForce (refused (nccFile 5) ∷ taken (nccFile 3) ∷ []) Ncc 0 9497) 0 NccLoad ≡ pos 3
 
 pub closes-told : Closes
-unfolding closeTold residualCount firstLacking searched inForce latest lastFor acceptedRows closes residualDue fold orElse fileRows sectionRows tabulate num rowEnd rowPos sectionEnd turns valueAt twosComplement numberOf figureOf base ring intervalSize slot intervalWord rowWord
+unfolding closeTold residualCount firstLacking searched inForce latest lastFor acceptedRows closes settlesResidual fold orElse fileRows sectionRows tabulate num rowEnd rowPos sectionEnd turns valueAt twosComplement numberOf figureOf base ring intervalSize slot intervalWord rowWord
 closes-told = record {
   noRoom = refl;
   nothing = refl;

@@ -3,7 +3,7 @@ use mathlib.Core.Path.{_≡_, refl}
 use mathlib.Core.List.{[], _∷_}
 use lib.ListN.{take}
 use Rattle.integer.specs.Below.{fold}
-use Rattle.rulebook.specs.DayAmount.{residualDue}
+use Rattle.rulebook.specs.DayAmount.{settlesResidual}
 use Rattle.rulebook.specs.Layout.{base, ring, intervalSize, slot, intervalWord, rowWord}
 use Rattle.rulebook.specs.SearchOrder.{flagsAt, flagOrder}
 use Rattle.rulebook.specs.examples.Examples.{two}
@@ -15,5 +15,5 @@ pub record SearchedFlags : Type 0 where
   pub secondDay : take 14 (flagOrder two 9498) ≡ 2580 ∷ 2589 ∷ 2604 ∷ 2613 ∷ 81 ∷ 102 ∷ 126 ∷ 2632 ∷ 2641 ∷ 2656 ∷ 2665 ∷ 133 ∷ 154 ∷ 178 ∷ []
 
 pub searched-flags : SearchedFlags
-unfolding flagOrder flagsAt residualDue fold base ring intervalSize slot intervalWord rowWord
+unfolding flagOrder flagsAt settlesResidual fold base ring intervalSize slot intervalWord rowWord
 searched-flags = record { firstDay = refl; secondDay = refl }

@@ -32,7 +32,7 @@ use Rattle.rulebook.specs.Units.{nearest}
 use Rattle.rulebook.specs.ReferencePrice.{average, referencePrice}
 use Rattle.rulebook.specs.Shares.{share, shareOf}
 use Rattle.rulebook.specs.Tranches.{tranche1, tranche2}
-use Rattle.rulebook.specs.DayAmount.{AccountData, SettlementData, referencePriceOf, vestedQuantity, tenderAmount, vestingAmount, shareAmount, hedgeTotal, spareGeneration, residualLoad, rvq, residualAmount, residualDue, intervalAmount, exactAmount, postedAmount, msslAmount}
+use Rattle.rulebook.specs.DayAmount.{AccountData, SettlementData, referencePriceOf, vestedQuantity, tenderAmount, vestingAmount, shareAmount, hedgeTotal, spareGeneration, residualLoad, rvq, residualAmount, settlesResidual, intervalAmount, exactAmount, postedAmount, msslAmount}
 use Rattle.rulebook.specs.examples.Figures.{accountData, nothing, accounts}
 
 -- data at intervals 0, 20 and 47, none between
@@ -83,7 +83,7 @@ pub record WorkedDay : Type 0 where
   pub firstDay : postedAmount (accounts 2) worked 1 9497 ≡ pos 973
 
 pub worked-day : WorkedDay
-unfolding fold tabulate share shareOf tranche1 tranche2 referencePrice average nearest withSign msslAmount postedAmount exactAmount intervalAmount residualDue tenderAmount vestingAmount vestedQuantity hedgeTotal spareGeneration residualLoad rvq shareAmount residualAmount referencePriceOf
+unfolding fold tabulate share shareOf tranche1 tranche2 referencePrice average nearest withSign msslAmount postedAmount exactAmount intervalAmount settlesResidual tenderAmount vestingAmount vestedQuantity hedgeTotal spareGeneration residualLoad rvq shareAmount residualAmount referencePriceOf
 worked-day = record {
   exact0 = refl;
   exact1 = refl;

@@ -10,7 +10,7 @@ use Rattle.rulebook.specs.declared.Terms.{Terms}
 use Rattle.rulebook.specs.Units.{nearest}
 use Rattle.rulebook.specs.ReferencePrice.{referencePrice}
 use Rattle.rulebook.specs.Shares.{share}
-use Rattle.rulebook.specs.DayAmount.{AccountData, SettlementData, referencePriceOf, vestedQuantity, tenderAmount, vestingAmount, shareAmount, hedgeTotal, spareGeneration, residualLoad, rvq, residualAmount, residualDue, residualDay, intervalAmount, exactAmount, postedAmount}
+use Rattle.rulebook.specs.DayAmount.{AccountData, SettlementData, referencePriceOf, vestedQuantity, tenderAmount, vestingAmount, shareAmount, hedgeTotal, spareGeneration, residualLoad, rvq, residualAmount, settlesResidual, residualDay, intervalAmount, exactAmount, postedAmount}
 use Rattle.rulebook.specs.laws.ReferencePriceLaws.{price-cong}
 
 -- ---- One interval
@@ -76,11 +76,11 @@ pub record Agree (n : ℕ) (g g′ : SettlementData) (d : ℕ) : Type 0 where
   pub accounts : (a i : ℕ) → a < n → i < 48 → SameFigures (g .account a d i) (g′ .account a d i)
   pub loads : (i : ℕ) → i < 48 → g .load d i ≡ g′ .load d i
 
-module _ (o : Terms) (g g′ : SettlementData) (D : ℕ) (now : Agree (o .accounts) g g′ D) (then : T (residualDue o D) → Agree (o .accounts) g g′ (residualDay o D)) where
+module _ (o : Terms) (g g′ : SettlementData) (D : ℕ) (now : Agree (o .accounts) g g′ D) (then : T (settlesResidual o D) → Agree (o .accounts) g g′ (residualDay o D)) where
   pub posted-same : (a : ℕ) → a < o .accounts → postedAmount o g a D ≡ postedAmount o g′ a D
   unfolding postedAmount exactAmount intervalAmount
   posted-same a ha = ap (λ (x : ℤ). nearest x 1000) (sumℤ-cong 48 _ _
-      (λ i hi. rw (vesting-same (g .account a D i) (g′ .account a D i) (now .accounts a i ha hi)) (go i hi (residualDue o D) then)))
+      (λ i hi. rw (vesting-same (g .account a D i) (g′ .account a D i) (now .accounts a i ha hi)) (go i hi (settlesResidual o D) then)))
     where
       go : (i : ℕ) → i < 48 → (b : Bool) → (T b → Agree (o .accounts) g g′ (residualDay o D))
           → vestingAmount (g′ .account a D i) +ℤ cond b (residualAmount (g .load (residualDay o D) i) (o .accounts) (λ b. g .account b (residualDay o D) i) a) (pos 0)

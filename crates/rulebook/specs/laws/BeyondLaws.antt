@@ -12,7 +12,7 @@ use lib.Seq.{getD-set-same, getD-set-other}
 use Rattle.integer.specs.Below.{Each}
 use Rattle.integer.specs.Words.{word}
 use Rattle.rulebook.specs.declared.Terms.{Terms}
-use Rattle.rulebook.specs.DayAmount.{residualDue, residualDay}
+use Rattle.rulebook.specs.DayAmount.{settlesResidual, residualDay}
 use Rattle.rulebook.specs.Layout.{stored, base, ring, size, intervalSize, slotLength, slot, slotStart, intervalWord, nextDayWord, msslWord}
 use Rattle.rulebook.specs.Opening.{header, newBook}
 use Rattle.rulebook.specs.File.{Row}
@@ -61,7 +61,7 @@ module _ (o : Terms) where
 
     pub blanked-beyond : (D : ℕ) (v : List ℤ) → KeptFrom (size o) v (slotBlanked o D v)
     unfolding slotBlanked slotStart intervalSize
-    blanked-beyond D v = go (residualDue o D)
+    blanked-beyond D v = go (settlesResidual o D)
       where
         go : (b : Bool) → KeptFrom (size o) v (cond b (stored v (slotStart o (residualDay o D)) (slotLength (o .accounts)) (λ m. pos 0)) v)
         go true = record {

@@ -8,7 +8,7 @@ use lib.IntN.{ℤ, natAbs}
 use Rattle.integer.specs.laws.IntegerLaws.{abs-add, abs-neg}
 use Rattle.integer.specs.Words.{word}
 use Rattle.rulebook.specs.Units.{lastDay}
-use Rattle.rulebook.specs.DayAmount.{residualDue, residualDay, postedAmount, msslAmount}
+use Rattle.rulebook.specs.DayAmount.{settlesResidual, residualDay, postedAmount, msslAmount}
 use Rattle.rulebook.specs.Layout.{balanceWord, msslWord, InWindow}
 use Rattle.rulebook.specs.BookData.{entriesOf, bookData, termsOf, nextDay}
 use Rattle.rulebook.specs.WellFormed.{wellFormed, dayBound}
@@ -27,8 +27,8 @@ module _ (w : List ℤ) (t : T (wellFormed w)) where
     pub D-inside : InWindow (termsOf w) (nextDay w - termsOf w .first) (nextDay w)
     D-inside = let q = opened-of w t in let n = next-of w t .1 in record { begun = omega arith; kept = omega arith; ahead = omega arith }
 
-    pub r-inside : T (residualDue (termsOf w) (nextDay w)) → InWindow (termsOf w) (nextDay w - termsOf w .first) (residualDay (termsOf w) (nextDay w))
-    unfolding residualDue
+    pub r-inside : T (settlesResidual (termsOf w) (nextDay w)) → InWindow (termsOf w) (nextDay w - termsOf w .first) (residualDay (termsOf w) (nextDay w))
+    unfolding settlesResidual
     r-inside x =
         let q = opened-of w t in
         let n = next-of w t .1 in
@@ -41,7 +41,7 @@ module _ (w : List ℤ) (t : T (wellFormed w)) where
     now-sized : SizedDay (termsOf w .accounts) (bookData (termsOf w) w) (nextDay w)
     now-sized = data-sized (termsOf w .accounts) (entriesOf (termsOf w) w) (nextDay w) (book-ranged (nextDay w) D-inside left)
 
-    then-sized : T (residualDue (termsOf w) (nextDay w)) → SizedDay (termsOf w .accounts) (bookData (termsOf w) w) (residualDay (termsOf w) (nextDay w))
+    then-sized : T (settlesResidual (termsOf w) (nextDay w)) → SizedDay (termsOf w .accounts) (bookData (termsOf w) w) (residualDay (termsOf w) (nextDay w))
     then-sized x = data-sized (termsOf w .accounts) (entriesOf (termsOf w) w) (residualDay (termsOf w) (nextDay w)) (book-ranged (residualDay (termsOf w) (nextDay w)) (r-inside x) r-dated)
 
     -- the amount that a close posts

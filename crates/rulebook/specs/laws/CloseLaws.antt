@@ -16,7 +16,7 @@ use Rattle.integer.specs.Words.{word}
 use Rattle.integer.specs.laws.WordsLaws.{row-of}
 use Rattle.rulebook.specs.declared.Section.{Section}
 use Rattle.rulebook.specs.declared.Terms.{Terms}
-use Rattle.rulebook.specs.DayAmount.{residualDue}
+use Rattle.rulebook.specs.DayAmount.{settlesResidual}
 use Rattle.rulebook.specs.Sections.{accountsOf}
 use Rattle.rulebook.specs.Layout.{stored, width, place, intervalSize, slotLength, ring, base, size, slot, intervalWord, slotStart, rowWord, intervalWords, accountWords, markWord, accountsWord, lagWord, horizonWord, firstDayWord, nextDayWord, msslWord, balanceWord, balancePadding, headerPadding, InWindow}
 use Rattle.rulebook.specs.BookData.{Entries}
@@ -134,10 +134,10 @@ module _ (o : Terms) where
     counted-slot t i m = counted-out (intervalWord o t i m) (omega arith) (omega arith) (λ a x e. omega arith)
 
     -- what the close leaves outside r's slot, below the intervals, in r's slot, and in every other
-    pub closed-elsewhere : (n : ℕ) → (T (residualDue o D) → (i m : ℕ) → i < 48 → m < intervalSize o → n ≢ intervalWord o (slot o (D - o .lag)) i m)
+    pub closed-elsewhere : (n : ℕ) → (T (settlesResidual o D) → (i m : ℕ) → i < 48 → m < intervalSize o → n ≢ intervalWord o (slot o (D - o .lag)) i m)
         → word (dayClosed o w D) n ≡ word counted n
     unfolding dayClosed slotBlanked counted slotStart intervalSize
-    closed-elsewhere n out = go (residualDue o D) out
+    closed-elsewhere n out = go (settlesResidual o D) out
       where
         go : (b : Bool) → (T b → (i m : ℕ) → i < 48 → m < intervalSize o → n ≢ intervalWord o (slot o (D - o .lag)) i m)
             → word (cond b (stored counted (slotStart o (D - o .lag)) (slotLength (o .accounts)) (λ m. pos 0)) counted) n ≡ word counted n
@@ -150,33 +150,33 @@ module _ (o : Terms) where
 
     closed-length : length (dayClosed o w D) ≡ length w
     unfolding dayClosed slotBlanked counted slotStart intervalSize
-    closed-length = go (residualDue o D) ∙ length-counted
+    closed-length = go (settlesResidual o D) ∙ length-counted
       where
         go : (b : Bool) → length (cond b (stored counted (slotStart o (D - o .lag)) (slotLength (o .accounts)) (λ m. pos 0)) counted) ≡ length counted
         go true = length-stored counted _ _ _
         go false = refl
 
-    pub closed-in : (i m : ℕ) → i < 48 → m < intervalSize o → size o ≤ length w → zero < ring o → T (residualDue o D)
+    pub closed-in : (i m : ℕ) → i < 48 → m < intervalSize o → size o ≤ length w → zero < ring o → T (settlesResidual o D)
         → word (dayClosed o w D) (intervalWord o (slot o (D - o .lag)) i m) ≡ pos 0
     unfolding dayClosed slotBlanked counted slotStart intervalSize
-    closed-in i m hi hm l p h = go (residualDue o D) h
+    closed-in i m hi hm l p h = go (settlesResidual o D) h
       where
         go : (b : Bool) → T b → word (cond b (stored counted (slotStart o (D - o .lag)) (slotLength (o .accounts)) (λ m. pos 0)) counted)
             (intervalWord o (slot o (D - o .lag)) i m) ≡ pos 0
         go true x = blank-in counted (slot o (D - o .lag)) i m hi hm (omega (arith, length-counted)) (slot-inside o (D - o .lag) p)
         go false x = absurd x
 
-    closed-out : (t i m : ℕ) → i < 48 → m < intervalSize o → (T (residualDue o D) → t ≡ slot o (D - o .lag) → ⊥)
+    closed-out : (t i m : ℕ) → i < 48 → m < intervalSize o → (T (settlesResidual o D) → t ≡ slot o (D - o .lag) → ⊥)
         → word (dayClosed o w D) (intervalWord o t i m) ≡ word w (intervalWord o t i m)
     closed-out t i m hi hm f = closed-elsewhere (intervalWord o t i m) (λ x i′ m′ hi′ hm′ e. f x (interval-apart o t (slot o (D - o .lag)) hi hi′ hm hm′ e .0)) ∙ counted-slot t i m
 
 module _ (o : Terms) (p : zero < ring o) (k : ℕ) (g : Entries) (balance : ℕ → ℤ) (m₀ : ℤ) (w : List ℤ) (h : HoldsLedger o (record { closed = k; entries = g; balance = balance; mssl = m₀ }) w) where
-  residual-begun : T (residualDue o (o .first + k)) → o .lag ≤ k
-  unfolding residualDue
+  residual-begun : T (settlesResidual o (o .first + k)) → o .lag ≤ k
+  unfolding settlesResidual
   residual-begun t = let x = leb→le (o .first + o .lag) (o .first + k) t in omega arith
 
-  begun-residual : o .lag ≤ k → T (residualDue o (o .first + k))
-  unfolding residualDue
+  begun-residual : o .lag ≤ k → T (settlesResidual o (o .first + k))
+  unfolding settlesResidual
   begun-residual x = le→leb (o .first + o .lag) (o .first + k) (omega arith)
 
   residual-day : o .lag ≤ k → InWindow o k (o .first + k - o .lag)
@@ -222,7 +222,7 @@ module _ (o : Terms) (p : zero < ring o) (k : ℕ) (g : Entries) (balance : ℕ 
     closed-padding : (t i m : ℕ) → t < ring o → i < 48 → Padding (o .accounts) m → word (dayClosed o w (o .first + k)) (intervalWord o t i m) ≡ pos 0
     closed-padding t i m ht hi hm = go (ℕ-discrete t (slot o (o .first + k - o .lag))) (decLe (o .lag) k)
       where
-        out : (T (residualDue o (o .first + k)) → t ≡ slot o (o .first + k - o .lag) → ⊥) → word (dayClosed o w (o .first + k)) (intervalWord o t i m) ≡ pos 0
+        out : (T (settlesResidual o (o .first + k)) → t ≡ slot o (o .first + k - o .lag) → ⊥) → word (dayClosed o w (o .first + k)) (intervalWord o t i m) ≡ pos 0
         out f = closed-out o w (o .first + k) t i m hi (padding-fits o m hm) f ∙ h .padding t i m ht hi hm
 
         go : Dec (t ≡ slot o (o .first + k - o .lag)) → Dec (o .lag ≤ k) → word (dayClosed o w (o .first + k)) (intervalWord o t i m) ≡ pos 0

@@ -19,7 +19,7 @@ use Rattle.rulebook.specs.declared.Section.the-variants.{Vesting, Meter}
 use Rattle.rulebook.specs.declared.Terms.{Terms}
 use Rattle.rulebook.specs.declared.CloseAnswer.the-variants.{Finished, NoRoom, DatumMissing}
 use Rattle.rulebook.specs.Units.{lastDay, positive}
-use Rattle.rulebook.specs.DayAmount.{residualDue, residualDay, postedAmount, msslAmount}
+use Rattle.rulebook.specs.DayAmount.{settlesResidual, residualDay, postedAmount, msslAmount}
 use Rattle.rulebook.specs.Terms.{InTerms}
 use Rattle.rulebook.specs.Layout.{flagIndex, InWindow}
 use Rattle.rulebook.specs.BookData.{entriesOf, bookData, dataOf}
@@ -65,7 +65,7 @@ module _ (o : Terms) (t : InTerms o) (past : List Event) (w : List ℤ) (h : Sta
   now : InWindow o (closes past) (closingDay o past)
   now = today o t (closes past) (inForce past) (formulaBalance o past) (negℤ (sumℤ (o .accounts) (formulaBalance o past))) w (h .holds) (h .kept)
 
-  then : T (residualDue o (closingDay o past)) → InWindow o (closes past) (residualDay o (closingDay o past))
+  then : T (settlesResidual o (closingDay o past)) → InWindow o (closes past) (residualDay o (closingDay o past))
   then = back o t (closes past) (inForce past) (formulaBalance o past) (negℤ (sumℤ (o .accounts) (formulaBalance o past))) w (h .holds) (h .kept)
 
   ranged : (d : ℕ) → RangedEntries (o .accounts) (entriesIn (inForce past)) d
@@ -94,7 +94,7 @@ module _ (o : Terms) (t : InTerms o) (past : List Event) (w : List ℤ) (h : Sta
       (λ x. data-sized (o .accounts) (entriesIn (inForce past)) (residualDay o (closingDay o past)) (ranged (residualDay o (closingDay o past)))) a ha)
 
   count-grown : residualCounts past + residualCount o (closingDay o past) ≡ 48 * o .accounts * (suc (closes past) - o .lag)
-  unfolding residualCount residualDue
+  unfolding residualCount settlesResidual
   count-grown = rw (h .counted) (go (leb (o .first + o .lag) (closingDay o past)) refl)
     where
       go : (b : Bool) → leb (o .first + o .lag) (closingDay o past) ≡ b

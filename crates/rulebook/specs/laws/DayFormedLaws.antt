@@ -13,7 +13,7 @@ use Rattle.rulebook.specs.declared.Section.the-variants.{Vesting, Meter,
 use Rattle.rulebook.specs.declared.Terms.{Terms}
 use Rattle.rulebook.specs.Sections.{accountsOf}
 use Rattle.rulebook.specs.Layout.{accountTable, intervalTable, accountPlace, place, base, intervalSize, slot, intervalWord}
-use Rattle.rulebook.specs.WellFormed.{isZero, rowFits, paddingZero, rowOf, rowsThere, accountFits, nccFits, intervalFits, intervalBlank, slotBlank, datedFits, dayFits}
+use Rattle.rulebook.specs.WellFormed.{isZero, rowFits, paddingZero, wordOfRow, rowsThere, accountFits, nccFits, intervalFits, intervalBlank, slotBlank, datedFits, dayFits}
 use Rattle.rulebook.specs.FormedBook.{IntervalFormed, slotWord, DayFormed, DaysFormed}
 use Rattle.rulebook.specs.Ledger.{Padding, ofInterval, ofAccount}
 use Rattle.rulebook.specs.laws.TestLaws.{and-both, all-yes, all-at, is-zero, zero-yes}
@@ -47,8 +47,8 @@ module _ (n : ℕ) (closed : Bool) (f : ℕ → ℤ) where
   row-words : (s : Section) (a first : ℕ) → place s a 0 ≡ first → rowFits s (λ j. f (place s a j)) ≡ rowFits s (λ j. f (first + j))
   row-words s a first e = row-same s (λ j. f (place s a j)) (λ j. f (first + j)) (λ j h. ap f (omega (arith, place-run s a j h)))
 
-  ncc-words : rowFits Ncc (rowOf f Ncc) ≡ rowFits Ncc f
-  ncc-words = row-same Ncc (rowOf f Ncc) f (λ j h. ap f (omega (arith, place-run Ncc 0 j h)))
+  ncc-words : rowFits Ncc (wordOfRow f Ncc) ≡ rowFits Ncc f
+  ncc-words = row-same Ncc (wordOfRow f Ncc) f (λ j h. ap f (omega (arith, place-run Ncc 0 j h)))
 
   -- an account's last word
   last-word : (a : ℕ) → f (accountPlace a 23) ≡ f (27 + 24 * a)
@@ -96,7 +96,7 @@ module _ (n : ℕ) (closed : Bool) (f : ℕ → ℤ) where
 
     says-own : T (nccFits f)
     unfolding nccFits
-    says-own = and-both (paddingZero intervalTable f) (rowFits Ncc (rowOf f Ncc))
+    says-own = and-both (paddingZero intervalTable f) (rowFits Ncc (wordOfRow f Ncc))
         (unfold paddingZero fold in and-both (isZero (f 2)) (isZero (f 3)) (zero-yes (h .padding .0)) (zero-yes (h .padding .1)))
         (subst T (sym ncc-words) (says-ncc f (h .ncc)))
 

@@ -14,7 +14,7 @@ use Rattle.integer.specs.Words.{word}
 use Rattle.rulebook.specs.declared.Terms.{Terms}
 use Rattle.rulebook.specs.Numbers.{Answer}
 use Rattle.rulebook.specs.NamedRows.{NamedRow}
-use Rattle.rulebook.specs.Leaves.{dayIndex, CloseLeaves, wordsIn, rowIndex, Replaced, NotNamed, SubmitLeaves}
+use Rattle.rulebook.specs.Leaves.{dayIndex, CloseLeaves, wordCount, rowIndex, Replaced, NotNamed, SubmitLeaves}
 use Rattle.rulebook.specs.laws.TestLaws.{below-suc}
 
 -- ---- Whether an index is one of those named
@@ -46,9 +46,9 @@ one-of n m k f = some-below n (λ i. SomeBelow m (λ j. k ≡ f i j)) (λ i. som
 module _ (o : Terms) (after after′ : List ℤ) (n : ℕ) where
   row-same : (rows : List NamedRow) → Each (Replaced o after) rows → Each (Replaced o after′) rows → (Each (NotNamed o n) rows → word after n ≡ word after′ n) → word after n ≡ word after′ n
   row-same [] x y f = f tt
-  row-same (r ∷ rows) x y f = go (row-same rows (x .1) (y .1)) (one-of 48 (wordsIn (r .section)) n (rowIndex o r))
+  row-same (r ∷ rows) x y f = go (row-same rows (x .1) (y .1)) (one-of 48 (wordCount (r .section)) n (rowIndex o r))
     where
-      go : ((Each (NotNamed o n) rows → word after n ≡ word after′ n) → word after n ≡ word after′ n) → Dec (SomeBelow 48 (λ i. SomeBelow (wordsIn (r .section)) (λ j. n ≡ rowIndex o r i j)))
+      go : ((Each (NotNamed o n) rows → word after n ≡ word after′ n) → word after n ≡ word after′ n) → Dec (SomeBelow 48 (λ i. SomeBelow (wordCount (r .section)) (λ j. n ≡ rowIndex o r i j)))
           → word after n ≡ word after′ n
       go later (yes z) =
           let i = z .at in

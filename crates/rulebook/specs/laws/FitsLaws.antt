@@ -12,7 +12,7 @@ use Rattle.rulebook.specs.declared.Section.{Section}
 use Rattle.rulebook.specs.declared.Section.the-variants.{Vesting, Meter, Residual, Ncc}
 use Rattle.rulebook.specs.Sections.{accountsOf, mostCount}
 use Rattle.rulebook.specs.Layout.{Word, padding, isPadding, intervalTable, accountTable, tableOf, accountWords, accountPlace, intervalLength, width, wordName, tablePlace, flagIndex, flagAt, place}
-use Rattle.rulebook.specs.WellFormed.{isZero, rowBlank, wordFits, rowCounts, rowFits, paddingZero, rowOf, rowsThere, accountFits, nccFits, intervalFits}
+use Rattle.rulebook.specs.WellFormed.{isZero, rowBlank, wordFits, rowCounts, rowFits, paddingZero, wordOfRow, rowsThere, accountFits, nccFits, intervalFits}
 use Rattle.rulebook.specs.Ledger.{Padding, ofInterval, ofAccount}
 use Rattle.rulebook.specs.laws.TestLaws.{and-left, and-right, and-both, all-same, any-same, all-yes, all-at}
 use Rattle.rulebook.specs.laws.RowWordLaws.{row-word}
@@ -34,8 +34,8 @@ unfolding paddingZero
 padding-same table f g e = all-same (length table) _ _ (λ q h. ap (λ (z : ℤ). not (isPadding (getD table q padding)) || isZero z) (e q h))
 
 module _ (closed : Bool) (f g : ℕ → ℤ) (same : (q : ℕ) → q < accountWords → f q ≡ g q) where
-  row-alike : (s : Section) → tableOf s ≡ accountTable → rowFits s (rowOf f s) ≡ rowFits s (rowOf g s)
-  row-alike s e = row-same s (rowOf f s) (rowOf g s) (λ j h. same (tablePlace s j) (subst (λ (table : List Word). tablePlace s j < length table) e (row-word s j h .inside)))
+  row-alike : (s : Section) → tableOf s ≡ accountTable → rowFits s (wordOfRow f s) ≡ rowFits s (wordOfRow g s)
+  row-alike s e = row-same s (wordOfRow f s) (wordOfRow g s) (λ j h. same (tablePlace s j) (subst (λ (table : List Word). tablePlace s j < length table) e (row-word s j h .inside)))
 
   pub account-same : accountFits closed f ≡ accountFits closed g
   unfolding accountFits rowsThere
@@ -46,7 +46,7 @@ module _ (n : ℕ) (closed : Bool) (f g : ℕ → ℤ) (same : (m : ℕ) → m <
   unfolding nccFits
   ncc-alike = rw (
     padding-same intervalTable f g (λ q h. same q (omega arith)),
-    row-same Ncc (rowOf f Ncc) (rowOf g Ncc) (λ j h. same (tablePlace Ncc j) (omega (arith, row-word Ncc j h .inside))),
+    row-same Ncc (wordOfRow f Ncc) (wordOfRow g Ncc) (λ j h. same (tablePlace Ncc j) (omega (arith, row-word Ncc j h .inside))),
   )
 
   accounts-alike : all n (λ a. accountFits closed (λ q. f (accountPlace a q))) ≡ all n (λ a. accountFits closed (λ q. g (accountPlace a q)))
@@ -81,7 +81,7 @@ module _ (closed : Bool) (f : ℕ → ℤ) where
   unfolding accountFits
   account-padding t = search (and-left, and-right)
 
-  account-rows : T (accountFits closed f) → T (rowFits Vesting (rowOf f Vesting)) × T (rowFits Meter (rowOf f Meter)) × T (rowFits Residual (rowOf f Residual))
+  account-rows : T (accountFits closed f) → T (rowFits Vesting (wordOfRow f Vesting)) × T (rowFits Meter (wordOfRow f Meter)) × T (rowFits Residual (wordOfRow f Residual))
   unfolding accountFits
   account-rows t = (search (and-left, and-right), search (and-left, and-right), search (and-left, and-right))
 
@@ -89,7 +89,7 @@ module _ (closed : Bool) (f : ℕ → ℤ) where
   unfolding accountFits
   account-closed t = search (and-left, and-right)
 
-  pub account-yes : T (paddingZero accountTable f) → T (rowFits Vesting (rowOf f Vesting)) → T (rowFits Meter (rowOf f Meter)) → T (rowFits Residual (rowOf f Residual))
+  pub account-yes : T (paddingZero accountTable f) → T (rowFits Vesting (wordOfRow f Vesting)) → T (rowFits Meter (wordOfRow f Meter)) → T (rowFits Residual (wordOfRow f Residual))
       → (T closed → T (rowsThere f)) → T (accountFits closed f)
   unfolding accountFits
   account-yes p v m r h = let c = not-or closed (rowsThere f) h in search and-both depth 6
@@ -110,7 +110,7 @@ module _ (n : ℕ) (closed : Bool) (f : ℕ → ℤ) where
   interval-yes t each = and-both (nccFits f) (all n (λ a. accountFits closed (λ q. f (accountPlace a q)))) t (all-yes n (λ a. accountFits closed (λ q. f (accountPlace a q))) each)
 
   module _ (t : T (intervalFits n closed f)) where
-    pub interval-own : T (paddingZero intervalTable f) × T (rowFits Ncc (rowOf f Ncc))
+    pub interval-own : T (paddingZero intervalTable f) × T (rowFits Ncc (wordOfRow f Ncc))
     unfolding intervalFits nccFits
     interval-own = (search (and-left, and-right), search (and-left, and-right))
 

@@ -42,12 +42,12 @@ up-each = fold-each _andThen_ Accepted then-both
 -- ---- Fields
 
 module _ (n low high : ℕ) (why : Why) (s : List ℕ) (at : ℕ) where
-  pub record Field : Type 0 where
+  pub record FieldFine : Type 0 where
     pub whole : at + n ≤ length s
     pub from : low ≤ num n s at
     pub to : num n s at ≤ high
 
-  pub field-says : fieldIn n low high why s at ≡ Accepted → Field
+  pub field-says : fieldIn n low high why s at ≡ Accepted → FieldFine
   unfolding fieldIn
   field-says e =
       let p = checked (leb (at + n) (length s)) NotWhole at _ e in
@@ -71,8 +71,8 @@ value-says sec s from k e =
 -- ---- Rows
 
 pub record Keyed (l : Limits) (sec : Section) (s : List ℕ) (at : ℕ) : Type 0 where
-  pub account : Field (accountBytes sec) 0 (l .accounts - 1) OutOfRange s at
-  pub day : Field 2 (openFrom l sec) (l .last) DayNotOpen s (dayPos sec at)
+  pub account : FieldFine (accountBytes sec) 0 (l .accounts - 1) OutOfRange s at
+  pub day : FieldFine 2 (openFrom l sec) (l .last) DayNotOpen s (dayPos sec at)
 
 pub keyed : (l : Limits) (sec : Section) (s : List ℕ) (at : ℕ) → key l sec s at ≡ Accepted → Keyed l sec s at
 unfolding key
@@ -83,7 +83,7 @@ keyed l sec s at e =
 -- what the row at `at` says where it is accepted
 pub record Fine (l : Limits) (sec : Section) (s : List ℕ) (at : ℕ) : Type 0 where
   pub named : Keyed l sec s at
-  pub count : Field (countBytes sec) (leastCount sec) (mostCount sec) OutOfRange s (countPos sec at)
+  pub count : FieldFine (countBytes sec) (leastCount sec) (mostCount sec) OutOfRange s (countPos sec at)
   pub each : (k : ℕ) → k < valuesIn sec s at → Value sec s (valuesPos sec at) k
 
 pub row-fine : (l : Limits) (sec : Section) (s : List ℕ) (at : ℕ) (again : Bool) → rowAfter l sec s at again ≡ Accepted → (again ≡ false) × Fine l sec s at

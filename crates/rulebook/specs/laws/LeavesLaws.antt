@@ -22,7 +22,7 @@ use Rattle.rulebook.specs.declared.SubmitAnswer.the-variants.{IllFormed}
 use Rattle.rulebook.specs.declared.Verdict.{Verdict}
 use Rattle.rulebook.specs.declared.Verdict.the-variants.{Accepted, Refused}
 use Rattle.rulebook.specs.Units.{lastDay}
-use Rattle.rulebook.specs.DayAmount.{residualDue, msslAmount}
+use Rattle.rulebook.specs.DayAmount.{settlesResidual, msslAmount}
 use Rattle.rulebook.specs.Layout.{base, ring, intervalSize, slot, intervalWord, rowWord, width, place, rowTable, padding}
 use Rattle.rulebook.specs.BookData.{termsOf, nextDay}
 use Rattle.rulebook.specs.WellFormed.{wellFormed}
@@ -34,7 +34,7 @@ use Rattle.rulebook.specs.Numbers.{accepted, ofSubmit, ofClose}
 use Rattle.rulebook.specs.NamedRows.{NamedRow, named, namedRows}
 use Rattle.rulebook.specs.Proper.{sameKey, Once}
 use Rattle.rulebook.specs.History.{latest, isFor, lastFor}
-use Rattle.rulebook.specs.Leaves.{dayIndex, CloseLeaves, wordsOf, wordsIn, placeOf, rowIndex, Replaced, NotNamed, SubmitLeaves}
+use Rattle.rulebook.specs.Leaves.{dayIndex, CloseLeaves, wordsOf, wordCount, placeOf, rowIndex, Replaced, NotNamed, SubmitLeaves}
 use Rattle.rulebook.specs.laws.TestLaws.{T-path, and-both}
 use Rattle.rulebook.specs.laws.SectionsLaws.{section-self}
 use Rattle.rulebook.specs.laws.IndexLaws.{place-run}
@@ -94,7 +94,7 @@ module _ (w st : List ℤ) (t : T (wellFormed w)) (room : termsOf w .accounts + 
   front n h = closed-front o w D n h
 
   close-leaves : CloseLeaves o D w st (ofClose (Closed (closeFigures o D))) (dayClosed o w D) (statementWritten o w D st)
-  unfolding posted postedToMssl msslAmount residualCount residualDue intervalWord base intervalSize slot ring
+  unfolding posted postedToMssl msslAmount residualCount settlesResidual intervalWord base intervalSize slot ring
   close-leaves = record {
     number = refl;
     position = refl;
@@ -177,7 +177,7 @@ entry-word : (r : Row) (i j : ℕ) → entry r i j ≡ word (wordsOf (r .section
 unfolding entry
 entry-word r i j = sym (getD-map (wordOf r i) (rowTable (r .section)) j padding) ∙ ap (λ (l : List ℤ). word l j) (words-are r i (r .section) refl)
 
-widths : (s : Section) → wordsIn s ≡ width s
+widths : (s : Section) → wordCount s ≡ width s
 widths Vesting = refl
 widths Meter = refl
 widths Residual = refl

@@ -50,18 +50,18 @@ module _ (o : Terms) where
     unfolding ring
     place-day u h late = omega arith
 
-    unfoldable pub placeOf : ℕ → ℕ
-    placeOf d = d + o .lag - (o .first + k)
+    unfoldable pub placeOfDay : ℕ → ℕ
+    placeOfDay d = d + o .lag - (o .first + k)
 
     pub record DayPlace (d : ℕ) : Type 0 where
-      pub inside : placeOf d < ring o
-      pub late : o .lag ≤ k + placeOf d
-      pub back : o .first + (k + placeOf d - o .lag) ≡ d
-      pub slot-is : windowSlot o k (placeOf d) ≡ slot o d
-      pub open-is : (placeOf d < o .lag → d < o .first + k) × (d < o .first + k → placeOf d < o .lag)
+      pub inside : placeOfDay d < ring o
+      pub late : o .lag ≤ k + placeOfDay d
+      pub back : o .first + (k + placeOfDay d - o .lag) ≡ d
+      pub slot-is : windowSlot o k (placeOfDay d) ≡ slot o d
+      pub open-is : (placeOfDay d < o .lag → d < o .first + k) × (d < o .first + k → placeOfDay d < o .lag)
 
     pub day-place : (d : ℕ) → InWindow o k d → DayPlace d
-    unfolding ring placeOf windowSlot slot
+    unfolding ring placeOfDay windowSlot slot
     day-place d h =
         let e : k + (d + o .lag - (o .first + k)) + o .horizon ≡ (d - o .first) + (o .lag + o .horizon) = omega arith in
         record {

@@ -16,7 +16,7 @@ use Rattle.integer.specs.Words.{word}
 use Rattle.rulebook.specs.declared.Section.{Section}
 use Rattle.rulebook.specs.declared.Section.the-variants.{Vesting, Meter, Residual, Ncc}
 use Rattle.rulebook.specs.declared.Terms.{Terms}
-use Rattle.rulebook.specs.DayAmount.{residualDue}
+use Rattle.rulebook.specs.DayAmount.{settlesResidual}
 use Rattle.rulebook.specs.Terms.{InTerms}
 use Rattle.rulebook.specs.Sections.{accountsOf}
 use Rattle.rulebook.specs.Layout.{flagIndex, flagWord, InWindow}
@@ -69,7 +69,7 @@ module _ (o : Terms) (D : ℕ) where
   needed-day (residualOf t h) = refl
 
   module _ (x : Section → ℕ → Found) where
-    pub searched-nothing : searched (o .accounts) (residualDue o D) x ≡ Nothing → (s : Section) (a d : ℕ) → Needed o D s a d → x s a ≡ Nothing
+    pub searched-nothing : searched (o .accounts) (settlesResidual o D) x ≡ Nothing → (s : Section) (a d : ℕ) → Needed o D s a d → x s a ≡ Nothing
     unfolding searched
     searched-nothing e s a d n = go n
       where
@@ -77,8 +77,8 @@ module _ (o : Terms) (D : ℕ) where
         late true t y = y
         late false t y = absurd t
 
-        residuals : T (residualDue o D) → (x Ncc 0 ≡ Nothing) × (first (o .accounts) (x Residual) ≡ Nothing)
-        residuals t = orElse-nothing _ _ (late (residualDue o D) t (orElse-nothing _ _ e .1))
+        residuals : T (settlesResidual o D) → (x Ncc 0 ≡ Nothing) × (first (o .accounts) (x Residual) ≡ Nothing)
+        residuals t = orElse-nothing _ _ (late (settlesResidual o D) t (orElse-nothing _ _ e .1))
 
         account : (a : ℕ) → a < o .accounts → (x Vesting a ≡ Nothing) × (x Meter a ≡ Nothing)
         account a h = orElse-nothing _ _ (first-nothing (o .accounts) _ (orElse-nothing _ _ e .0) a h)
@@ -89,22 +89,22 @@ module _ (o : Terms) (D : ℕ) where
         go (nccOf t) = residuals t .0
         go (residualOf {a = b} t h) = first-nothing (o .accounts) (x Residual) (residuals t .1) b h
 
-    pub nothing-searched : ((s : Section) (a : ℕ) → Needed o D s a (neededDay o D s) → x s a ≡ Nothing) → searched (o .accounts) (residualDue o D) x ≡ Nothing
+    pub nothing-searched : ((s : Section) (a : ℕ) → Needed o D s a (neededDay o D s) → x s a ≡ Nothing) → searched (o .accounts) (settlesResidual o D) x ≡ Nothing
     unfolding searched
     nothing-searched h =
-        nothing-orElse _ _ (nothing-first (o .accounts) _ (λ a l. nothing-orElse _ _ (h Vesting a (vestingOf l)) (h Meter a (meterOf l)))) (late (residualDue o D) (λ t. t))
+        nothing-orElse _ _ (nothing-first (o .accounts) _ (λ a l. nothing-orElse _ _ (h Vesting a (vestingOf l)) (h Meter a (meterOf l)))) (late (settlesResidual o D) (λ t. t))
       where
-        late : (b : Bool) → (T b → T (residualDue o D)) → cond b (residualsSearched (o .accounts) x) Nothing ≡ Nothing
+        late : (b : Bool) → (T b → T (settlesResidual o D)) → cond b (residualsSearched (o .accounts) x) Nothing ≡ Nothing
         late true t = nothing-orElse _ _ (h Ncc 0 (nccOf (t tt))) (nothing-first (o .accounts) _ (λ a l. h Residual a (residualOf (t tt) l)))
         late false t = refl
 
     pub searched-cong : (y : Section → ℕ → Found) → ((s : Section) (a : ℕ) → Needed o D s a (neededDay o D s) → x s a ≡ y s a)
-        → searched (o .accounts) (residualDue o D) x ≡ searched (o .accounts) (residualDue o D) y
+        → searched (o .accounts) (settlesResidual o D) x ≡ searched (o .accounts) (settlesResidual o D) y
     unfolding searched
     searched-cong y h =
-        orElse-cong (first-cong (o .accounts) _ _ (λ a l. orElse-cong (h Vesting a (vestingOf l)) (h Meter a (meterOf l)))) (late (residualDue o D) (λ t. t))
+        orElse-cong (first-cong (o .accounts) _ _ (λ a l. orElse-cong (h Vesting a (vestingOf l)) (h Meter a (meterOf l)))) (late (settlesResidual o D) (λ t. t))
       where
-        late : (b : Bool) → (T b → T (residualDue o D)) → cond b (residualsSearched (o .accounts) x) Nothing ≡ cond b (residualsSearched (o .accounts) y) Nothing
+        late : (b : Bool) → (T b → T (settlesResidual o D)) → cond b (residualsSearched (o .accounts) x) Nothing ≡ cond b (residualsSearched (o .accounts) y) Nothing
         late true t = orElse-cong (h Ncc 0 (nccOf (t tt))) (first-cong (o .accounts) _ _ (λ a l. h Residual a (residualOf (t tt) l)))
         late false t = refl
 
@@ -115,9 +115,9 @@ module _ (o : Terms) (D : ℕ) where
       needed : Needed o D section account (neededDay o D section)
       found : x section account ≡ At v
 
-    searched-at : (v : ℕ) → searched (o .accounts) (residualDue o D) x ≡ At v → Finding v
+    searched-at : (v : ℕ) → searched (o .accounts) (settlesResidual o D) x ≡ At v → Finding v
     unfolding searched
-    searched-at v e = ⊎-elim accounts (late (residualDue o D) (λ t. t)) (either-at v e)
+    searched-at v e = ⊎-elim accounts (late (settlesResidual o D) (λ t. t)) (either-at v e)
       where
         accounts : first (o .accounts) (λ a. orElse (x Vesting a) (x Meter a)) ≡ At v → Finding v
         accounts y =
@@ -127,7 +127,7 @@ module _ (o : Terms) (D : ℕ) where
             (λ z. record { section = Meter; account = r .0; needed = meterOf (r .1); found = z })
             (either-at v (r .2))
 
-        late : (b : Bool) → (T b → T (residualDue o D)) → cond b (residualsSearched (o .accounts) x) Nothing ≡ At v → Finding v
+        late : (b : Bool) → (T b → T (settlesResidual o D)) → cond b (residualsSearched (o .accounts) x) Nothing ≡ At v → Finding v
         late true t y =
             ⊎-elim
             (λ z. record { section = Ncc; account = 0; needed = nccOf (t tt); found = z })
@@ -158,8 +158,8 @@ module _ (o : Terms) (t : InTerms o) (k : ℕ) (rows : RowsInForce) (balance : �
   pub today : InWindow o k (o .first + k)
   today = omega arith
 
-  pub back : T (residualDue o (o .first + k)) → InWindow o k (o .first + k - o .lag)
-  unfolding residualDue
+  pub back : T (settlesResidual o (o .first + k)) → InWindow o k (o .first + k - o .lag)
+  unfolding settlesResidual
   back x = let y = leb→le (o .first + o .lag) (o .first + k) x in omega arith
 
   -- a row that is needed has a day of the window
@@ -188,7 +188,7 @@ module _ (o : Terms) (t : InTerms o) (k : ℕ) (rows : RowsInForce) (balance : �
   lackingIn i s a = flagLacking (rows s a (neededDay o (o .first + k) s)) (flagWord o s a (neededDay o (o .first + k) s) i)
 
   abbrev lackingAt : ℕ → Found
-  lackingAt i = searched (o .accounts) (residualDue o (o .first + k)) (lackingIn i)
+  lackingAt i = searched (o .accounts) (settlesResidual o (o .first + k)) (lackingIn i)
 
   missing-is : (i : ℕ) → i < 48 → missingAt o w (o .first + k) i ≡ lackingAt i
   unfolding missingAt

@@ -17,7 +17,7 @@ use Rattle.integer.specs.Words.{word}
 use Rattle.rulebook.specs.declared.Section.the-variants.{Vesting, Meter, Residual, Ncc}
 use Rattle.rulebook.specs.declared.Terms.{Terms}
 use Rattle.rulebook.specs.Units.{lastDay}
-use Rattle.rulebook.specs.DayAmount.{residualDue, residualDay}
+use Rattle.rulebook.specs.DayAmount.{settlesResidual, residualDay}
 use Rattle.rulebook.specs.Layout.{flagWord}
 use Rattle.rulebook.specs.BookData.{termsOf, nextDay}
 use Rattle.rulebook.specs.WellFormed.{isZero, wellFormed}
@@ -119,7 +119,7 @@ module _ (w : List ℤ) where
 module _ (o : Terms) (w : List ℤ) (D : ℕ) where
   missing-zero : (i : ℕ) → missingAt o w D i ≡ firstZero w (flagsAt o D i)
   unfolding missingAt searched flagsAt
-  missing-zero i = sym (append-zero w _ _ ∙ ap (λ (x : Found). orElse x (firstZero w (older (residualDue o D)))) vested ∙ ap (orElse _) (later (residualDue o D)))
+  missing-zero i = sym (append-zero w _ _ ∙ ap (λ (x : Found). orElse x (firstZero w (older (settlesResidual o D)))) vested ∙ ap (orElse _) (later (settlesResidual o D)))
     where
       older : Bool → List ℕ
       older b = cond b (flagWord o Ncc 0 (residualDay o D) i ∷ inTurn (o .accounts) (λ a. flagWord o Residual a (residualDay o D) i ∷ [])) []

@@ -15,7 +15,7 @@ use Rattle.rulebook.specs.Units.{mostQuantity, mostLoad, mostPrice, near
 use Rattle.rulebook.specs.ReferencePrice.{weight}
 use Rattle.rulebook.specs.Tranches.{tranche1, tranche2}
 use Rattle.rulebook.specs.Shares.{share}
-use Rattle.rulebook.specs.DayAmount.{AccountData, SettlementData, referencePriceOf, vestedQuantity, tenderAmount, vestingAmount, shareAmount, hedgeTotal, spareGeneration, residualLoad, rvq, residualAmount, residualDue, residualDay, intervalAmount, exactAmount, postedAmount}
+use Rattle.rulebook.specs.DayAmount.{AccountData, SettlementData, referencePriceOf, vestedQuantity, tenderAmount, vestingAmount, shareAmount, hedgeTotal, spareGeneration, residualLoad, rvq, residualAmount, settlesResidual, residualDay, intervalAmount, exactAmount, postedAmount}
 use Rattle.rulebook.specs.WellFormed.{dayBound}
 use Rattle.rulebook.specs.Bounds.{Sized, SizedDay}
 use Rattle.rulebook.specs.laws.ReferencePriceLaws.{price-size}
@@ -171,13 +171,13 @@ amount-size z y false h k = omega (arith, abs-add z (pos 0))
 posted-bound : (z : ℤ) → natAbs z ≤ 4800000000000000 → natAbs (nearest z 1000) ≤ 4800000000000
 posted-bound z h = rw nearest-abs (omega arith)
 
-module _ (o : Terms) (x : SettlementData) (D : ℕ) (now : SizedDay (o .accounts) x D) (then : T (residualDue o D) → SizedDay (o .accounts) x (residualDay o D)) where
+module _ (o : Terms) (x : SettlementData) (D : ℕ) (now : SizedDay (o .accounts) x D) (then : T (settlesResidual o D) → SizedDay (o .accounts) x (residualDay o D)) where
   module _ (a : ℕ) (la : a < o .accounts) where
     pub interval-size : (i : ℕ) → i < 48 → natAbs (intervalAmount o x a D i) ≤ 100000000000000
     unfolding intervalAmount
     interval-size i hi =
         let r = residualDay o D in
-        amount-size (vestingAmount (x .account a D i)) (residualAmount (x .load r i) (o .accounts) (λ b. x .account b r i) a) (residualDue o D)
+        amount-size (vestingAmount (x .account a D i)) (residualAmount (x .load r i) (o .accounts) (λ b. x .account b r i) a) (settlesResidual o D)
         (vesting-size (x .account a D i) (now a i la hi)) (λ t. residual-size (x .load r i) (o .accounts) (λ b. x .account b r i) (λ b k. then t b i k hi) a la)
 
     -- the running total after n intervals

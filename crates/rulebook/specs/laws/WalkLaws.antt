@@ -17,7 +17,7 @@ use Rattle.rulebook.specs.Layout.{ring, slot, windowFrom, windowDays, In
 use Rattle.rulebook.specs.WellFormed.{slotBlank, datedFits, dayFits, isDated, daysFit}
 use Rattle.rulebook.specs.WindowWalk.{windowSlot, windowPlace, placeDated, windowSlotFits}
 use Rattle.rulebook.specs.laws.TestLaws.{and-left, and-right, and-both, or-left, or-right, or-cases, cond-yes, all-yes, any-yes, all-at, any-some, tests-same}
-use Rattle.rulebook.specs.laws.RingLaws.{ring-some, turn-inside, turned, places-apart, place-slot, place-day, placeOf, day-place}
+use Rattle.rulebook.specs.laws.RingLaws.{ring-some, turn-inside, turned, places-apart, place-slot, place-day, placeOfDay, day-place}
 
 -- ---- One place
 
@@ -71,16 +71,16 @@ module _ (o : Terms) (w : List ℤ) (k u : ℕ) where
 
 -- a day of the window, by the walk over its places
 module _ (o : Terms) (w : List ℤ) (k : ℕ) (t : T (all (ring o) (windowSlotFits o w k))) (d : ℕ) (hd : InWindow o k d) where
-  place-test : T (windowSlotFits o w k (placeOf o k d))
-  place-test = all-at (ring o) (windowSlotFits o w k) t (placeOf o k d) (day-place o k d hd .inside)
+  place-test : T (windowSlotFits o w k (placeOfDay o k d))
+  place-test = all-at (ring o) (windowSlotFits o w k) t (placeOfDay o k d) (day-place o k d hd .inside)
 
   pub walk-day : d ≤ lastDay → T (dayFits o w (o .first + k) d)
   walk-day l =
       let z = day-place o k d hd in
-      rw (day-is-place o w k (placeOf o k d) d (z .slot-is) (z .open-is .0) (z .open-is .1)) (dated-place o w k (placeOf o k d) (z .late) (rw (z .back) l) place-test)
+      rw (day-is-place o w k (placeOfDay o k d) d (z .slot-is) (z .open-is .0) (z .open-is .1)) (dated-place o w k (placeOfDay o k d) (z .late) (rw (z .back) l) place-test)
 
   pub walk-undated : lastDay < d → T (slotBlank o w (slot o d))
-  walk-undated l = let z = day-place o k d hd in subst (λ (v : ℕ). T (slotBlank o w v)) (z .slot-is) (late-place o w k (placeOf o k d) (rw (z .back) l) place-test)
+  walk-undated l = let z = day-place o k d hd in subst (λ (v : ℕ). T (slotBlank o w v)) (z .slot-is) (late-place o w k (placeOfDay o k d) (rw (z .back) l) place-test)
 
 module _ (o : Terms) (w : List ℤ) (k : ℕ) (p : 1 ≤ o .horizon) where
   -- day i of the window
@@ -114,7 +114,7 @@ module _ (o : Terms) (w : List ℤ) (k : ℕ) (p : 1 ≤ o .horizon) where
     each-slot v h = all-at (ring o) (λ v. isDated o (o .first + k) v || slotBlank o w v) (and-right (all (windowDays o (o .first + k)) (λ i. dayFits o w (o .first + k) (windowFrom o (o .first + k) + i))) (all (ring o) (λ v. isDated o (o .first + k) v || slotBlank o w v)) t) v h
 
     -- a place of no day has a slot of no day
-    undated : (u : ℕ) → u < ring o → ((d : ℕ) → InWindow o k d → d ≤ lastDay → placeOf o k d ≡ u → ⊥) → T (slotBlank o w (windowSlot o k u))
+    undated : (u : ℕ) → u < ring o → ((d : ℕ) → InWindow o k d → d ≤ lastDay → placeOfDay o k d ≡ u → ⊥) → T (slotBlank o w (windowSlot o k u))
     unfolding isDated
     undated u h none = or-cases (isDated o (o .first + k) (windowSlot o k u)) (slotBlank o w (windowSlot o k u)) (each-slot (windowSlot o k u) slot-inside)
         (λ x. let i = any-some (windowDays o (o .first + k)) (λ i. eqb (slot o (windowFrom o (o .first + k) + i)) (windowSlot o k u)) x in
@@ -127,10 +127,10 @@ module _ (o : Terms) (w : List ℤ) (k : ℕ) (p : 1 ≤ o .horizon) where
         shared i hi e =
             let d : ℕ = windowFrom o (o .first + k) + i in
             let z = day-place o k (windowFrom o (o .first + k) + i) (window-day i hi) in
-            none d (window-day i hi) (window-dated i hi) (places-apart o (ring-some o p) k (placeOf o k d) u (z .inside) h (z .slot-is ∙ e))
+            none d (window-day i hi) (window-dated i hi) (places-apart o (ring-some o p) k (placeOfDay o k d) u (z .inside) h (z .slot-is ∙ e))
 
     place-fits : (u : ℕ) → u < ring o → T (windowSlotFits o w k u)
-    unfolding windowSlotFits placeOf
+    unfolding windowSlotFits placeOfDay
     place-fits u h = cond-yes (placeDated o k u) (datedFits o w (ltb u (o .lag)) (windowSlot o k u)) (slotBlank o w (windowSlot o k u))
         (λ x. let a = dated-says o k u x .0 in
         let z = place-day o k u h a in

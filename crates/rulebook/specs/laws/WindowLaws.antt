@@ -18,7 +18,7 @@ use Rattle.rulebook.specs.FormedBook.{WindowDay, SlotDay, ofDay, ofNone}
 use Rattle.rulebook.specs.WindowWalk.{windowPlace}
 use Rattle.rulebook.specs.laws.TestLaws.{and-left, and-right, and-both, or-left, or-right, or-cases, all-yes, any-yes, all-at, any-some}
 use Rattle.rulebook.specs.laws.LayoutLaws.{days-apart}
-use Rattle.rulebook.specs.laws.RingLaws.{ring-some, turn-inside, turned, places-apart, place-slot, place-day, placeOf, day-place}
+use Rattle.rulebook.specs.laws.RingLaws.{ring-some, turn-inside, turned, places-apart, place-slot, place-day, placeOfDay, day-place}
 
 module _ (o : Terms) (C : ℕ) (horizon : 1 ≤ o .horizon) (begun : o .first ≤ C) where
   k : ℕ
@@ -45,10 +45,10 @@ module _ (o : Terms) (C : ℕ) (horizon : 1 ≤ o .horizon) (begun : o .first �
       inside = turn-inside o (ring-some o horizon) k v
 
       -- a day with this slot has this place
-      same-place : (d′ : ℕ) → WindowDay o C d′ → slot o d′ ≡ v → placeOf o k d′ ≡ windowPlace o k v
+      same-place : (d′ : ℕ) → WindowDay o C d′ → slot o d′ ≡ v → placeOfDay o k d′ ≡ windowPlace o k v
       same-place d′ h′ e =
           let z = day-place o k d′ (in-window d′ h′) in
-          places-apart o (ring-some o horizon) k (placeOf o k d′) (windowPlace o k v) (z .inside) inside (z .slot-is ∙ e ∙ sym (turned o (ring-some o horizon) k v h))
+          places-apart o (ring-some o horizon) k (placeOfDay o k d′) (windowPlace o k v) (z .inside) inside (z .slot-is ∙ e ∙ sym (turned o (ring-some o horizon) k v h))
 
       go : Dec (o .lag ≤ k + windowPlace o k v) → Dec (o .first + (k + windowPlace o k v - o .lag) ≤ lastDay) → SlotDay o C v
       go (yes a) (yes b) =

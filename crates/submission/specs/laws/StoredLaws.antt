@@ -31,14 +31,14 @@ use Rattle.rulebook.specs.laws.RowWordLaws.{flag-inside}
 use Rattle.rulebook.specs.laws.StoreLaws.{row-grid}
 use Rattle.rulebook.specs.laws.WordLaws.{row-word-inside}
 use Rattle.submission.specs.declared.store.Form.{Form}
-use Rattle.submission.specs.Stored.{formOf, numberFrom, turnOf, wordFrom, rowFrom, firstStored, RowFits}
+use Rattle.submission.specs.Stored.{formOf, numberFrom, valueNumber, wordFrom, rowFrom, firstStored, RowFits}
 
 -- ---- The names of a row's words
 
 -- word j of the section's rows is the flag, or the number of its turn
 abbrev inTurn : Section → ℕ → Word → Bool
 inTurn sec j (flag t) = eqb j (flagIndex sec)
-inTurn sec j (figure g) = not (eqb j (flagIndex sec)) && sameSection sec (figureSection g) && eqb (figurePlace g) (turnOf (flagIndex sec) j)
+inTurn sec j (figure g) = not (eqb j (flagIndex sec)) && sameSection sec (figureSection g) && eqb (figurePlace g) (valueNumber (flagIndex sec) j)
 inTurn sec j padding = false
 
 unfoldable named : Section → ℕ → Bool
@@ -95,8 +95,8 @@ module _ (sec : Section) (s : List ℕ) (at i : ℕ) (hi : i < intervals) where
   word-named j (figure g) h =
       let p : T (not (eqb j (flagIndex sec))) = search (and-left, and-right) in
       let q : T (sameSection sec (figureSection g)) = search (and-left, and-right) in
-      let r : T (eqb (figurePlace g) (turnOf (flagIndex sec) j)) = search (and-left, and-right) in
-      rw (T-path (sameSection sec (figureSection g)) q, not-true (eqb j (flagIndex sec)) (T-path (not (eqb j (flagIndex sec))) p), ← eqb→eq (figurePlace g) (turnOf (flagIndex sec) j) r)
+      let r : T (eqb (figurePlace g) (valueNumber (flagIndex sec) j)) = search (and-left, and-right) in
+      rw (T-path (sameSection sec (figureSection g)) q, not-true (eqb j (flagIndex sec)) (T-path (not (eqb j (flagIndex sec))) p), ← eqb→eq (figurePlace g) (valueNumber (flagIndex sec) j) r)
       (number-from (figurePlace g))
   word-named j padding h = absurd h
 

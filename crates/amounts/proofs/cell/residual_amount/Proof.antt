@@ -22,11 +22,11 @@ use Rattle.amounts.specs.laws.CellLaws.{priced-cong, shareOf-cong, tranc
 use Rattle.amounts.proofs.cell.residual_amount.Statement.{statement}
 use Rattle.amounts.proofs.cell.residual_amount.Tie as tie
 
-spare-generation-requires : tie.Need-spare-generation-requires
-spare-generation-requires c κs = search needs
+uegq-of-requires : tie.Need-uegq-of-requires
+uegq-of-requires c κs = search needs
 
 share-of-requires : tie.Need-share-of-requires
-share-of-requires c κs = (omega (int, known (c .before .fits .r), c .before .pre .2), c .spare-generation .ensures .1)
+share-of-requires c κs = (omega (int, known (c .before .fits .r), c .before .pre .2), c .uegq-of .ensures .1)
 
 quantity-at-requires : tie.Need-quantity-at-requires
 quantity-at-requires c κs = let s = c .before .before in let e = s .pre .0 .whole in (omega arith, s .pre .0 .bvq)
@@ -51,7 +51,7 @@ module _ (c : tie.After-first-tranche) where
   share-is : c .before .before .before .share-of .result ≡ share
   share-is =
       let q = c .before .before .before .share-of .ensures in
-      let u = c .before .before .before .before .spare-generation .ensures .0 in
+      let u = c .before .before .before .before .uegq-of .ensures .0 in
       let x : toZ w64 (ofZ w64 (start .args .r)) ≡ start .args .r = search needs in
       q ∙ shareOf-cong (start .args .s) x u
 
@@ -127,4 +127,4 @@ unfolding shareAmount
 returns c = got (c .add .result) (c .add .ok) ∙ c .add .ensures ∙ sum-cong (one (c .before)) (two (c .before))
 
 pub residual-amount-spec : {M : Type 1} → statement M
-residual-amount-spec = tie.close (tie.spec spare-generation-requires share-of-requires quantity-at-requires quantity-at-requires-2 first-tranche-requires priced-at-requires sub-priced-at priced-at-requires-2 add-requires returns)
+residual-amount-spec = tie.close (tie.spec uegq-of-requires share-of-requires quantity-at-requires quantity-at-requires-2 first-tranche-requires priced-at-requires sub-priced-at priced-at-requires-2 add-requires returns)

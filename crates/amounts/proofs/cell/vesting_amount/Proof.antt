@@ -17,14 +17,14 @@ use Rattle.amounts.specs.laws.CellLaws.{priced-cong, sum-cong}
 use Rattle.amounts.proofs.cell.vesting_amount.Statement.{statement}
 use Rattle.amounts.proofs.cell.vesting_amount.Tie as tie
 
-reference-price-requires : tie.Need-reference-price-requires
-reference-price-requires c κs = search needs
+price-at-requires : tie.Need-price-at-requires
+price-at-requires c κs = search needs
 
 -- V, read back
-price : (c : tie.After-reference-price) → toZ w64 (ofZ w64 (c .reference-price .result)) ≡ referencePriceOf (cellData (c .before .args .c .now))
-price c = got (c .reference-price .result) (c .reference-price .ok) ∙ c .reference-price .ensures
+price : (c : tie.After-price-at) → toZ w64 (ofZ w64 (c .price-at .result)) ≡ referencePriceOf (cellData (c .before .args .c .now))
+price c = got (c .price-at .result) (c .price-at .ok) ∙ c .price-at .ensures
 
-price-le : (c : tie.After-reference-price) → natAbs (toZ w64 (ofZ w64 (c .reference-price .result))) ≤ 1000000
+price-le : (c : tie.After-price-at) → natAbs (toZ w64 (ofZ w64 (c .price-at .result))) ≤ 1000000
 price-le c = rw (price c) (price-sized (cellData (c .before .args .c .now)) (c .before .pre .sized))
 
 quantity-at-requires : tie.Need-quantity-at-requires
@@ -63,4 +63,4 @@ unfolding vestingAmount
 returns c = got (c .add .result) (c .add .ok) ∙ c .add .ensures ∙ sum-cong (base (c .before)) (tender (c .before))
 
 pub vesting-amount-spec : {M : Type 1} → statement M
-vesting-amount-spec = tie.close (tie.spec reference-price-requires quantity-at-requires priced-at-requires tender-amount-requires add-requires returns)
+vesting-amount-spec = tie.close (tie.spec price-at-requires quantity-at-requires priced-at-requires tender-amount-requires add-requires returns)

@@ -1,104 +1,90 @@
--- `amount_at` meets its contract: what is lent are the account's two cells at the interval.
+-- `amount_at` meets its contract: the test of `due` picks the case, and both amounts are small.
 use mathlib.Core.Path.{_≡_, sym, ap, _∙_}
-use mathlib.Core.Bool.{Bool}
+use mathlib.Core.Bool.{Bool, true, false}
 use mathlib.Core.List.{List}
-use Prim.Native.Nat.{ℕ, _+_, _-_, _*_, _≤_, _<_}
+use Prim.Native.Nat.{ℕ}
 use native.Mathlib.Omega.{arith}
 use borrow.Author.Needs.{needs}
-use lib.IntN.{ℤ}
-use lib.ListN.{length, take, drop}
-use Rattle.integer.specs.laws.WordsLaws.{lent}
-use Rattle.integer.specs.Bits.{got}
-use Rattle.rulebook.specs.Layout.{cellPlace, accountWords, intervalLength}
-use Rattle.amounts.specs.declared.interval.Residual.{Residual}
-use Rattle.amounts.specs.Day.{cellAt, amountAt, slotAmount}
-use Rattle.amounts.specs.laws.DayLaws.{cell-in-slot, cell-fits}
+use lib.IntN.{ℤ, natAbs, _+ℤ_, +ℤ-idr}
+use mir.Syntax.{w64}
+use mir.Val.{SFits, toZ, ofZ}
+use mir.Facts.{toZ-ofZ}
+use Rattle.integer.specs.laws.IntegerLaws.{int, fits-abs}
+use Rattle.integer.specs.Bits.{got, known}
+use Rattle.rulebook.specs.DayAmount.{AccountData, referencePriceOf, vestingAmount, shareAmount}
+use Rattle.rulebook.specs.Shares.{shareOf}
+use Rattle.rulebook.specs.laws.SizeLaws.{price-sized, vesting-size}
+use Rattle.amounts.specs.declared.interval.ResidualAndSpare.{ResidualAndSpare}
+use Rattle.amounts.specs.Cell.{cellData}
+use Rattle.amounts.specs.Day.{cellResidual, amountAt}
+use Rattle.amounts.specs.laws.CellLaws.{sum-cong}
+use Rattle.amounts.specs.laws.DayLaws.{cell-residual-le}
 use Rattle.amounts.proofs.day.amount_at.Statement.{statement}
 use Rattle.amounts.proofs.day.amount_at.Tie as tie
 
--- the cells lie within the slots
-before-fits : (c : tie.After-interval-length) → c .before .args .h * c .interval-length .result + cellPlace (c .before .args .a) + accountWords ≤ length (c .before .args .today .now)
-before-fits c =
-    let s = c .before in
-    rw (c .interval-length .ensures) (cell-fits (s .args .n) (s .args .today .now) (s .pre .0 .closing) (s .args .a) (s .args .h) (s .pre .2) (s .pre .3))
+vesting-amount-requires : tie.Need-vesting-amount-requires
+vesting-amount-requires c κs = search needs
 
-fits : (c : tie.After-cell-place) → c .before .before .args .h * c .before .interval-length .result + c .cell-place .result + accountWords ≤ length (c .before .before .args .today .now)
-fits c = rw (c .cell-place .ensures) (before-fits (c .before))
+-- the load fits
+load-fits : (c : tie.Start) → SFits w64 (c .args .r .load)
+load-fits c = let l = c .pre .2 in fits-abs (omega int)
 
--- what is lent is the cell
-lent-cell : (n : ℕ) (x : List ℤ) (a h : ℕ) {size at : ℕ} → a < n → size ≡ intervalLength n → at ≡ cellPlace a
-    → take (h * size + at + accountWords - (h * size + at)) (drop (h * size + at) x) ≡ cellAt n x a h
-lent-cell n x a h {size} {at} l e f = lent x (h * size + at) accountWords ∙ rw (e, f) (sym (cell-in-slot n x a h l))
+price-at-requires : tie.Need-price-at-requires
+price-at-requires c κs = let s = c .before .before in s .pre .1 (c .if1 .taken)
 
-interval-length-requires : tie.Need-interval-length-requires
-interval-length-requires c κs = search needs
+-- V of r, read back
+price : (c : tie.After-price-at) → toZ w64 (ofZ w64 (c .price-at .result)) ≡ referencePriceOf (cellData (c .before .before .before .args .then .now))
+price c = got (c .price-at .result) (c .price-at .ok) ∙ c .price-at .ensures
 
-mul-i : tie.Need-mul-i
-mul-i c = omega (arith, before-fits c)
+residual-amount-requires : tie.Need-residual-amount-requires
+residual-amount-requires c κs =
+    let p = c .before in
+    let s = p .before .before .before in
+    let h = s .pre .1 (p .before .if1 .taken) in
+    (h, rw (price p) (price-sized (cellData (s .args .then .now)) (h .sized)), omega (int, known (load-fits s), s .pre .2))
 
-cell-place-requires : tie.Need-cell-place-requires
-cell-place-requires c κs = search needs
+-- vesting, read back
+vesting : (c : tie.After-vesting-amount) → toZ w64 (ofZ w64 (c .vesting-amount .result)) ≡ vestingAmount (cellData (c .before .args .today .now))
+vesting c = got (c .vesting-amount .result) (c .vesting-amount .ok) ∙ c .vesting-amount .ensures
 
-add-i : tie.Need-add-i
-add-i c = omega (arith, fits c)
+residual-cong : (x : AccountData) {v u r q : ℤ} (s : ℕ) → v ≡ u → r ≡ q → shareAmount x v (shareOf r s (x .uegq)) ≡ shareAmount x u (shareOf q s (x .uegq))
+residual-cong x s e f = cc
 
-add-e : tie.Need-add-e
-add-e c = omega (arith, fits c)
+-- the residual, read back
+residual : (c : tie.After-residual-amount)
+    → toZ w64 (ofZ w64 (c .residual-amount .result))
+    ≡ cellResidual (c .before .before .before .before .before .args .then .now) (c .before .before .before .before .before .args .r)
+residual c =
+    let s = c .before .before .before .before .before in
+    got (c .residual-amount .result) (c .residual-amount .ok) ∙ c .residual-amount .ensures ∙ residual-cong (cellData (s .args .then .now)) (s .args .r .spare) (price (c .before .before)) (toZ-ofZ (load-fits s))
 
-mul-interval-amount : tie.Need-mul-interval-amount
-mul-interval-amount c = omega (arith, fits c)
-
-sub-interval-amount : tie.Need-sub-interval-amount
-sub-interval-amount c = search needs
-
-part-interval-amount-start : tie.Need-part-interval-amount-start
-part-interval-amount-start c = search needs
-
-part-interval-amount-end : tie.Need-part-interval-amount-end
-part-interval-amount-end c = let h = fits c in search needs
-
-mul-interval-amount-2 : tie.Need-mul-interval-amount-2
-mul-interval-amount-2 c = omega (arith, fits (c .before))
-
-sub-interval-amount-2 : tie.Need-sub-interval-amount-2
-sub-interval-amount-2 c = search needs
-
-part-interval-amount-start-2 : tie.Need-part-interval-amount-start-2
-part-interval-amount-start-2 c = search needs
-
-part-interval-amount-end-2 : tie.Need-part-interval-amount-end-2
-part-interval-amount-end-2 c = let h = fits (c .before) in let l = c .before .before .before .pre .0 .long in search needs
-
-residual-at-requires : tie.Need-residual-at-requires
-residual-at-requires c κs = search needs
-
-interval-amount-requires : tie.Need-interval-amount-requires
-interval-amount-requires c κs =
-    let i = c .before .before .before in
-    let k = i .before in
-    let s = k .before in
-    let a = s .args in
-    let p = s .pre .0 in (
-      rw (lent-cell (a .n) (a .today .now) (a .a) (a .h) (s .pre .2) (k .interval-length .ensures) (i .cell-place .ensures)) (p .closing .each (a .h) (s .pre .3) .cells (a .a) (s .pre .2)),
-      λ e. rw (lent-cell (a .n) (a .then .now) (a .a) (a .h) (s .pre .2) (k .interval-length .ensures) (i .cell-place .ensures)) (p .settled e .each (a .h) (s .pre .3) .cells (a .a) (s .pre .2)),
-      rw (ap (λ (r : Residual). r .load) (c .residual-at .ensures)) (p .loads (a .h) (s .pre .3)),
+add-requires : tie.Need-add-requires
+add-requires c κs =
+    let s = c .before .before .before .before .before in
+    omega (
+      arith,
+      ap natAbs (vesting (c .before .before .before .before)),
+      ap natAbs (residual c),
+      vesting-size (cellData (s .args .today .now)) (s .pre .0 .sized),
+      cell-residual-le (s .args .then .now) (s .pre .1 (c .before .before .before .if1 .taken)) (s .args .r),
     )
 
-amount-cong : {x x′ y y′ : List ℤ} (due : Bool) {r r′ : Residual} → x ≡ x′ → y ≡ y′ → r ≡ r′ → amountAt x y due r ≡ amountAt x′ y′ due r′
-amount-cong due e f g = cc
+picked : (today then : List ℤ) (due : Bool) (r : ResidualAndSpare) → due ≡ true → vestingAmount (cellData today) +ℤ cellResidual then r ≡ amountAt today then due r
+picked today then due r e = rw e
+
+passed : (today then : List ℤ) (due : Bool) (r : ResidualAndSpare) → due ≡ false → vestingAmount (cellData today) ≡ amountAt today then due r
+passed today then due r e = rw e (sym (+ℤ-idr (vestingAmount (cellData today))))
 
 returns : tie.Need-returns
-unfolding slotAmount
 returns c =
-    let i = c .before .before .before .before in
-    let k = i .before in
-    let s = k .before in
-    let a = s .args in
-    got (c .interval-amount .result) (c .interval-amount .ok) ∙ c .interval-amount .ensures
-    ∙ amount-cong (a .due) (lent-cell (a .n) (a .today .now) (a .a) (a .h) (s .pre .2) (k .interval-length .ensures) (i .cell-place .ensures)) (lent-cell (a .n) (a .then .now) (a .a) (a .h) (s .pre .2) (k .interval-length .ensures) (i .cell-place .ensures)) (c .before .residual-at .ensures)
+    let s = c .before .before .before .before .before .before in
+    got (c .add .result) (c .add .ok) ∙ c .add .ensures ∙ sum-cong (vesting (c .before .before .before .before .before)) (residual (c .before))
+    ∙ picked (s .args .today .now) (s .args .then .now) (s .args .due) (s .args .r) (c .before .before .before .before .if1 .taken)
+
+returns-2 : tie.Need-returns-2
+returns-2 c =
+    let s = c .before .before in
+    vesting (c .before) ∙ passed (s .args .today .now) (s .args .then .now) (s .args .due) (s .args .r) (c .if1 .left)
 
 pub amount-at-spec : {M : Type 1} → statement M
-amount-at-spec =
-    tie.close
-    (tie.spec interval-length-requires mul-i cell-place-requires add-i add-e mul-interval-amount sub-interval-amount part-interval-amount-start part-interval-amount-end mul-interval-amount-2 sub-interval-amount-2 part-interval-amount-start-2 part-interval-amount-end-2
-    residual-at-requires interval-amount-requires returns)
+amount-at-spec = tie.close (tie.spec vesting-amount-requires price-at-requires residual-amount-requires add-requires returns returns-2)

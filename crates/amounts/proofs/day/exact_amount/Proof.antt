@@ -1,5 +1,5 @@
 -- `exact_amount` meets its contract: a walk of its MIR with a loop, by hand. The total lies in a local, which each of the 48 turns lends to `absorb` for a
--- lifetime that the turn makes. The whole context is the loop's invariant. What `amount_at` asks of plain values is made anew at each call.
+-- lifetime that the turn makes. The whole context is the loop's invariant. What `slot_amount` asks of plain values is made anew at each call.
 -- Assumes nothing.
 use mathlib.Core.Path.{_≡_, refl, sym, ap, subst, _∙_}
 use mathlib.Core.Bool.{Bool, not}
@@ -63,10 +63,10 @@ use Rattle.amounts.proofs.total.absorb as absorb
 use Rattle.amounts.proofs.total.absorb.Symbol as absorb-def
 use Rattle.amounts.proofs.total.absorb.Symbol.{name as #absorb}
 use Rattle.amounts.proofs.total.absorb.Met as absorb-thm
-use Rattle.amounts.proofs.day.amount_at as amount-at
-use Rattle.amounts.proofs.day.amount_at.Symbol as amount-at-def
-use Rattle.amounts.proofs.day.amount_at.Symbol.{name as #amount-at}
-use Rattle.amounts.proofs.day.amount_at.Met as amount-at-thm
+use Rattle.amounts.proofs.day.slot_amount as slot-amount
+use Rattle.amounts.proofs.day.slot_amount.Symbol as slot-amount-def
+use Rattle.amounts.proofs.day.slot_amount.Symbol.{name as #slot-amount}
+use Rattle.amounts.proofs.day.slot_amount.Met as slot-amount-thm
 use Rattle.amounts.proofs.day.exact_amount.Key.{name as #exact-amount}
 use Rattle.amounts.proofs.day.exact_amount as exact-amount
 use Rattle.amounts.proofs.day.exact_amount.Statement as stated
@@ -87,7 +87,7 @@ abbrev Absorb : {M : Type 1} (𝓤 : URA M) (H : Heap 𝓤) (A : Atoms 𝓤) (me
 Absorb 𝓤 H A mem run = tripleOf 𝓤 H A absorb.signature (absorb.spec 𝓤 H A mem run)
 
 abbrev AmountAt : {M : Type 1} (𝓤 : URA M) (H : Heap 𝓤) (A : Atoms 𝓤) (mem : Memory → SProp 𝓤) (run : Routine → Fun 𝓤) → Contract 𝓤
-AmountAt 𝓤 H A mem run = tripleOf 𝓤 H A amount-at.signature (amount-at.spec 𝓤 H A mem run)
+AmountAt 𝓤 H A mem run = tripleOf 𝓤 H A slot-amount.signature (slot-amount.spec 𝓤 H A mem run)
 
 -- what the caller of `absorb` shows
 abbrev Room : DayTotal → ℤ → Type 0
@@ -110,7 +110,7 @@ ref = tyRef erased mut (pointee (T.the-row .written))
 abbrev rest-of-turn : MBody
 rest-of-turn =
     seq (assign (place 11 []) (addrOf (place 7 [])))
-    (seq (call #amount-at (copy (place 1 []) ∷ copy (place 2 []) ∷ copy (place 3 []) ∷ copy (place 4 []) ∷ copy (place 5 []) ∷ copy (place 6 []) ∷ copy (place 8 []) ∷ []) (place 12 []))
+    (seq (call #slot-amount (copy (place 1 []) ∷ copy (place 2 []) ∷ copy (place 3 []) ∷ copy (place 4 []) ∷ copy (place 5 []) ∷ copy (place 6 []) ∷ copy (place 8 []) ∷ []) (place 12 []))
     (seq (call #absorb (copy (place 11 []) ∷ copy (place 12 []) ∷ []) (place 10 []))
     (assign (place 8 []) (op2 (add unsigned) (copy (place 8 [])) (int w64 1)))))
 
@@ -157,7 +157,7 @@ module _ {M : Type 1} (𝓤 : URA M) (H : Heap 𝓤) (A : Atoms 𝓤) (W : Given
   abbrev Post : Val → SProp 𝓤
   Post = walkOf 𝓤 H A exact-amount.ended stayed (exact-amount.clauses 𝓤 H A at-mem run) .post (((κ, (κ′, tt)), (q, (q′, tt)), tt, (s, (s′, (due, (rs, (n, (a, tt)))))), (v ∷ [], (v′ ∷ [], (vbool due ∷ [], (rv ∷ [], (vint w64 n ∷ [], (vint w64 a ∷ [], tt))))))), tt)
 
-  -- the call of `amount_at`
+  -- the call of `slot_amount`
   abbrev to-at : ℕ → AmountAt 𝓤 H A at-mem run .Ghost
   to-at i = (((κ, (κ′, tt)), (q, (q′, tt)), tt, (s, (s′, (due, (rs, (n, (a, (i, tt))))))), (v ∷ [], (v′ ∷ [], (vbool due ∷ [], (rv ∷ [], (vint w64 n ∷ [], (vint w64 a ∷ [], (vint w64 i ∷ [], tt)))))))), tt)
 
@@ -175,8 +175,8 @@ module _ {M : Type 1} (𝓤 : URA M) (H : Heap 𝓤) (A : Atoms 𝓤) (W : Given
       use1 W (‵ Own′ ⊛ ‵ Own′) (shr-slice-copy 𝓤 H A W (named 1) κ′ (SInt w64) .twice s′ (v′ ∷ [])) $ split ! $ move ! (2 ∷ 0 ∷ 4 ∷ []) $
       use3 W (raw (AmountAt 𝓤 H A at-mem run .pre (to-at i))) (goes-at i below fits) $ frame ! $ move ! (1 ∷ []) $ frame ! $ done !
 
-  at-said : (i : ℕ) (z : ℤ) → ent 𝓤 (ensured 𝓤 H A amount-at.ended (amount-at.clauses 𝓤 H A at-mem run) (κ, (κ′, tt)) (s, (s′, (due, (rs, (n, (a, (i, tt))))))) tt z) (fact 𝓤 (z ≡ amount i))
-  at-said i z = exE 𝓤 _ (λ ws. snd∗ 𝓤 (sem 𝓤 H A (lasts amount-at.ended (κ, (κ′, tt)) (s, (s′, (due, (rs, (n, (a, (i, tt))))))) ws)) (fact 𝓤 (z ≡ amount i)))
+  at-said : (i : ℕ) (z : ℤ) → ent 𝓤 (ensured 𝓤 H A slot-amount.ended (slot-amount.clauses 𝓤 H A at-mem run) (κ, (κ′, tt)) (s, (s′, (due, (rs, (n, (a, (i, tt))))))) tt z) (fact 𝓤 (z ≡ amount i))
+  at-said i z = exE 𝓤 _ (λ ws. snd∗ 𝓤 (sem 𝓤 H A (lasts slot-amount.ended (κ, (κ′, tt)) (s, (s′, (due, (rs, (n, (a, (i, tt))))))) ws)) (fact 𝓤 (z ≡ amount i)))
 
   -- the call of `absorb`: the total t in the local at b, lent for ν under the name δ, and the amount z with the machine value u
   abbrev x : DayTotal → ℕ → GName → RefT DayTotal
@@ -213,7 +213,7 @@ module _ {M : Type 1} (𝓤 : URA M) (H : Heap 𝓤) (A : Atoms 𝓤) (W : Given
   fits : (j : Upto) → j .0 < 2 ^ 64
   fits j = omega (arith, j .1)
 
-  module _ (𝓣 : Tables 𝓤 H) (fm : FmC 𝓤 H (W .laws) (𝓣 .C)) (known-at : Triple 𝓤 (𝓣 .C #amount-at) (AmountAt 𝓤 H A at-mem run)) (known : Triple 𝓤 (𝓣 .C #absorb) (Absorb 𝓤 H A at-mem run)) (l₀ l₁ l₂ l₃ l₄ l₅ l₆ l₇ l₈ l₉ l₁₀ l₁₁ l₁₂ : ℕ) where
+  module _ (𝓣 : Tables 𝓤 H) (fm : FmC 𝓤 H (W .laws) (𝓣 .C)) (known-at : Triple 𝓤 (𝓣 .C #slot-amount) (AmountAt 𝓤 H A at-mem run)) (known : Triple 𝓤 (𝓣 .C #absorb) (Absorb 𝓤 H A at-mem run)) (l₀ l₁ l₂ l₃ l₄ l₅ l₆ l₇ l₈ l₉ l₁₀ l₁₁ l₁₂ : ℕ) where
     abbrev C : Calls 𝓤 H
     C = 𝓣 .C
 
@@ -253,7 +253,7 @@ module _ {M : Type 1} (𝓤 : URA M) (H : Heap 𝓤) (A : Atoms 𝓤) (W : Given
         move ! (1 ∷ 2 ∷ 3 ∷ []) $ use3 W (raw (AmountAt 𝓤 H A at-mem run .pre (to-at (i .0))) ⊛ (‵ Own ⊛ ‵ Own′)) (asks-at (i .0) (ltb→lt (i .0) 48 less) (fits i)) $ split ! $ move ! (1 ∷ []) $ split ! $ move ! (2 ∷ []) $
         -- [asked; the slices'; the total's; _12; …; _11; …]
         calls-at ! fm (AmountAt 𝓤 H A at-mem run) known-at (to-at (i .0)) (and-then ! (load ! (from ! (stop !)) (look ! 26 refl)) (and-then ! (load ! (from ! (stop !)) (look ! 24 refl)) (and-then ! (load ! (from ! (stop !)) (look ! 22 refl)) (and-then ! (load ! (from ! (stop !)) (look ! 20 refl)) (and-then ! (load ! (from ! (stop !)) (look ! 18 refl)) (and-then ! (load ! (from ! (stop !)) (look ! 16 refl)) (and-then ! (load ! (from ! (stop !)) (look ! 12 refl)) (no-more !)))))))) (λ u.
-        use1 W (later (some (λ (z : ℤ). (Tok ⊛ ‵ (SInt w64 .own z (u ∷ []))) ⊛ raw (ensured 𝓤 H A amount-at.ended (amount-at.clauses 𝓤 H A at-mem run) (κ, (κ′, tt)) (s, (s′, (due, (rs, (n, (a, (i .0, tt))))))) tt z)))) (id⊢ 𝓤 _) $ await ! tt $ pick ! (λ z.
+        use1 W (later (some (λ (z : ℤ). (Tok ⊛ ‵ (SInt w64 .own z (u ∷ []))) ⊛ raw (ensured 𝓤 H A slot-amount.ended (slot-amount.clauses 𝓤 H A at-mem run) (κ, (κ′, tt)) (s, (s′, (due, (rs, (n, (a, (i .0, tt))))))) tt z)))) (id⊢ 𝓤 _) $ await ! tt $ pick ! (λ z.
         split ! $ move ! (1 ∷ []) $ use1 W (raw (fact 𝓤 (z ≡ amount (i .0)))) (at-said (i .0) z) $ heard ! (z ≡ amount (i .0)) (λ e. split ! $ move ! (1 ∷ []) $
         peeks ! (SInt w64) (Is (SInt w64)) (shows 𝓤 H A (SInt w64)) z (u ∷ []) (λ is. land ! (from ! (stop !)) (init ! 5 refl (sint-lawful 𝓤 H A W w64 .typed z _ is .0)) $
         -- [the amount's; the tokens; the slices'; the total's; _12; …; _11; …; _10; …; _9; …; _8; …; _7; …]: the local is lent
@@ -291,7 +291,7 @@ module _ {M : Type 1} (𝓤 : URA M) (H : Heap 𝓤) (A : Atoms 𝓤) (W : Given
     from-first : Sq W (At (0, zero-le)) (runs C Λ En code-mir.t-3 (atRet En Post))
     from-first = first ! $ blocks ! $ loops ! 𝓣 Nearer Nearer-wf At turns (0, zero-le)
 
-  walk : (𝓣 : Tables 𝓤 H) → FmC 𝓤 H (W .laws) (𝓣 .C) → Triple 𝓤 (𝓣 .C #amount-at) (AmountAt 𝓤 H A at-mem run) → Triple 𝓤 (𝓣 .C #absorb) (Absorb 𝓤 H A at-mem run)
+  walk : (𝓣 : Tables 𝓤 H) → FmC 𝓤 H (W .laws) (𝓣 .C) → Triple 𝓤 (𝓣 .C #slot-amount) (AmountAt 𝓤 H A at-mem run) → Triple 𝓤 (𝓣 .C #absorb) (Absorb 𝓤 H A at-mem run)
       → Is (ShrSlice (named 0) κ (SInt w64)) s (v ∷ []) → Is (ShrSlice (named 1) κ′ (SInt w64)) s′ (v′ ∷ [])
       → ent 𝓤 (onEntry 𝓤 H A exact-amount.signature (κ, (κ′, tt)) (q, (q′, tt)) (s, (s′, (due, (rs, (n, (a, tt)))))) (v ∷ [], (v′ ∷ [], (vbool due ∷ [], (rv ∷ [], (vint w64 n ∷ [], (vint w64 a ∷ [], tt))))))) (WpFn 𝓤 H (𝓣 .C) (𝓣 .Λ) code.function (v ∷ v′ ∷ vbool due ∷ rv ∷ vint w64 n ∷ vint w64 a ∷ []) Post)
   walk 𝓣 fm known-at known p p′ =
@@ -310,7 +310,7 @@ module _ {M : Type 1} (𝓤 : URA M) (H : Heap 𝓤) (A : Atoms 𝓤) (W : Given
       from-first 𝓣 fm known-at known l₀ l₁ l₂ l₃ l₄ l₅ l₆ l₇ l₈ l₉ l₁₀ l₁₁ l₁₂)))))))))))))
 
 module _ {M : Type 1} (𝓤 : URA M) (H : Heap 𝓤) (A : Atoms 𝓤) (W : Given 𝓤 H A) (mem : Memory → SProp 𝓤) (run : Routine → Fun 𝓤) where
-  exact-amount-walks : (𝓣 : Tables 𝓤 H) → FmC 𝓤 H (W .laws) (𝓣 .C) → Triple 𝓤 (𝓣 .C #amount-at) (AmountAt 𝓤 H A mem run) → Triple 𝓤 (𝓣 .C #absorb) (Absorb 𝓤 H A mem run) → Walks 𝓤 H A exact-amount.ended stayed (WpFn 𝓤 H (𝓣 .C) (𝓣 .Λ) code.function) (exact-amount.clauses 𝓤 H A mem run)
+  exact-amount-walks : (𝓣 : Tables 𝓤 H) → FmC 𝓤 H (W .laws) (𝓣 .C) → Triple 𝓤 (𝓣 .C #slot-amount) (AmountAt 𝓤 H A mem run) → Triple 𝓤 (𝓣 .C #absorb) (Absorb 𝓤 H A mem run) → Walks 𝓤 H A exact-amount.ended stayed (WpFn 𝓤 H (𝓣 .C) (𝓣 .Λ) code.function) (exact-amount.clauses 𝓤 H A mem run)
   exact-amount-walks 𝓣 fm known-at known = walked 𝓤 H A exact-amount.ended stayed (exact-amount.clauses 𝓤 H A mem run) (WpFn 𝓤 H (𝓣 .C) (𝓣 .Λ) code.function)
       (λ κs. (slice-vals, (slice-vals, (bool-vals, (LL.vals R.the-type R′.the-laws, (uint-vals w64, (uint-vals w64, tt)))))))
       (λ κs. (shr-slice-tells (named 0) (κs .0) (SInt w64), (shr-slice-tells (named 1) (κs .1 .0) (SInt w64), (bool-tells, (LL.tells R.the-type R′.the-laws, (uint-tells w64, (uint-tells w64, tt)))))))
@@ -318,7 +318,7 @@ module _ {M : Type 1} (𝓤 : URA M) (H : Heap 𝓤) (A : Atoms 𝓤) (W : Given
       (λ ok. walk 𝓤 H A W mem run (κs .0) (κs .1 .0) (qs .0) (qs .1 .0) (a .0) (a .1 .0) (a .1 .1 .0) (a .1 .1 .1 .0) _ (a .1 .1 .1 .1 .0) (a .1 .1 .1 .1 .1 .0)
       (are .1 .1 .1 .0) (are .1 .1 .1 .1 .0 .1) (are .1 .1 .1 .1 .1 .0 .1) (ok .0) (ok .1) (ok .2) 𝓣 fm known-at known (are .0) (are .1 .0)))
 
-exact-amount-meets : {M : Type 1} (𝓤 : URA M) (H : Heap 𝓤) (A : Atoms 𝓤) (W : Given 𝓤 H A) (mem : Memory → SProp 𝓤) (run : Routine → Fun 𝓤) (𝓣 : Tables 𝓤 H) → Triple 𝓤 (𝓣 .C #amount-at) (AmountAt 𝓤 H A mem run) → Triple 𝓤 (𝓣 .C #absorb) (Absorb 𝓤 H A mem run)
+exact-amount-meets : {M : Type 1} (𝓤 : URA M) (H : Heap 𝓤) (A : Atoms 𝓤) (W : Given 𝓤 H A) (mem : Memory → SProp 𝓤) (run : Routine → Fun 𝓤) (𝓣 : Tables 𝓤 H) → Triple 𝓤 (𝓣 .C #slot-amount) (AmountAt 𝓤 H A mem run) → Triple 𝓤 (𝓣 .C #absorb) (Absorb 𝓤 H A mem run)
     → Meets 𝓤 H A exact-amount.signature (WpFn 𝓤 H (𝓣 .C) (𝓣 .Λ) code.function) (exact-amount.spec 𝓤 H A mem run)
 exact-amount-meets 𝓤 H A W mem run 𝓣 known-at known = walk-meets 𝓤 H A exact-amount.ended stayed W (
   goes-none-slice 𝓤 H A W 2 (0 ∷ []) tt (plain (λ _. SInt w64)) yes,
@@ -339,5 +339,5 @@ exact-amount-spec 𝓤 H 𝓜 𝓖 𝓡 =
     entered 𝓤 H (tripleOf 𝓤 H (𝓖 .A) exact-amount.signature (exact-amount.spec 𝓤 H (𝓖 .A) (𝓜 .mem) (𝓡 .run)))
     (tables 𝓤 H 𝓜 𝓡 code.env .C) (tables 𝓤 H 𝓜 𝓡 code.env .Λ) #exact-amount code.function (code.unfolded 𝓤 H 𝓜 𝓡)
     (exact-amount-meets 𝓤 H (𝓖 .A) (givenOf 𝓤 H 𝓜 𝓖) (𝓜 .mem) (𝓡 .run) (tablesOf 𝓤 H 𝓜 (tables 𝓤 H 𝓜 𝓡 code.env))
-    (cited 𝓤 H (AmountAt 𝓤 H (𝓖 .A) (𝓜 .mem) (𝓡 .run)) 𝓜 𝓡 code.env #amount-at amount-at-def.routine code.calls-amounts·day·amount-at (amount-at-thm.met 𝓤 H 𝓜 𝓖 𝓡))
+    (cited 𝓤 H (AmountAt 𝓤 H (𝓖 .A) (𝓜 .mem) (𝓡 .run)) 𝓜 𝓡 code.env #slot-amount slot-amount-def.routine code.calls-amounts·day·slot-amount (slot-amount-thm.met 𝓤 H 𝓜 𝓖 𝓡))
     (cited 𝓤 H (Absorb 𝓤 H (𝓖 .A) (𝓜 .mem) (𝓡 .run)) 𝓜 𝓡 code.env #absorb absorb-def.routine code.calls-amounts·total·absorb (absorb-thm.met 𝓤 H 𝓜 𝓖 𝓡)))

@@ -15,7 +15,7 @@ use Rattle.integer.specs.Words.{part, filled}
 use Rattle.integer.specs.laws.WordsLaws.{row-fits, lent, filled-step, filled-whole}
 use Rattle.rulebook.specs.Units.{intervals}
 use Rattle.rulebook.specs.Layout.{intervalLength, intervalOf}
-use Rattle.amounts.specs.declared.interval.Residual.{Residual}
+use Rattle.amounts.specs.declared.interval.ResidualAndSpare.{ResidualAndSpare}
 use Rattle.amounts.specs.declared.day.Residuals.{Residuals}
 use Rattle.amounts.specs.Interval.{residualAt}
 use Rattle.amounts.specs.laws.IntervalLaws.{residual-le}
@@ -60,20 +60,20 @@ mul-i c = omega (arith, fits c)
 add-e : tie.Need-add-e Inv-loop μ-loop
 add-e c = omega (arith, fits c)
 
-mul-residual-of : tie.Need-mul-residual-of Inv-loop μ-loop
-mul-residual-of c = omega (arith, fits c)
+mul-residual-at : tie.Need-mul-residual-at Inv-loop μ-loop
+mul-residual-at c = omega (arith, fits c)
 
-sub-residual-of : tie.Need-sub-residual-of Inv-loop μ-loop
-sub-residual-of c = search needs
+sub-residual-at : tie.Need-sub-residual-at Inv-loop μ-loop
+sub-residual-at c = search needs
 
-part-residual-of-start : tie.Need-part-residual-of-start Inv-loop μ-loop
-part-residual-of-start c = search needs
+part-residual-at-start : tie.Need-part-residual-at-start Inv-loop μ-loop
+part-residual-at-start c = search needs
 
-part-residual-of-end : tie.Need-part-residual-of-end Inv-loop μ-loop
-part-residual-of-end c = omega (arith, fits c)
+part-residual-at-end : tie.Need-part-residual-at-end Inv-loop μ-loop
+part-residual-at-end c = omega (arith, fits c)
 
-residual-of-requires : tie.Need-residual-of-requires Inv-loop μ-loop
-residual-of-requires c κs =
+residual-at-requires : tie.Need-residual-at-requires Inv-loop μ-loop
+residual-at-requires c κs =
     let k = c .before .before .before in
     let s = k .before in
     let l = c .before .before .loop in
@@ -98,22 +98,22 @@ loop-less : tie.Need-loop-less Inv-loop μ-loop
 loop-less c = omega arith
 
 -- R and S of the turn's interval
-residual : (c : tie.After-residual-of Inv-loop μ-loop) → c .residual-of .result ≡ residualAt (c .before .before .before .before .before .args .n) (intervalOf (c .before .before .before .before .before .args .n) (c .before .before .before .before .before .args .slot .now) (c .before .before .before .loop .h))
+residual : (c : tie.After-residual-at Inv-loop μ-loop) → c .residual-at .result ≡ residualAt (c .before .before .before .before .before .args .n) (intervalOf (c .before .before .before .before .before .args .n) (c .before .before .before .before .before .args .slot .now) (c .before .before .before .loop .h))
 residual c =
     let k = c .before .before .before .before in
     let s = k .before in
-    c .residual-of .ensures ∙ ap (residualAt (s .args .n)) (lent-interval (s .args .n) (s .args .slot .now) (c .before .before .before .loop .h) (k .interval-length .result) (k .interval-length .ensures))
+    c .residual-at .ensures ∙ ap (residualAt (s .args .n)) (lent-interval (s .args .n) (s .args .slot .now) (c .before .before .before .loop .h) (k .interval-length .result) (k .interval-length .ensures))
 
 loop-again : tie.Need-loop-again Inv-loop μ-loop
 loop-again c =
     let b = c .before in
     let s = b .before .before .before .before .before in
     let l = b .before .before .before .loop in
-    let r = ap (λ (r : Residual). r .load) (residual b) in
+    let r = ap (λ (r : ResidualAndSpare). r .load) (residual b) in
     let k : l .h < intervals = b .before .before .loop-test .taken in
     let m = residual-le (s .args .n) (intervalOf (s .args .n) (s .args .slot .now) (l .h)) (s .pre .0 .each (l .h) k) (s .pre .1) in
-    let f : SFits w64 (b .residual-of .result .load) = fits-abs (omega (int, ap natAbs r, m)) in
-    (b .before .before .before .before .interval-length .ensures, omega arith, filled-step (l .h) (loadAt (s .args .n) (s .args .slot .now)) _ k (l .inv .2) (toZ-ofZ f ∙ r), filled-step (l .h) (spareAt (s .args .n) (s .args .slot .now)) _ k (l .inv .3) (ap (λ (r : Residual). r .spare) (residual b)))
+    let f : SFits w64 (b .residual-at .result .load) = fits-abs (omega (int, ap natAbs r, m)) in
+    (b .before .before .before .before .interval-length .ensures, omega arith, filled-step (l .h) (loadAt (s .args .n) (s .args .slot .now)) _ k (l .inv .2) (toZ-ofZ f ∙ r), filled-step (l .h) (spareAt (s .args .n) (s .args .slot .now)) _ k (l .inv .3) (ap (λ (r : ResidualAndSpare). r .spare) (residual b)))
 
 made : {a b : List ℤ} {v w : List ℕ} → a ≡ b → v ≡ w → _≡_ {A = Residuals} (record { loads = a; spares = v }) (record { loads = b; spares = w })
 made e f = rw (e, f)
@@ -127,4 +127,4 @@ returns c =
     made (filled-whole (l .h) intervals (loadAt (s .args .n) (s .args .slot .now)) _ refl e (l .inv .2)) (filled-whole (l .h) intervals (spareAt (s .args .n) (s .args .slot .now)) _ refl e (l .inv .3))
 
 pub residuals-of-spec : {M : Type 1} → statement M
-residuals-of-spec = tie.close (tie.spec Inv-loop μ-loop interval-length-requires loop-holds mul-i add-e mul-residual-of sub-residual-of part-residual-of-start part-residual-of-end residual-of-requires mul-loads array-set-from-loads mul-spares array-write-spares add-h loop-less loop-again returns)
+residuals-of-spec = tie.close (tie.spec Inv-loop μ-loop interval-length-requires loop-holds mul-i add-e mul-residual-at sub-residual-at part-residual-at-start part-residual-at-end residual-at-requires mul-loads array-set-from-loads mul-spares array-write-spares add-h loop-less loop-again returns)

@@ -1,4 +1,4 @@
--- `absorb` meets its contract: a walk of its MIR, by hand. The borrow is opened, the whole total is passed to `added`, what it returns is stored whole, and the borrow is closed at that. No field is looked at, so a signed one costs nothing.
+-- `absorb` meets its contract: a walk of its MIR, by hand. The borrow is opened, the whole total is passed to `total_after`, what it returns is stored whole, and the borrow is closed at that. No field is looked at, so a signed one costs nothing.
 -- Assumes nothing.
 use mathlib.Core.Path.{_≡_, refl}
 use Prim.Native.Nat.{ℕ, _<_, _^_}
@@ -42,10 +42,10 @@ use Rattle.amounts.specs.Total.{absorbed}
 use Rattle.amounts.specs.declared.total.DayTotal.{DayTotal}
 use Rattle.amounts.proofs.total.DayTotal as T
 use Rattle.amounts.proofs.total.DayTotal.Laws as T′
-use Rattle.amounts.proofs.total.added as added
-use Rattle.amounts.proofs.total.added.Symbol as added-def
-use Rattle.amounts.proofs.total.added.Symbol.{name as #added}
-use Rattle.amounts.proofs.total.added.Met as added-thm
+use Rattle.amounts.proofs.total.total_after as added
+use Rattle.amounts.proofs.total.total_after.Symbol as added-def
+use Rattle.amounts.proofs.total.total_after.Symbol.{name as #added}
+use Rattle.amounts.proofs.total.total_after.Met as added-thm
 use Rattle.amounts.proofs.total.absorb.Key.{name as #absorb}
 use Rattle.amounts.proofs.total.absorb as absorb
 use Rattle.amounts.proofs.total.absorb.Statement as stated
@@ -79,7 +79,7 @@ module _ {M : Type 1} (𝓤 : URA M) (H : Heap 𝓤) (A : Atoms 𝓤) (W : Given
   abbrev Post : Val → SProp 𝓤
   Post = walkOf 𝓤 H A absorb.ended stayed (absorb.clauses 𝓤 H A at-mem run) .post (((κ, tt), (q, tt), tt, x, at), tt)
 
-  -- the call of `added`
+  -- the call of `total_after`
   abbrev to : Added 𝓤 H A at-mem run .Ghost
   to = ((tt, tt, tt, (h, (z, tt)), (T′.lowered h ∷ [], (v ∷ [], tt))), tt)
 
@@ -136,4 +136,4 @@ absorb-spec 𝓤 H 𝓜 𝓖 𝓡 =
     entered 𝓤 H (tripleOf 𝓤 H (𝓖 .A) absorb.signature (absorb.spec 𝓤 H (𝓖 .A) (𝓜 .mem) (𝓡 .run)))
     (tables 𝓤 H 𝓜 𝓡 code.env .C) (tables 𝓤 H 𝓜 𝓡 code.env .Λ) #absorb code.function (code.unfolded 𝓤 H 𝓜 𝓡)
     (absorb-meets 𝓤 H (𝓖 .A) (givenOf 𝓤 H 𝓜 𝓖) (𝓜 .mem) (𝓡 .run) (tablesOf 𝓤 H 𝓜 (tables 𝓤 H 𝓜 𝓡 code.env))
-    (cited 𝓤 H (Added 𝓤 H (𝓖 .A) (𝓜 .mem) (𝓡 .run)) 𝓜 𝓡 code.env #added added-def.routine code.calls-amounts·total·added (added-thm.met 𝓤 H 𝓜 𝓖 𝓡)))
+    (cited 𝓤 H (Added 𝓤 H (𝓖 .A) (𝓜 .mem) (𝓡 .run)) 𝓜 𝓡 code.env #added added-def.routine code.calls-amounts·total·total-after (added-thm.met 𝓤 H 𝓜 𝓖 𝓡)))

@@ -19,8 +19,8 @@ loop-holds : tie.Need-loop-holds Inv-loop μ-loop
 unfolding fold
 loop-holds c = search needs
 
-balance-fits-requires : tie.Need-balance-fits-requires Inv-loop μ-loop
-balance-fits-requires c κs = search needs
+balance-words-fit-requires : tie.Need-balance-words-fit-requires Inv-loop μ-loop
+balance-words-fit-requires c κs = search needs
 
 add-a : tie.Need-add-a Inv-loop μ-loop
 add-a c = search needs
@@ -29,7 +29,7 @@ loop-less : tie.Need-loop-less Inv-loop μ-loop
 loop-less c = search needs
 
 loop-again : tie.Need-loop-again Inv-loop μ-loop
-loop-again c = (omega arith, all-step (c .before .before .loop .a) _ (c .before .before .loop .inv .1) (c .balance-fits .ensures))
+loop-again c = (omega arith, all-step (c .before .before .loop .a) _ (c .before .before .loop .inv .1) (c .balance-words-fit .ensures))
 
 returns : tie.Need-returns Inv-loop μ-loop
 returns c = let e : c .before .loop .a ≡ c .before .before .args .n = omega arith in rw e at (c .before .loop .inv .1)
@@ -37,4 +37,4 @@ returns c = let e : c .before .loop .a ≡ c .before .before .args .n = omega ar
 pub balances-fit-spec : {M : Type 1} → statement M
 balances-fit-spec =
     tie.close
-    (tie.spec Inv-loop μ-loop loop-holds balance-fits-requires add-a loop-less loop-again returns)
+    (tie.spec Inv-loop μ-loop loop-holds balance-words-fit-requires add-a loop-less loop-again returns)

@@ -7,11 +7,11 @@ use Rattle.book.specs.laws.HeaderLaws.{header-true}
 use Rattle.book.proofs.header.next_day_of.Statement.{statement}
 use Rattle.book.proofs.header.next_day_of.Tie as tie
 
-count-at-requires : tie.Need-count-at-requires
-count-at-requires c κs = let h = header-true (c .args .book .now) (c .pre .1) in (omega arith, ap negative (h .next))
+unsigned-at-requires : tie.Need-unsigned-at-requires
+unsigned-at-requires c κs = let h = header-true (c .args .book .now) (c .pre .1) in (omega arith, ap negative (h .next))
 
 returns : tie.Need-returns
 returns c = search needs
 
 pub next-day-of-spec : {M : Type 1} → statement M
-next-day-of-spec = tie.close (tie.spec count-at-requires returns)
+next-day-of-spec = tie.close (tie.spec unsigned-at-requires returns)

@@ -6,17 +6,17 @@ use Rattle.book.specs.laws.HeaderLaws.{header-true}
 use Rattle.book.proofs.header.terms_of.Statement.{statement}
 use Rattle.book.proofs.header.terms_of.Tie as tie
 
-count-at-requires : tie.Need-count-at-requires
-count-at-requires c κs = let h = header-true (c .args .book .now) (c .pre .1) in (omega arith, ap negative (h .accounts))
+unsigned-at-requires : tie.Need-unsigned-at-requires
+unsigned-at-requires c κs = let h = header-true (c .args .book .now) (c .pre .1) in (omega arith, ap negative (h .accounts))
 
-count-at-requires-2 : tie.Need-count-at-requires-2
-count-at-requires-2 c κs = let h = header-true (c .before .args .book .now) (c .before .pre .1) in (omega arith, ap negative (h .lag))
+unsigned-at-requires-2 : tie.Need-unsigned-at-requires-2
+unsigned-at-requires-2 c κs = let h = header-true (c .before .args .book .now) (c .before .pre .1) in (omega arith, ap negative (h .lag))
 
-count-at-requires-3 : tie.Need-count-at-requires-3
-count-at-requires-3 c κs = let h = header-true (c .before .before .args .book .now) (c .before .before .pre .1) in (omega arith, ap negative (h .horizon))
+unsigned-at-requires-3 : tie.Need-unsigned-at-requires-3
+unsigned-at-requires-3 c κs = let h = header-true (c .before .before .args .book .now) (c .before .before .pre .1) in (omega arith, ap negative (h .horizon))
 
-count-at-requires-4 : tie.Need-count-at-requires-4
-count-at-requires-4 c κs = let h = header-true (c .before .before .before .args .book .now) (c .before .before .before .pre .1) in (omega arith, ap negative (h .first))
+unsigned-at-requires-4 : tie.Need-unsigned-at-requires-4
+unsigned-at-requires-4 c κs = let h = header-true (c .before .before .before .args .book .now) (c .before .before .before .pre .1) in (omega arith, ap negative (h .first))
 
 returns : tie.Need-returns
 returns c = cc
@@ -25,8 +25,8 @@ pub terms-of-spec : {M : Type 1} → statement M
 terms-of-spec =
     tie.close
     (tie.spec
-    count-at-requires
-    count-at-requires-2
-    count-at-requires-3
-    count-at-requires-4
+    unsigned-at-requires
+    unsigned-at-requires-2
+    unsigned-at-requires-3
+    unsigned-at-requires-4
     returns)

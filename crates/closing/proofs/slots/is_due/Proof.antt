@@ -1,5 +1,5 @@
--- `is_due` meets its contract: its test is that of `residualDue`.
-use Rattle.rulebook.specs.DayAmount.{residualDue}
+-- `is_due` meets its contract: its test is that of `settlesResidual`.
+use Rattle.rulebook.specs.DayAmount.{settlesResidual}
 use borrow.Author.Needs.{needs}
 use Rattle.closing.proofs.slots.is_due.Statement.{statement}
 use Rattle.closing.proofs.slots.is_due.Tie as tie
@@ -8,7 +8,7 @@ add-result : tie.Need-add-result
 add-result c = search needs
 
 returns : tie.Need-returns
-unfolding residualDue
+unfolding settlesResidual
 returns c = search needs
 
 pub is-due-spec : {M : Type 1} → statement M

@@ -3,7 +3,7 @@ use mathlib.Core.Path.{sym, _∙_}
 use Prim.Native.Nat.{_+_}
 use native.Mathlib.Omega.{arith}
 use borrow.Author.Tests.{leb-true}
-use Rattle.rulebook.specs.DayAmount.{residualDue}
+use Rattle.rulebook.specs.DayAmount.{settlesResidual}
 use Rattle.closing.specs.Slots.{thenDay}
 use borrow.Author.Needs.{needs}
 use Rattle.closing.proofs.slots.then_day.Statement.{statement}
@@ -13,7 +13,7 @@ is-due-requires : tie.Need-is-due-requires
 is-due-requires c κs = search needs
 
 sub-result : tie.Need-sub-result
-unfolding residualDue
+unfolding settlesResidual
 sub-result c =
     let s = c .before .before .before in
     let h = leb-true (s .args .terms .first + s .args .terms .lag) (s .args .day) (sym (c .before .before .is-due .ensures) ∙ c .before .if1 .taken) in

@@ -3,7 +3,7 @@ use mathlib.Core.Path.{sym, _∙_}
 use Prim.Native.Nat.{_+_, _-_, _≤_}
 use native.Mathlib.Omega.{arith}
 use borrow.Author.Tests.{leb-true}
-use Rattle.rulebook.specs.DayAmount.{residualDue}
+use Rattle.rulebook.specs.DayAmount.{settlesResidual}
 use Rattle.rulebook.specs.Layout.{size}
 use Rattle.rulebook.specs.Close.{slotBlanked}
 use Rattle.closing.specs.laws.SlotsLaws.{slot-sized}
@@ -19,7 +19,7 @@ sub-settled : tie.Need-sub-settled
 sub-settled c = search needs
 
 slot-start-requires : tie.Need-slot-start-requires
-unfolding residualDue
+unfolding settlesResidual
 slot-start-requires c κs =
     let s = c .before .before .before in
     let h = leb-true (s .args .terms .first + s .args .terms .lag) (s .args .day) (sym (c .before .before .is-due .ensures) ∙ c .before .if1 .taken) in

@@ -8,7 +8,7 @@ use lib.IntN.{ℤ}
 use lib.ListN.{length, take, drop}
 use Rattle.integer.specs.Words.{part, filled}
 use Rattle.integer.specs.laws.WordsLaws.{lent}
-use Rattle.rulebook.specs.DayAmount.{residualDue}
+use Rattle.rulebook.specs.DayAmount.{settlesResidual}
 use Rattle.rulebook.specs.Layout.{slotStart}
 use Rattle.amounts.specs.declared.day.Residuals.{Residuals}
 use Rattle.amounts.specs.Day.{DaysRanged, slotPosted}
@@ -145,7 +145,7 @@ posted : (c : tie.After-post-amounts)
     → c .post-amounts .last .0
     ≡ filled (s₀ c .args .terms .accounts)
     (slotPosted (s₀ c .args .terms .accounts) (slotWords (s₀ c .args .terms) (s₀ c .args .book .now) (s₀ c .args .day))
-    (slotWords (s₀ c .args .terms) (s₀ c .args .book .now) (thenDay (s₀ c .args .terms) (s₀ c .args .day))) (residualDue (s₀ c .args .terms) (s₀ c .args .day)) (residualsDue (s₀ c .args .terms) (s₀ c .args .book .now) (s₀ c .args .day)))
+    (slotWords (s₀ c .args .terms) (s₀ c .args .book .now) (thenDay (s₀ c .args .terms) (s₀ c .args .day))) (settlesResidual (s₀ c .args .terms) (s₀ c .args .day)) (residualsDue (s₀ c .args .terms) (s₀ c .args .book .now) (s₀ c .args .day)))
     (s₀ c .args .statement .now)
 posted c =
     let r = c .before .before .before .before in

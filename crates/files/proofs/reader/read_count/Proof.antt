@@ -45,13 +45,13 @@ use denote.Triple.Walked.{says, Stays, stay-none, stay-none-slice, walkOf, goes-
 use denote.Exit.{yes}
 use Rattle.files.specs.Fields.{fieldAt}
 use Rattle.files.specs.declared.reader.Reader.{Reader}
-use Rattle.files.specs.declared.fields.Field.{Field}
+use Rattle.files.specs.declared.fields.FieldRead.{FieldRead}
 use Rattle.files.proofs.Lent as lent
 use Rattle.files.proofs.Lent.{B, x, Said, Reads, taken, ReaderAt, Take, shut, opened, goes, asks-reader, reader-said}
 use Rattle.files.proofs.reader.Reader as T
 use Rattle.files.proofs.reader.Reader.Laws as T′
-use Rattle.files.proofs.fields.Field as S
-use Rattle.files.proofs.fields.Field.Laws as S′
+use Rattle.files.proofs.fields.FieldRead as S
+use Rattle.files.proofs.fields.FieldRead.Laws as S′
 use Rattle.files.proofs.reader.reader_at as reader-at
 use Rattle.files.proofs.reader.reader_at.Symbol as reader-at-def
 use Rattle.files.proofs.reader.reader_at.Symbol.{name as #reader-at}
@@ -106,7 +106,7 @@ module _ {M : Type 1} (𝓤 : URA M) (H : Heap 𝓤) (A : Atoms 𝓤) (W : Given
   goes-reader : ent 𝓤 (onEntry 𝓤 H A read-count.signature (κ, tt) (q, tt) arg vals) (sep 𝓤 (ReaderAt 𝓤 H A at-mem run .pre to-reader) (sem 𝓤 H A Own))
   goes-reader = qed W ((‵ (flft κ q) ⊛ ‵ ftrue) ∷ ‵ (owns (ShrSlice (named 0) κ u8 ∷ usize ∷ []) arg vals) ∷ []) ∵ move ! (1 ∷ []) $ fsplit ! $ move ! (0 ∷ 2 ∷ []) $ keep ! (0 ∷ 1 ∷ []) $ by ! (asks-reader 𝓤 H A W at-mem run κ q s p p-fits)
 
-  exits : (f : Field) (u : Val) → f ≡ fieldAt 2 (now s) p → ent 𝓤 (⋆ 𝓤 H A (‵ (S.the-row .own f (u ∷ [])) ∷ ‵ (flft κ q) ∷ ‵ ftrue ∷ ‵ Own ∷ [])) (Post u)
+  exits : (f : FieldRead) (u : Val) → f ≡ fieldAt 2 (now s) p → ent 𝓤 (⋆ 𝓤 H A (‵ (S.the-row .own f (u ∷ [])) ∷ ‵ (flft κ q) ∷ ‵ ftrue ∷ ‵ Own ∷ [])) (Post u)
   exits f u e =
       qed W (‵ (S.the-row .own f (u ∷ [])) ∷ ‵ (flft κ q) ∷ ‵ ftrue ∷ ‵ Own ∷ []) ∵
       suffices ! _ (ends-at 𝓤 H A read-count.ended stayed (read-count.clauses 𝓤 H A at-mem run) W (((κ, tt), (q, tt), tt, arg, vals), tt) u f (tt, (tt, tt)) (tt, (tt, tt))) $ says ! e $
@@ -134,7 +134,7 @@ module _ {M : Type 1} (𝓤 : URA M) (H : Heap 𝓤) (A : Atoms 𝓤) (W : Given
         move ! (2 ∷ 4 ∷ 0 ∷ []) $ use3 W (raw (Take 𝓤 H A at-mem run .pre (to 2 r ν l₃ δ))) (goes 𝓤 H A W at-mem run κ q 2 (lit< tt) (omega arith) r ν l₃ δ) $
         -- [asked; the lender's part; the rest of ν's token; true; …]
         calls-at ! fm (Take 𝓤 H A at-mem run) known (to 2 r ν l₃ δ) (and-then ! (load ! (from ! (stop !)) (look ! 5 refl)) (and-then ! (lit ! tt) (no-more !))) (λ w.
-        use1 W (later (some (λ (f : Field). ((‵ (flft (ν ∷ κ) ql) ⊛ ‵ (flft κ qr) ⊛ ‵ ftrue) ⊛ ‵ (S.the-row .own f (w ∷ []))) ⊛ raw (ensured 𝓤 H A take.ended (take.clauses 𝓤 H A at-mem run) (ν ∷ κ, (κ, tt)) (x r l₃ δ, (2, tt)) tt f)))) (id⊢ 𝓤 _) $ await ! tt $ pick ! (λ f.
+        use1 W (later (some (λ (f : FieldRead). ((‵ (flft (ν ∷ κ) ql) ⊛ ‵ (flft κ qr) ⊛ ‵ ftrue) ⊛ ‵ (S.the-row .own f (w ∷ []))) ⊛ raw (ensured 𝓤 H A take.ended (take.clauses 𝓤 H A at-mem run) (ν ∷ κ, (κ, tt)) (x r l₃ δ, (2, tt)) tt f)))) (id⊢ 𝓤 _) $ await ! tt $ pick ! (λ f.
         split ! $ move ! (1 ∷ []) $ use1 W (some (λ (zs : Reader × (Unit {0} × Unit {0})). ‵ (lasts take.ended (ν ∷ κ, (κ, tt)) (x r l₃ δ, (2, tt)) zs) ⊛ raw (fact 𝓤 (Said 2 r f (zs .0))))) (id⊢ 𝓤 _) $ pick ! (λ zs.
         split ! $ move ! (1 ∷ []) $ heard ! (Said 2 r f (zs .0)) (λ e₁. fsplit ! $ move ! (2 ∷ []) $ split ! $ move ! (1 ∷ []) $
         -- [the field's; the tokens; the last reader; …; the lender's part; the rest of ν's token; true; …]

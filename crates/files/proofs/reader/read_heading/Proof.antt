@@ -47,13 +47,13 @@ use denote.Exit.{yes}
 use Rattle.files.specs.Fields.{past, headingOf, headingAt}
 use Rattle.files.specs.declared.reader.Reader.{Reader}
 use Rattle.files.specs.declared.reader.Heading.{Heading}
-use Rattle.files.specs.declared.fields.Field.{Field}
+use Rattle.files.specs.declared.fields.FieldRead.{FieldRead}
 use Rattle.files.proofs.Lent as lent
 use Rattle.files.proofs.Lent.{B, x, Said, Reads, taken, ReaderAt, Take, shut, opened, goes, asks-reader, reader-said}
 use Rattle.files.proofs.reader.Reader as T
 use Rattle.files.proofs.reader.Reader.Laws as T′
-use Rattle.files.proofs.fields.Field as S
-use Rattle.files.proofs.fields.Field.Laws as S′
+use Rattle.files.proofs.fields.FieldRead as S
+use Rattle.files.proofs.fields.FieldRead.Laws as S′
 use Rattle.files.proofs.reader.Heading as P
 use Rattle.files.proofs.reader.Heading.Laws as P′
 use Rattle.files.proofs.reader.reader_at as reader-at
@@ -120,19 +120,19 @@ module _ {M : Type 1} (𝓤 : URA M) (H : Heap 𝓤) (A : Atoms 𝓤) (W : Given
   goes-reader = qed W ((‵ (flft κ q) ⊛ ‵ ftrue) ∷ ‵ (owns (ShrSlice (named 0) κ u8 ∷ usize ∷ usize ∷ usize ∷ []) arg vals) ∷ []) ∵ move ! (1 ∷ []) $ fsplit ! $ move ! (0 ∷ 2 ∷ []) $ keep ! (0 ∷ 1 ∷ []) $ by ! (asks-reader 𝓤 H A W at-mem run κ q s p p-fits)
 
   -- the call of `heading_of`
-  abbrev to-heading : Field → Val → Field → Val → Field → Val → ℕ → HeadingOf 𝓤 H A at-mem run .Ghost
+  abbrev to-heading : FieldRead → Val → FieldRead → Val → FieldRead → Val → ℕ → HeadingOf 𝓤 H A at-mem run .Ghost
   to-heading f w f′ w′ f″ w″ n = ((tt, tt, tt, (f, (f′, (f″, (n, tt)))), (w ∷ [], (w′ ∷ [], (w″ ∷ [], (vint w64 n ∷ [], tt))))), tt)
 
-  goes-heading : (f : Field) (w : Val) (f′ : Field) (w′ : Val) (f″ : Field) (w″ : Val) (n : ℕ) → n < 2 ^ 64
+  goes-heading : (f : FieldRead) (w : Val) (f′ : FieldRead) (w′ : Val) (f″ : FieldRead) (w″ : Val) (n : ℕ) → n < 2 ^ 64
       → ent 𝓤 (⋆ 𝓤 H A (‵ (S.the-row .own f (w ∷ [])) ∷ ‵ (S.the-row .own f′ (w′ ∷ [])) ∷ ‵ (S.the-row .own f″ (w″ ∷ [])) ∷ [])) (HeadingOf 𝓤 H A at-mem run .pre (to-heading f w f′ w′ f″ w″ n))
   goes-heading f w f′ w′ f″ w″ n fits =
       qed W (‵ (S.the-row .own f (w ∷ [])) ∷ ‵ (S.the-row .own f′ (w′ ∷ [])) ∷ ‵ (S.the-row .own f″ (w″ ∷ [])) ∷ []) ∵ nothing ! $ owned ! usize (Is usize) (uint-makes 𝓤 H A W w64) n _ (refl, fits) $ fjoin ! $
       move ! (3 ∷ 0 ∷ []) $ fjoin ! $ move ! (2 ∷ 0 ∷ []) $ fjoin ! $ move ! (1 ∷ 0 ∷ []) $ fjoin ! $ nothing ! $ join ! $ frame ! $ done !
 
-  heading-said : (f f′ f″ : Field) (n : ℕ) (t : Heading) → ent 𝓤 (ensured 𝓤 H A heading-of.ended (heading-of.clauses 𝓤 H A at-mem run) tt (f, (f′, (f″, (n, tt)))) tt t) (fact 𝓤 (t ≡ headingOf f f′ f″ n))
+  heading-said : (f f′ f″ : FieldRead) (n : ℕ) (t : Heading) → ent 𝓤 (ensured 𝓤 H A heading-of.ended (heading-of.clauses 𝓤 H A at-mem run) tt (f, (f′, (f″, (n, tt)))) tt t) (fact 𝓤 (t ≡ headingOf f f′ f″ n))
   heading-said f f′ f″ n t = exE 𝓤 _ (λ ws. snd∗ 𝓤 (sem 𝓤 H A (lasts heading-of.ended tt (f, (f′, (f″, (n, tt)))) ws)) (fact 𝓤 (t ≡ headingOf f f′ f″ n)))
 
-  is-heading : (r z z′ z″ : Reader) (f f′ f″ : Field) (t : Heading) → Reads s r p → Said k r f z → Said 2 z f′ z′ → Said m z′ f″ z″ → t ≡ headingOf f f′ f″ (z″ .at) → t ≡ headingAt k m (now s) p
+  is-heading : (r z z′ z″ : Reader) (f f′ f″ : FieldRead) (t : Heading) → Reads s r p → Said k r f z → Said 2 z f′ z′ → Said m z′ f″ z″ → t ≡ headingOf f f′ f″ (z″ .at) → t ≡ headingAt k m (now s) p
   is-heading r z z′ z″ f f′ f″ t e e₁ e₂ e₃ e₄ =
       let one = taken s k r z f p e e₁ in
       let two = taken s 2 z z′ f′ (past k (now s) p) (one .1) e₂ in
@@ -168,7 +168,7 @@ module _ {M : Type 1} (𝓤 : URA M) (H : Heap 𝓤) (A : Atoms 𝓤) (W : Given
         move ! (2 ∷ 4 ∷ 0 ∷ []) $ use3 W (raw (Take 𝓤 H A at-mem run .pre (to k r ν l₅ δ))) (goes 𝓤 H A W at-mem run κ q k k-fits small r ν l₅ δ) $
         -- [asked; the lender's part; the rest of ν's token; true; …]
         calls-at ! fm (Take 𝓤 H A at-mem run) known (to k r ν l₅ δ) (and-then ! (load ! (from ! (stop !)) (look ! 11 refl)) (and-then ! (load ! (from ! (stop !)) (look ! 24 refl)) (no-more !))) (λ w.
-        use1 W (later (some (λ (f : Field). ((‵ (flft (ν ∷ κ) ql) ⊛ ‵ (flft κ qr) ⊛ ‵ ftrue) ⊛ ‵ (S.the-row .own f (w ∷ []))) ⊛ raw (ensured 𝓤 H A take.ended (take.clauses 𝓤 H A at-mem run) (ν ∷ κ, (κ, tt)) (x r l₅ δ, (k, tt)) tt f)))) (id⊢ 𝓤 _) $ await ! tt $ pick ! (λ f.
+        use1 W (later (some (λ (f : FieldRead). ((‵ (flft (ν ∷ κ) ql) ⊛ ‵ (flft κ qr) ⊛ ‵ ftrue) ⊛ ‵ (S.the-row .own f (w ∷ []))) ⊛ raw (ensured 𝓤 H A take.ended (take.clauses 𝓤 H A at-mem run) (ν ∷ κ, (κ, tt)) (x r l₅ δ, (k, tt)) tt f)))) (id⊢ 𝓤 _) $ await ! tt $ pick ! (λ f.
         split ! $ move ! (1 ∷ []) $ use1 W (some (λ (zs : Reader × (Unit {0} × Unit {0})). ‵ (lasts take.ended (ν ∷ κ, (κ, tt)) (x r l₅ δ, (k, tt)) zs) ⊛ raw (fact 𝓤 (Said k r f (zs .0))))) (id⊢ 𝓤 _) $ pick ! (λ zs.
         split ! $ move ! (1 ∷ []) $ heard ! (Said k r f (zs .0)) (λ e₁. fsplit ! $ move ! (2 ∷ []) $ split ! $ move ! (1 ∷ []) $
         -- [the field's; the tokens; the last reader; …; the lender's part; the rest of ν's token; true; …]
@@ -182,7 +182,7 @@ module _ {M : Type 1} (𝓤 : URA M) (H : Heap 𝓤) (A : Atoms 𝓤) (W : Given
         move ! (2 ∷ 4 ∷ 0 ∷ []) $ use3 W (raw (Take 𝓤 H A at-mem run .pre (to 2 (zs .0) ν′ l₅ δ′))) (goes 𝓤 H A W at-mem run κ q 2 (lit< tt) (omega arith) (zs .0) ν′ l₅ δ′) $
         -- [asked; the lender's part; the rest of ν′'s token; true; …]
         calls-at ! fm (Take 𝓤 H A at-mem run) known (to 2 (zs .0) ν′ l₅ δ′) (and-then ! (load ! (from ! (stop !)) (look ! 12 refl)) (and-then ! (lit ! tt) (no-more !))) (λ w′.
-        use1 W (later (some (λ (f′ : Field). ((‵ (flft (ν′ ∷ κ) ql) ⊛ ‵ (flft κ qr) ⊛ ‵ ftrue) ⊛ ‵ (S.the-row .own f′ (w′ ∷ []))) ⊛ raw (ensured 𝓤 H A take.ended (take.clauses 𝓤 H A at-mem run) (ν′ ∷ κ, (κ, tt)) (x (zs .0) l₅ δ′, (2, tt)) tt f′)))) (id⊢ 𝓤 _) $ await ! tt $ pick ! (λ f′.
+        use1 W (later (some (λ (f′ : FieldRead). ((‵ (flft (ν′ ∷ κ) ql) ⊛ ‵ (flft κ qr) ⊛ ‵ ftrue) ⊛ ‵ (S.the-row .own f′ (w′ ∷ []))) ⊛ raw (ensured 𝓤 H A take.ended (take.clauses 𝓤 H A at-mem run) (ν′ ∷ κ, (κ, tt)) (x (zs .0) l₅ δ′, (2, tt)) tt f′)))) (id⊢ 𝓤 _) $ await ! tt $ pick ! (λ f′.
         split ! $ move ! (1 ∷ []) $ use1 W (some (λ (zs′ : Reader × (Unit {0} × Unit {0})). ‵ (lasts take.ended (ν′ ∷ κ, (κ, tt)) (x (zs .0) l₅ δ′, (2, tt)) zs′) ⊛ raw (fact 𝓤 (Said 2 (zs .0) f′ (zs′ .0))))) (id⊢ 𝓤 _) $ pick ! (λ zs′.
         split ! $ move ! (1 ∷ []) $ heard ! (Said 2 (zs .0) f′ (zs′ .0)) (λ e₂. fsplit ! $ move ! (2 ∷ []) $ split ! $ move ! (1 ∷ []) $
         -- [the field's; the tokens; the last reader; …; the lender's part; the rest of ν′'s token; true; …]
@@ -196,7 +196,7 @@ module _ {M : Type 1} (𝓤 : URA M) (H : Heap 𝓤) (A : Atoms 𝓤) (W : Given
         move ! (2 ∷ 4 ∷ 0 ∷ []) $ use3 W (raw (Take 𝓤 H A at-mem run .pre (to m (zs′ .0) ν″ l₅ δ″))) (goes 𝓤 H A W at-mem run κ q m m-fits small′ (zs′ .0) ν″ l₅ δ″) $
         -- [asked; the lender's part; the rest of ν″'s token; true; …]
         calls-at ! fm (Take 𝓤 H A at-mem run) known (to m (zs′ .0) ν″ l₅ δ″) (and-then ! (load ! (from ! (stop !)) (look ! 13 refl)) (and-then ! (load ! (from ! (stop !)) (look ! 28 refl)) (no-more !))) (λ w″.
-        use1 W (later (some (λ (f″ : Field). ((‵ (flft (ν″ ∷ κ) ql) ⊛ ‵ (flft κ qr) ⊛ ‵ ftrue) ⊛ ‵ (S.the-row .own f″ (w″ ∷ []))) ⊛ raw (ensured 𝓤 H A take.ended (take.clauses 𝓤 H A at-mem run) (ν″ ∷ κ, (κ, tt)) (x (zs′ .0) l₅ δ″, (m, tt)) tt f″)))) (id⊢ 𝓤 _) $ await ! tt $ pick ! (λ f″.
+        use1 W (later (some (λ (f″ : FieldRead). ((‵ (flft (ν″ ∷ κ) ql) ⊛ ‵ (flft κ qr) ⊛ ‵ ftrue) ⊛ ‵ (S.the-row .own f″ (w″ ∷ []))) ⊛ raw (ensured 𝓤 H A take.ended (take.clauses 𝓤 H A at-mem run) (ν″ ∷ κ, (κ, tt)) (x (zs′ .0) l₅ δ″, (m, tt)) tt f″)))) (id⊢ 𝓤 _) $ await ! tt $ pick ! (λ f″.
         split ! $ move ! (1 ∷ []) $ use1 W (some (λ (zs″ : Reader × (Unit {0} × Unit {0})). ‵ (lasts take.ended (ν″ ∷ κ, (κ, tt)) (x (zs′ .0) l₅ δ″, (m, tt)) zs″) ⊛ raw (fact 𝓤 (Said m (zs′ .0) f″ (zs″ .0))))) (id⊢ 𝓤 _) $ pick ! (λ zs″.
         split ! $ move ! (1 ∷ []) $ heard ! (Said m (zs′ .0) f″ (zs″ .0)) (λ e₃. fsplit ! $ move ! (2 ∷ []) $ split ! $ move ! (1 ∷ []) $
         -- [the field's; the tokens; the last reader; …; the lender's part; the rest of ν″'s token; true; …]

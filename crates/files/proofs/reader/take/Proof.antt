@@ -47,11 +47,11 @@ use denote.Triple.Walked.{says, needs, Stays, stay-none, stay-ref, walkOf, goes-
 use denote.Exit.{yes}
 use Rattle.files.specs.Fields.{fieldAt, nextOf}
 use Rattle.files.specs.declared.reader.Reader.{Reader}
-use Rattle.files.specs.declared.fields.Field.{Field}
+use Rattle.files.specs.declared.fields.FieldRead.{FieldRead}
 use Rattle.files.proofs.reader.Reader as T
 use Rattle.files.proofs.reader.Reader.Laws as T′
-use Rattle.files.proofs.fields.Field as S
-use Rattle.files.proofs.fields.Field.Laws as S′
+use Rattle.files.proofs.fields.FieldRead as S
+use Rattle.files.proofs.fields.FieldRead.Laws as S′
 use Rattle.files.proofs.fields.field_at as field-at
 use Rattle.files.proofs.fields.field_at.Symbol as field-at-def
 use Rattle.files.proofs.fields.field_at.Symbol.{name as #field-at}
@@ -98,7 +98,7 @@ module _ {M : Type 1} (𝓤 : URA M) (H : Heap 𝓤) (A : Atoms 𝓤) (W : Given
   abbrev moved : ℕ → Reader
   moved n = record { file = h .file; at = n }
 
-  abbrev found : Field
+  abbrev found : FieldRead
   found = fieldAt k (now (h .file)) (h .at)
 
   abbrev at : List Val × (List Val × Unit {0})
@@ -148,24 +148,24 @@ module _ {M : Type 1} (𝓤 : URA M) (H : Heap 𝓤) (A : Atoms 𝓤) (W : Given
       move ! (1 ∷ []) $ drop ! $ nothing ! $ owned ! usize (Is usize) (uint-makes 𝓤 H A W w64) k _ (refl, k-fits) $ fjoin ! $ owned ! usize (Is usize) (uint-makes 𝓤 H A W w64) (h .at) _ (refl, fits) $ fjoin ! $ move ! (1 ∷ 0 ∷ []) $ fjoin ! $
       move ! (2 ∷ 0 ∷ []) $ use2 W (raw (FieldAt 𝓤 H A at-mem run .pre to)) (asked small) $ frame ! $ done !)
 
-  said : (r : Field) → ent 𝓤 (ensured 𝓤 H A field-at.ended (field-at.clauses 𝓤 H A at-mem run) (κ′, tt) xs tt r) (fact 𝓤 (r ≡ found))
+  said : (r : FieldRead) → ent 𝓤 (ensured 𝓤 H A field-at.ended (field-at.clauses 𝓤 H A at-mem run) (κ′, tt) xs tt r) (fact 𝓤 (r ≡ found))
   said r = exE 𝓤 _ (λ ws. snd∗ 𝓤 (sem 𝓤 H A (lasts field-at.ended (κ′, tt) xs ws)) (fact 𝓤 (r ≡ found)))
 
   -- the call of `next_of`, at the field r with the machine value u
-  abbrev to-next : Field → Val → NextOf 𝓤 H A at-mem run .Ghost
+  abbrev to-next : FieldRead → Val → NextOf 𝓤 H A at-mem run .Ghost
   to-next r u = ((tt, tt, tt, (r, (h .at, tt)), (u ∷ [], (vint w64 (h .at) ∷ [], tt))), tt)
 
-  goes-next : (r : Field) (u : Val) → h .at < 2 ^ 64 → ent 𝓤 (sem 𝓤 H A (S.the-row .own r (u ∷ []))) (NextOf 𝓤 H A at-mem run .pre (to-next r u))
+  goes-next : (r : FieldRead) (u : Val) → h .at < 2 ^ 64 → ent 𝓤 (sem 𝓤 H A (S.the-row .own r (u ∷ []))) (NextOf 𝓤 H A at-mem run .pre (to-next r u))
   goes-next r u fits = qed W (‵ (S.the-row .own r (u ∷ [])) ∷ []) ∵ nothing ! $ owned ! usize (Is usize) (uint-makes 𝓤 H A W w64) (h .at) _ (refl, fits) $ fjoin ! $ move ! (1 ∷ 0 ∷ []) $ fjoin ! $ nothing ! $ join ! $ frame ! $ done !
 
-  next-said : (r : Field) (n : ℕ) → ent 𝓤 (ensured 𝓤 H A next-of.ended (next-of.clauses 𝓤 H A at-mem run) tt (r, (h .at, tt)) tt n) (fact 𝓤 (n ≡ nextOf r (h .at)))
+  next-said : (r : FieldRead) (n : ℕ) → ent 𝓤 (ensured 𝓤 H A next-of.ended (next-of.clauses 𝓤 H A at-mem run) tt (r, (h .at, tt)) tt n) (fact 𝓤 (n ≡ nextOf r (h .at)))
   next-said r n = exE 𝓤 _ (λ ws. snd∗ 𝓤 (sem 𝓤 H A (lasts next-of.ended tt (r, (h .at, tt)) ws)) (fact 𝓤 (n ≡ nextOf r (h .at))))
 
   -- the facts of the position are made anew
   again : (n : ℕ) → n < 2 ^ 64 → ent 𝓤 (sem 𝓤 H A (Own h)) (sem 𝓤 H A (Own (moved n)))
   again n fits = qed W (‵ (Own h) ∷ []) ∵ owned ! usize (Is usize) (uint-makes 𝓤 H A W w64) n _ (refl, fits) $ move ! (1 ∷ 0 ∷ []) $ by ! (own-put 𝓤 H A W D L 1 vd n (T′.lowered h))
 
-  exits : (r : Field) (u : Val) (n : ℕ) → r ≡ found → n ≡ nextOf r (h .at) → ent 𝓤 (⋆ 𝓤 H A (‵ (fobs γ (B κ′ .coded .code (moved n))) ∷ ‵ (fbor κ (Body (mem (B κ′)) b o γ)) ∷ ‵ (flft κ q) ∷ (‵ (flft κ′ q′) ⊛ ‵ ftrue) ∷ ‵ (S.the-row .own r (u ∷ [])) ∷ [])) (Post u)
+  exits : (r : FieldRead) (u : Val) (n : ℕ) → r ≡ found → n ≡ nextOf r (h .at) → ent 𝓤 (⋆ 𝓤 H A (‵ (fobs γ (B κ′ .coded .code (moved n))) ∷ ‵ (fbor κ (Body (mem (B κ′)) b o γ)) ∷ ‵ (flft κ q) ∷ (‵ (flft κ′ q′) ⊛ ‵ ftrue) ∷ ‵ (S.the-row .own r (u ∷ [])) ∷ [])) (Post u)
   exits r u n e e′ =
       qed W (‵ (fobs γ (B κ′ .coded .code (moved n))) ∷ ‵ (fbor κ (Body (mem (B κ′)) b o γ)) ∷ ‵ (flft κ q) ∷ (‵ (flft κ′ q′) ⊛ ‵ ftrue) ∷ ‵ (S.the-row .own r (u ∷ [])) ∷ []) ∵
       suffices ! _ (ends-at 𝓤 H A take.ended stayed (take.clauses 𝓤 H A at-mem run) W (((κ, (κ′, tt)), (q, (q′, tt)), bounds, x, at), tt) u r (moved n, (tt, tt)) (tt, (tt, tt))) $ says ! (e, (refl, e′)) $
@@ -187,7 +187,7 @@ module _ {M : Type 1} (𝓤 : URA M) (H : Heap 𝓤) (A : Atoms 𝓤) (W : Given
         move ! (1 ∷ 5 ∷ []) $ use2 W (raw (FieldAt 𝓤 H A at-mem run .pre to) ⊛ ‵ (Own h)) (apart small (was .1 .1 .1 .0 .1)) $ split ! $
         -- [asked; what a Reader owns; the cell; the open borrow; obs; auth; what k owns; _6; …; _5; …]
         calls-at ! fm (FieldAt 𝓤 H A at-mem run) known to (and-then ! (load ! (from ! (stop !)) (look ! 9 refl)) (and-then ! (load ! (from ! (stop !)) (look ! 13 refl)) (and-then ! (load ! (from ! (stop !)) (look ! 15 refl)) (no-more !)))) (λ u.
-        use1 W (later (some (λ (r : Field). ((‵ (flft κ′ q′) ⊛ ‵ ftrue) ⊛ ‵ (S.the-row .own r (u ∷ []))) ⊛ raw (ensured 𝓤 H A field-at.ended (field-at.clauses 𝓤 H A at-mem run) (κ′, tt) xs tt r)))) (id⊢ 𝓤 _) $ await ! tt $ pick ! (λ r.
+        use1 W (later (some (λ (r : FieldRead). ((‵ (flft κ′ q′) ⊛ ‵ ftrue) ⊛ ‵ (S.the-row .own r (u ∷ []))) ⊛ raw (ensured 𝓤 H A field-at.ended (field-at.clauses 𝓤 H A at-mem run) (κ′, tt) xs tt r)))) (id⊢ 𝓤 _) $ await ! tt $ pick ! (λ r.
         split ! $ move ! (1 ∷ []) $ use1 W (raw (fact 𝓤 (r ≡ found))) (said r) $ heard ! (r ≡ found) (λ e. split ! $ move ! (1 ∷ []) $
         -- [the field; 'a's token; what a Reader owns; the cell; the open borrow; obs; auth; what k owns; _6; …; _5; …; _4; …]
         peeks ! S.the-row (Is S.the-row) (shows 𝓤 H A S.the-row) r (u ∷ []) (λ is.

@@ -11,7 +11,7 @@ use Rattle.rulebook.specs.ReferencePrice.{mostFacilities}
 use Rattle.rulebook.specs.Sections.{leastCount, mostCount}
 use Rattle.rulebook.specs.File.{countBytes, countPos, valuesPos, countAt, valuesOf, rowEndOf, rowEnd}
 use Rattle.rulebook.specs.Judging.{fieldIn, rest}
-use Rattle.rulebook.specs.laws.JudgingLaws.{Field, field-says}
+use Rattle.rulebook.specs.laws.JudgingLaws.{FieldFine, field-says}
 use Rattle.files.specs.Fields.{outcome}
 use Rattle.files.specs.laws.FieldsLaws.{outcome-passed, outcome-stopped}
 use Rattle.files.specs.laws.RowsLaws.{heading-count, heading-next, count-le, rest-values}
@@ -49,7 +49,7 @@ module _ (c : tie.After-known-told) where
   count-on : (countJudged (start counted) ≡ Accepted) × (countAt (start counted .args .sec) (start counted .args .file .now) (start counted .args .at) ≡ c .before .v .given .0 .0)
   count-on = outcome-passed _ _ _ (count counted ∙ c .before .v .given .1)
 
-  says : Field (countBytes (start counted .args .sec)) (leastCount (start counted .args .sec)) (mostCount (start counted .args .sec)) OutOfRange (start counted .args .file .now) (countPos (start counted .args .sec) (start counted .args .at))
+  says : FieldFine (countBytes (start counted .args .sec)) (leastCount (start counted .args .sec)) (mostCount (start counted .args .sec)) OutOfRange (start counted .args .file .now) (countPos (start counted .args .sec) (start counted .args .at))
   says = field-says _ _ _ _ _ _ (count-on .0)
 
   from : start counted .args .heading .next ≡ valuesPos (start counted .args .sec) (start counted .args .at)

@@ -1,4 +1,4 @@
--- `residual_of` meets its contract: the load word is the load, and the totals of 32 cells are small.
+-- `residual_at` meets its contract: the load word is the load, and the totals of 32 cells are small.
 use mathlib.Core.Path.{_≡_, ap, _∙_}
 use Prim.Native.Nat.{ℕ}
 use native.Mathlib.Omega.{arith}
@@ -9,12 +9,12 @@ use mir.Val.{toZ, ofZ}
 use Rattle.integer.specs.Bits.{got}
 use Rattle.rulebook.specs.DayAmount.{residualLoad}
 use Rattle.rulebook.specs.laws.SizeLaws.{all-vested-size}
-use Rattle.amounts.specs.declared.interval.Residual.{Residual}
+use Rattle.amounts.specs.declared.interval.ResidualAndSpare.{ResidualAndSpare}
 use Rattle.amounts.specs.declared.interval.Totals.{Totals}
 use Rattle.amounts.specs.Interval.{loadIn, dataIn}
 use Rattle.amounts.specs.laws.IntervalLaws.{data-sized, load-le, load-is}
-use Rattle.amounts.proofs.interval.residual_of.Statement.{statement}
-use Rattle.amounts.proofs.interval.residual_of.Tie as tie
+use Rattle.amounts.proofs.interval.residual_at.Statement.{statement}
+use Rattle.amounts.proofs.interval.residual_at.Tie as tie
 
 totals-of-requires : tie.Need-totals-of-requires
 totals-of-requires c κs = search needs
@@ -35,7 +35,7 @@ less-vested-requires c κs =
 less-cong : {a b : ℤ} {v w : ℕ} → a ≡ b → v ≡ w → a -ℤ pos v ≡ b -ℤ pos w
 less-cong e f = cc
 
-made : {a b : ℤ} {v w : ℕ} → a ≡ b → v ≡ w → _≡_ {A = Residual} (record { load = a; spare = v }) (record { load = b; spare = w })
+made : {a b : ℤ} {v w : ℕ} → a ≡ b → v ≡ w → _≡_ {A = ResidualAndSpare} (record { load = a; spare = v }) (record { load = b; spare = w })
 made e f = rw (e, f)
 
 returns : tie.Need-returns
@@ -45,5 +45,5 @@ returns c =
     let t = c .before .before .totals-of .ensures in
     made (got (r .result) (r .ok) ∙ r .ensures ∙ less-cong (load (c .before)) (ap (λ (t : Totals). t .vested) t)) (ap (λ (t : Totals). t .spare) t)
 
-pub residual-of-spec : {M : Type 1} → statement M
-residual-of-spec = tie.close (tie.spec totals-of-requires word-at-requires less-vested-requires returns)
+pub residual-at-spec : {M : Type 1} → statement M
+residual-at-spec = tie.close (tie.spec totals-of-requires word-at-requires less-vested-requires returns)

@@ -1,12 +1,12 @@
--- `reference_price` meets its contract: V is the average of the cell's sums.
+-- `price_at` meets its contract: V is the average of the cell's sums.
 use native.Mathlib.Omega.{arith}
 use borrow.Author.Needs.{needs}
 use Rattle.integer.specs.Bits.{got}
 use Rattle.rulebook.specs.DayAmount.{referencePriceOf}
 use Rattle.rules.specs.PriceSums.{sums-count, sums-within, sums-price}
 use Rattle.amounts.specs.Cell.{cellData}
-use Rattle.amounts.proofs.cell.reference_price.Statement.{statement}
-use Rattle.amounts.proofs.cell.reference_price.Tie as tie
+use Rattle.amounts.proofs.cell.price_at.Statement.{statement}
+use Rattle.amounts.proofs.cell.price_at.Tie as tie
 
 sums-of-requires : tie.Need-sums-of-requires
 sums-of-requires c κs = search needs
@@ -29,5 +29,5 @@ returns c =
     let d = cellData (c .before .before .args .c .now) in
     rw (got (c .price-of .result) (c .price-of .ok), c .price-of .ensures, c .before .sums-of .ensures, sums-price (d .facilities) (d .mep) (d .ieq))
 
-pub reference-price-spec : {M : Type 1} → statement M
-reference-price-spec = tie.close (tie.spec sums-of-requires price-of-requires returns)
+pub price-at-spec : {M : Type 1} → statement M
+price-at-spec = tie.close (tie.spec sums-of-requires price-of-requires returns)

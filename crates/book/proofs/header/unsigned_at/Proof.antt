@@ -1,4 +1,4 @@
--- `count_at` meets its contract: the word is not below zero.
+-- `unsigned_at` meets its contract: the word is not below zero.
 use mathlib.Core.Path.{_≡_}
 use borrow.Author.Needs.{needs}
 use mir.Syntax.{w64}
@@ -6,8 +6,8 @@ use mir.Val.{toZ, ofZ}
 use Rattle.integer.specs.Bits.{got}
 use Rattle.integer.specs.laws.IntegerLaws.{int, parts}
 use Rattle.integer.specs.Words.{word}
-use Rattle.book.proofs.header.count_at.Statement.{statement}
-use Rattle.book.proofs.header.count_at.Tie as tie
+use Rattle.book.proofs.header.unsigned_at.Statement.{statement}
+use Rattle.book.proofs.header.unsigned_at.Tie as tie
 
 mul-result : tie.Need-mul-result
 mul-result c = search needs
@@ -29,5 +29,5 @@ returns c =
     let p = parts z in
     rw x (omega int)
 
-pub count-at-spec : {M : Type 1} → statement M
-count-at-spec = tie.close (tie.spec mul-result shared-slice-copy-out-result cast-result returns)
+pub unsigned-at-spec : {M : Type 1} → statement M
+unsigned-at-spec = tie.close (tie.spec mul-result shared-slice-copy-out-result cast-result returns)

@@ -1,4 +1,4 @@
--- `balance_fits` meets its contract: the balance, and the zeros, a part of the book.
+-- `balance_words_fit` meets its contract: the balance, and the zeros, a part of the book.
 use mathlib.Core.Path.{_≡_}
 use Prim.Native.Nat.{_+_, _*_}
 use native.Mathlib.Nat.{one-mul}
@@ -7,8 +7,8 @@ use borrow.Author.Needs.{needs}
 use Rattle.integer.specs.laws.WordsLaws.{lent}
 use Rattle.rulebook.specs.WellFormed.{balanceFits, balanceWordsFit}
 use Rattle.book.specs.laws.BlankLaws.{blank-part}
-use Rattle.book.proofs.header.balance_fits.Statement.{statement}
-use Rattle.book.proofs.header.balance_fits.Tie as tie
+use Rattle.book.proofs.header.balance_words_fit.Statement.{statement}
+use Rattle.book.proofs.header.balance_words_fit.Tie as tie
 
 balance-word-requires : tie.Need-balance-word-requires
 balance-word-requires c κs = search needs
@@ -49,8 +49,8 @@ returns c =
     let s : 65 + 8 * a .a ≡ i + 1 = omega (arith, b .balance-word .ensures) in
     rw (← b .balance-word .ensures, s, one-mul, c .before .before .within-at .ensures, c .is-blank .ensures, lent (a .book .now) (i + 1) 7, blank-part (a .book .now) (i + 1) 7 (omega (arith, b .balance-word .ensures)))
 
-pub balance-fits-spec : {M : Type 1} → statement M
-balance-fits-spec =
+pub balance-words-fit-spec : {M : Type 1} → statement M
+balance-words-fit-spec =
     tie.close
     (tie.spec
     balance-word-requires
