@@ -107,6 +107,7 @@ static void a_closed_book(void)
     same("MSSL's balance", -96000, book[ROBIJAN_WORD_MSSL_BALANCE]);
     same("next day", 36525, book[ROBIJAN_WORD_NEXT_DAY]);
     same("accounts", 1, book[ROBIJAN_WORD_ACCOUNTS]);
+    same("one account's flag", 1, book[ROBIJAN_WORD_FIRST_INTERVAL(1) + ROBIJAN_INTERVAL_ACCOUNTS]);
     NUMBER(ROBIJAN_BOOK_FINISHED, robijan_close(book, SIZE, statement, 2).number);
     NUMBER(9, ROBIJAN_BOOK_FINISHED);
     same("size", 5072, (int64_t)robijan_book_size(terms(2, FIRST)).words);
@@ -115,6 +116,27 @@ static void a_closed_book(void)
     longest.lag = 92;
     NUMBER(ROBIJAN_OUTSIDE_RANGE, robijan_book_size(longest).number);
     NUMBER(ROBIJAN_OUTSIDE_RANGE, robijan_book_size(terms(2, FIRST - 1)).number); /* as an opening says */
+}
+
+/* Each section's row of account 1, without figures: its flags stand where the header says, in the first interval and in the second. */
+static void places(void)
+{
+    static const struct { const char *heading; size_t bytes, values; } sections[] = {
+        {"\1\0\1\x19\x25\0", 6, 2}, {"\1\0\1\x19\x25\1", 6, 2}, {"\1\0\1\x19\x25", 5, 4}, {"\1\0\x19\x25", 4, 1}};
+    static uint8_t file[21 + 48 * 4 * 9];
+    uint8_t *at = file;
+    for (int s = 0; s < 4; s++, at += sections[s - 1].bytes + 48 * 4 * sections[s - 1].values)
+        memcpy(at, sections[s].heading, sections[s].bytes);
+    NUMBER(ROBIJAN_ACCEPTED, opened(SIZE, 2, FIRST).number);
+    NUMBER(ROBIJAN_ACCEPTED, robijan_submit(book, SIZE, file, sizeof file).number);
+    for (int i = 0; i < 2; i++) {
+        const int64_t *interval = book + ROBIJAN_WORD_FIRST_INTERVAL(2) + i * ROBIJAN_INTERVAL_WORDS(2);
+        const int64_t *account = interval + ROBIJAN_INTERVAL_ACCOUNTS + ROBIJAN_ACCOUNT_WORDS;
+        same("NCC flag", 1, interval[ROBIJAN_INTERVAL_NCC_FLAG]);
+        same("vesting flag", 1, account[ROBIJAN_ACCOUNT_VESTING_FLAG]);
+        same("meter flag", 1, account[ROBIJAN_ACCOUNT_METER_FLAG]);
+        same("residual flag", 1, account[ROBIJAN_ACCOUNT_RESIDUAL_FLAG]);
+    }
 }
 
 static void rules(void)
@@ -162,6 +184,7 @@ int main(void)
 {
     numbers_of_a_book();
     a_closed_book();
+    places();
     rules();
     calendar();
     return wrong;

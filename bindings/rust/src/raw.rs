@@ -1,6 +1,6 @@
 //! The C functions of `librobijan.a`, each behind a safe function that answers as the C function does: a Rust slice is all that they ask of
-//! a pointer and a length. `include/robijan.h` says what each answers. Nothing checks these declarations against the library but the
-//! comparison with the second implementation (`bench/compare`), which goes through them.
+//! a pointer and a length. `include/robijan.h` says what each answers. No proof reaches these declarations; `tests/run`
+//! (tests of each number and figure, the example) and the comparison with the second implementation (`bench/compare`) go through them.
 
 /// An opening's terms.
 #[repr(C)]

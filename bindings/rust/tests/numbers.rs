@@ -79,6 +79,7 @@ fn closing() {
     submit(&mut one, &file).unwrap();
     let closed = close(&mut one, &mut [0; 2]).unwrap();
     assert_eq!((closed.day, closed.residuals), (36_524, 0));
+    assert_eq!(next_day(&one), Some(36_525));
     assert_eq!(refused(close(&mut one, &mut [0; 2])), (9, 0));
     assert_eq!(numbers::BOOK_FINISHED, 9);
 }
