@@ -103,9 +103,13 @@ monday = 2
 abbrev pub friday : ℕ
 friday = 6
 
--- the list's entry at an index is a day, and later than the entry before it
+-- the list's entry at an index is later than the entry before it
+abbrev pub isLater : List ℤ → ℕ → Bool
+isLater holidays i = eqb i 0 || ltZ (word holidays (i - 1)) (word holidays i)
+
+-- and a day
 unfoldable pub inPlace : List ℤ → ℕ → Bool
-inPlace holidays i = isDay (word holidays i) && (eqb i 0 || ltZ (word holidays (i - 1)) (word holidays i))
+inPlace holidays i = isDay (word holidays i) && isLater holidays i
 
 -- strictly ascending in 0 to 36,524
 unfoldable pub isProper : List ℤ → Bool

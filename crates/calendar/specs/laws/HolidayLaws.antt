@@ -1,6 +1,6 @@
 -- Laws of holiday lists: a proper list ascends, so one index parts the entries before a day from those from it on. Assumes nothing.
 use mathlib.Core.Path.{_≡_, sym, ap, _∙_}
-use mathlib.Core.Bool.{true, false}
+use mathlib.Core.Bool.{true, false, _&&_}
 use mathlib.Core.List.{List}
 use mathlib.Core.Logic.{⊎-elim}
 use Prim.Native.Nat.{ℕ, zero, suc, _+_, _-_, _≤_, _<_}
@@ -8,16 +8,72 @@ use native.Mathlib.Nat.{not-suc-le-zero}
 use native.Mathlib.Numerals.{add-one}
 use native.Mathlib.Omega.{arith}
 use borrow.Author.Tests.{ltb-true, ne-eqb, eq-eqb, eqb-true, eqb-false}
-use lib.Dec.{eqb}
-use lib.IntN.{ℤ, pos}
+use lib.Dec.{T, eqb, leb→le, le→leb, ltb→lt}
+use lib.IntN.{ℤ, pos, negsuc}
 use lib.ListN.{length}
-use lib.Signed.{ltZ}
+use lib.Signed.{leZ, ltZ}
+use Rattle.integer.specs.Below.{all}
 use Rattle.integer.specs.Words.{word}
 use Rattle.integer.specs.laws.BelowLaws.{and-true, either, lt-or-le, all-at}
 use Rattle.integer.specs.laws.CountLaws.{any-at, any-none}
+use Rattle.rulebook.specs.Units.{lastDay}
+use Rattle.rulebook.specs.laws.TestLaws.{and-left, and-right, and-both, tests-same, all-yes, all-at as all-holds}
 use Rattle.calendar.specs.Steps.{entryAt, FirstFrom}
 use Rattle.calendar.specs.laws.DateLaws.{IsDay, of-isDay}
-use Rattle.calendar.specs.Calendar.{isDay, inPlace, isProper, isEntry, isListed}
+use Rattle.calendar.specs.Calendar.{isDay, isLater, inPlace, isProper, isEntry, isListed}
+
+-- ---- A list that ascends, of which the first and the last entry are days
+
+after-is : (a b : ℤ) → T (ltZ a b) → T (leZ (pos 0) a) → T (leZ (pos 0) b)
+after-is (pos m) (pos n) t u = le→leb 0 n (omega arith)
+after-is (pos m) (negsuc n) t u = absurd t
+after-is (negsuc m) b t u = absurd u
+
+before-is : (a b : ℤ) → T (ltZ a b) → T (leZ b (pos lastDay)) → T (leZ a (pos lastDay))
+before-is (pos m) (pos n) t u = le→leb m lastDay (omega (arith, ltb→lt m n t, leb→le n lastDay u))
+before-is (pos m) (negsuc n) t u = absurd t
+before-is (negsuc m) b t u = tt
+
+module _ (holidays : List ℤ) where
+  -- an entry and the next
+  later-next : T (all (length holidays) (isLater holidays)) → (i : ℕ) → i + 1 < length holidays → T (ltZ (word holidays i) (word holidays (i + 1)))
+  later-next t i l =
+      let u = all-holds (length holidays) (isLater holidays) t (i + 1) l in
+      let z : eqb (i + 1) 0 ≡ false = ne-eqb (i + 1) 0 (λ e. omega arith) in
+      let j : i + 1 - 1 ≡ i = omega arith in
+      rw (z, j) at u
+
+  none-below : T (all (length holidays) (isLater holidays)) → T (leZ (pos 0) (word holidays 0)) → (i : ℕ) → i < length holidays → T (leZ (pos 0) (word holidays i))
+  none-below t h zero l = h
+  none-below t h (suc i) l =
+      let s = rw (add-one i) at (later-next t i (omega arith)) in
+      after-is (word holidays i) (word holidays (suc i)) s (none-below t h i (omega arith))
+
+  none-above : T (all (length holidays) (isLater holidays)) → T (leZ (word holidays (length holidays - 1)) (pos lastDay))
+      → (k i : ℕ) → i + k + 1 ≡ length holidays → T (leZ (word holidays i) (pos lastDay))
+  none-above t h zero i e = let j : length holidays - 1 ≡ i = omega arith in rw j at h
+  none-above t h (suc k) i e = before-is (word holidays i) (word holidays (i + 1)) (later-next t i (omega arith)) (none-above t h k (i + 1) (omega arith))
+
+  pub proper-by-ends : 0 < length holidays → isProper holidays ≡ (isDay (word holidays 0) && isDay (word holidays (length holidays - 1)) && all (length holidays) (isLater holidays))
+  unfolding isProper inPlace isDay
+  proper-by-ends some = tests-same (all (length holidays) (inPlace holidays)) (isDay (word holidays 0) && isDay (word holidays (length holidays - 1)) && all (length holidays) (isLater holidays))
+      (λ t. and-both (isDay (word holidays 0) && isDay (word holidays (length holidays - 1))) (all (length holidays) (isLater holidays))
+      (and-both (isDay (word holidays 0)) (isDay (word holidays (length holidays - 1))) (day t 0 some) (day t (length holidays - 1) (omega arith)))
+      (all-yes (length holidays) (isLater holidays) (λ i l. and-right (isDay (word holidays i)) (isLater holidays i) (all-holds (length holidays) (inPlace holidays) t i l))))
+      (λ t. let a = and-right (isDay (word holidays 0) && isDay (word holidays (length holidays - 1))) (all (length holidays) (isLater holidays)) t in
+      let b = and-left (isDay (word holidays 0) && isDay (word holidays (length holidays - 1))) (all (length holidays) (isLater holidays)) t in
+      let f = and-left (isDay (word holidays 0)) (isDay (word holidays (length holidays - 1))) b in
+      let g = and-right (isDay (word holidays 0)) (isDay (word holidays (length holidays - 1))) b in
+      all-yes (length holidays) (inPlace holidays) (λ i l. and-both (isDay (word holidays i)) (isLater holidays i)
+      (and-both (leZ (pos 0) (word holidays i)) (leZ (word holidays i) (pos lastDay))
+      (none-below a (and-left (leZ (pos 0) (word holidays 0)) (leZ (word holidays 0) (pos lastDay)) f) i l)
+      (none-above a (and-right (leZ (pos 0) (word holidays (length holidays - 1))) (leZ (word holidays (length holidays - 1)) (pos lastDay)) g) (length holidays - 1 - i) i (omega arith)))
+      (all-holds (length holidays) (isLater holidays) a i l)))
+    where
+      day : T (all (length holidays) (inPlace holidays)) → (i : ℕ) → i < length holidays → T (isDay (word holidays i))
+      day t i l = and-left (isDay (word holidays i)) (isLater holidays i) (all-holds (length holidays) (inPlace holidays) t i l)
+
+-- ---- The index that parts a list
 
 -- `FirstFrom` with the entries from low to high yet to be looked at
 pub record Bracket (holidays : List ℤ) (d low high : ℕ) : Type 0 where
@@ -83,6 +139,22 @@ module _ (holidays : List ℤ) (proper : isProper holidays ≡ true) where
 
   pub none-listed : (d r : ℕ) → FirstFrom holidays d r → length holidays ≤ r → isListed holidays d ≡ false
   none-listed d r f h = not-listed d r f (λ k. absurd (omega arith))
+
+  -- a day further on: past the entry that is the day, or at the same index
+  pub next-up : (d r : ℕ) → FirstFrom holidays d r → r < length holidays → entryAt holidays r ≡ d → FirstFrom holidays (d + 1) (r + 1)
+  next-up d r f l e = record {
+    within = omega arith;
+    below = λ k q. ⊎-elim (λ n. omega (arith, f .below k n)) (λ n. let j : entryAt holidays k ≡ entryAt holidays r = ap (entryAt holidays) (omega arith) in omega arith) (lt-or-le k r);
+    above = λ k q m. omega (arith, entries-ascend r k (omega arith) m);
+  }
+
+  pub next-same : (d r : ℕ) → FirstFrom holidays d r → (r < length holidays → entryAt holidays r ≡ d → ⊥) → FirstFrom holidays (d + 1) r
+  next-same d r f h = record {
+    within = f .within;
+    below = λ k q. omega (arith, f .below k q);
+    above = λ k q m. ⊎-elim (λ n. omega (arith, entries-ascend r k n m, f .above r (omega arith) (omega arith)))
+        (λ n. let j : entryAt holidays k ≡ entryAt holidays r = ap (entryAt holidays) (omega arith) in omega (arith, f .above r (omega arith) (omega arith), h (omega arith))) (lt-or-le r k);
+  }
 
   -- the entry at m settles all on one side of it
   module _ (d low high m : ℕ) (b : Bracket holidays d low high) (l : low ≤ m) (h : m < high) where

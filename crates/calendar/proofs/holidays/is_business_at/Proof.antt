@@ -1,12 +1,12 @@
--- `is_business_day` meets its contract: a remainder by 7 is at most Friday, so the one test is Monday to Friday.
+-- `is_business_at` meets its contract: a remainder by 7 is at most Friday, so the one test is Monday to Friday.
 use mathlib.Core.Path.{ap}
 use mathlib.Core.Bool.{not}
-use borrow.Author.Needs.{needs}
 use native.Mathlib.Omega.{arith}
 use borrow.Author.Tests.{lt-leb, le-leb}
 use Rattle.calendar.specs.Calendar.{monday, friday, weekdayOf, isBusinessDay}
-use Rattle.calendar.proofs.holidays.is_business_day.Statement.{statement}
-use Rattle.calendar.proofs.holidays.is_business_day.Tie as tie
+use borrow.Author.Needs.{needs}
+use Rattle.calendar.proofs.holidays.is_business_at.Statement.{statement}
+use Rattle.calendar.proofs.holidays.is_business_at.Tie as tie
 
 returns : tie.Need-returns
 unfolding isBusinessDay weekdayOf
@@ -21,5 +21,5 @@ returns-2 c =
     let d = c .before .before .args .day in
     rw (le-leb monday (weekdayOf d) (c .before .if1 .left), le-leb (weekdayOf d) friday (omega arith)) (ap not (c .is-listed .ensures))
 
-pub is-business-day-spec : {M : Type 1} → statement M
-is-business-day-spec = tie.close (tie.spec returns is-listed-requires returns-2)
+pub is-business-at-spec : {M : Type 1} → statement M
+is-business-at-spec = tie.close (tie.spec returns is-listed-requires returns-2)
