@@ -36,6 +36,10 @@ residualsOf n x = record {
 abbrev pub noResiduals : Residuals
 noResiduals = record { loads = replicate intervals (pos 0); spares = replicate intervals 0 }
 
+-- those of a slot, or none
+abbrev pub residualsIf : Bool → ℕ → List ℤ → Residuals
+residualsIf due n x = cond due (residualsOf n x) noResiduals
+
 -- those of interval i
 abbrev pub residualIn : Residuals → ℕ → ResidualAndSpare
 residualIn rs i = record { load = word (rs .loads) i; spare = getD (rs .spares) i 0 }

@@ -39,8 +39,8 @@ abbrev pub totalsOf : ℕ → List ℤ → Totals
 totalsOf n x = record { vested = hedgeTotal n (dataIn x); spare = spareGeneration n (dataIn x) }
 
 -- with one cell more
-abbrev pub more : Totals → List ℤ → Totals
-more t c = record { vested = t .vested + vestedQuantity (cellData c); spare = t .spare + cellData c .uegq }
+abbrev pub withCell : Totals → List ℤ → Totals
+withCell t c = record { vested = t .vested + vestedQuantity (cellData c); spare = t .spare + cellData c .uegq }
 
 -- there is room for one cell more
 abbrev pub Room : Totals → Type 0

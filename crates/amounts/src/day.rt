@@ -14,13 +14,13 @@ use rulebook::layout::interval_length;
 use rulebook::units::INTERVALS;
 use rulebook::units::THOUSANDTHS_PER_CENT;
 ghost use mathlib.Core.Path.{_≡_};
-ghost use mathlib.Core.Bool.{true, cond};
+ghost use mathlib.Core.Bool.{true};
 ghost use Prim.Native.Nat.{_≤_, _<_};
 ghost use lib.IntN.{natAbs};
 ghost use Rattle.rulebook.specs.Units.{intervals};
 ghost use Rattle.rulebook.specs.Shares.{mostAccounts, leastResidual};
 ghost use Rattle.amounts.specs.Cell.{RangedCell};
-ghost use Rattle.amounts.specs.Day.{SlotRanged, DaysRanged, residualsOf, noResiduals, residualIn, amountAt, slotAmount, totalTo, slotPosted};
+ghost use Rattle.amounts.specs.Day.{SlotRanged, DaysRanged, residualsOf, noResiduals, residualsIf, residualIn, amountAt, slotAmount, totalTo, slotPosted};
 
 // R and S of a day's 48 intervals.
 pub struct Residuals {
@@ -63,7 +63,7 @@ fn no_residuals() -> Residuals
 // Those of the slot, where a residual is due.
 pub fn residuals_due(slot: &[i64], due: bool, n: usize) -> Residuals
     requires { ⌜ (due ≡ true → SlotRanged n (now slot)) × (n ≤ mostAccounts) ⌝ }
-    ensures { λ r. ⌜ r ≡ cond due (residualsOf n (now (slot .entry))) noResiduals ⌝ }
+    ensures { λ r. ⌜ r ≡ residualsIf due n (now (slot .entry)) ⌝ }
 {
     if due {
         residuals_of(slot, n)

@@ -12,7 +12,7 @@ ghost use lib.IntN.{pos, natAbs, _-ℤ_};
 ghost use Rattle.rulebook.specs.Units.{mostLoad};
 ghost use Rattle.rulebook.specs.Shares.{mostAccounts, leastResidual};
 ghost use Rattle.amounts.specs.Cell.{RangedCell};
-ghost use Rattle.amounts.specs.Interval.{IntervalRanged, totalsOf, more, Room, residualAt};
+ghost use Rattle.amounts.specs.Interval.{IntervalRanged, totalsOf, withCell, Room, residualAt};
 
 // What all accounts' contracts hedge, and what they have to spare (S).
 pub struct Totals {
@@ -29,7 +29,7 @@ pub struct ResidualAndSpare {
 // The totals with one cell more.
 fn with_cell(totals: Totals, c: &[i64]) -> Totals
     requires { ⌜ RangedCell (now c) × Room totals ⌝ }
-    ensures { λ r. ⌜ r ≡ more totals (now (c .entry)) ⌝ }
+    ensures { λ r. ⌜ r ≡ withCell totals (now (c .entry)) ⌝ }
 {
     Totals {
         vested: totals.vested + vested_quantity(c),

@@ -6,9 +6,9 @@ use lib.IntN.{ℤ}
 use lib.ListN.{length}
 use Rattle.integer.specs.Below.{all}
 use Rattle.integer.specs.Words.{word}
-use Rattle.rulebook.specs.Units.{intervals}
 use Rattle.rulebook.specs.Layout.{intervalLength}
-use Rattle.rulebook.specs.WellFormed.{isZero, intervalFits}
+use Rattle.rulebook.specs.WellFormed as rule
+use Rattle.rulebook.specs.WellFormed.{isZero}
 
 -- every word is zero
 unfoldable pub blank : List ℤ → Bool
@@ -22,7 +22,7 @@ rowWords = 64
 
 -- the intervals of n accounts, one after another
 unfoldable pub intervalsFit : ℕ → Bool → List ℤ → Bool
-intervalsFit n closed xs = all intervals (λ i. intervalFits n closed (λ m. word xs (i * intervalLength n + m)))
+intervalsFit n closed xs = rule.intervalsFit n closed (λ i m. word xs (i * intervalLength n + m))
 
 -- a slot of a day of the window, or a blank one
 unfoldable pub slotFits : ℕ → Bool → Bool → List ℤ → Bool

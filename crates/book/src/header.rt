@@ -13,13 +13,12 @@ ghost use Prim.Native.Nat.{_+_, _≤_, _<_};
 ghost use lib.ListN.{length};
 ghost use Rattle.integer.specs.Integer.{positive, negative};
 ghost use Rattle.integer.specs.Words.{word};
-ghost use Rattle.integer.specs.Below.{all};
 ghost use Rattle.rulebook.specs.Units.{lastDay};
 ghost use Rattle.rulebook.specs.Shares.{mostAccounts};
 ghost use Rattle.rulebook.specs.Terms.{termsFit, InTerms};
 ghost use Rattle.rulebook.specs.Layout.{size, headerWords, balanceWords, balanceWord, msslWord};
 ghost use Rattle.rulebook.specs.BookData.{termsOf, nextDay};
-ghost use Rattle.rulebook.specs.WellFormed.{nextDayFits, headerFits, balanceFits, balanceWordsFit};
+ghost use Rattle.rulebook.specs.WellFormed.{nextDayFits, headerFits, balanceFits, balanceWordsFit, balancesFit};
 
 // Limits, as words.
 const BOOK_MARK: i64 = layout::BOOK_MARK as i64;
@@ -124,7 +123,7 @@ fn balance_words_fit(book: &[i64], closes: usize, a: usize) -> bool
 // "The book": each account's balance and zeros.
 pub fn balances_fit(book: &[i64], n: usize, closes: usize) -> bool
     requires { ⌜ (n ≤ mostAccounts) × (closes ≤ lastDay) × (balanceWord n ≤ length (now book)) ⌝ }
-    ensures { λ r. ⌜ r ≡ all n (balanceWordsFit (now (book .entry)) closes) ⌝ }
+    ensures { λ r. ⌜ r ≡ balancesFit (now (book .entry)) closes n ⌝ }
 {
     let mut ok = true;
     for a in 0..n {

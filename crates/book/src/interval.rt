@@ -9,11 +9,10 @@ use rulebook::layout;
 ghost use mathlib.Core.Path.{_≡_};
 ghost use Prim.Native.Nat.{_≤_};
 ghost use lib.ListN.{length};
-ghost use Rattle.integer.specs.Below.{all};
 ghost use Rattle.integer.specs.Words.{word};
-ghost use Rattle.rulebook.specs.Layout.{intervalWords, accountPlace, intervalLength};
+ghost use Rattle.rulebook.specs.Layout.{intervalWords, intervalLength};
 ghost use Rattle.rulebook.specs.Shares.{mostAccounts};
-ghost use Rattle.rulebook.specs.WellFormed.{accountFits, nccFits, intervalFits};
+ghost use Rattle.rulebook.specs.WellFormed.{nccFits, accountsFit, intervalFits};
 
 // NCC load, NCC present, two zeros.
 fn ncc_fits(interval: &[i64]) -> bool
@@ -36,7 +35,7 @@ fn ncc_fits(interval: &[i64]) -> bool
 // "then 24 words an account"
 fn accounts_fit(interval: &[i64], n: usize, closed: bool) -> bool
     requires { ⌜ (intervalLength n ≤ length (now interval)) × (n ≤ mostAccounts) ⌝ }
-    ensures { λ r. ⌜ r ≡ all n (λ a. accountFits closed (λ q. word (now (interval .entry)) (accountPlace a q))) ⌝ }
+    ensures { λ r. ⌜ r ≡ accountsFit n closed (word (now (interval .entry))) ⌝ }
 {
     let mut ok = true;
     for a in 0..n {

@@ -5,12 +5,17 @@ use mathlib.Core.List.{List}
 use Prim.Native.Nat.{ℕ, _+_, _%_, _≤_, _<_}
 use lib.IntN.{ℤ, pos}
 use lib.ListN.{length}
-use lib.Signed.{_≤ℤ_}
+use lib.Signed.{_≤ℤ_, _<ℤ_}
 use Rattle.integer.specs.Integer.{positive}
 use Rattle.integer.specs.Words.{word}
 use Rattle.calendar.specs.declared.DayReturned.{DayReturned}
 use Rattle.calendar.specs.Calendar.{daysInMonth, dayOf, dateGiven, dateOf, weekdayOf, isBusinessDay, daysAfter, dueAfter, dateAccepted, dateRefused, dayAccepted, dayRefused, weekdayAccepted, weekdayRefused, businessRefused, dateTold, dayTold, weekdayTold, statementTold, businessTold, finalStatementTold, residualDueTold}
-use Rattle.calendar.specs.laws.CalendarLaws.{Ascending}
+
+-- a holiday list: strictly ascending in 0 to 36,524
+pub record Ascending (holidays : List ℤ) : Type 0 where
+  pub from : (i : ℕ) → i < length holidays → pos 0 ≤ℤ word holidays i
+  pub to : (i : ℕ) → i < length holidays → word holidays i ≤ℤ pos 36524
+  pub later : (i j : ℕ) → i < j → j < length holidays → word holidays i <ℤ word holidays j
 
 -- ---- What is given
 

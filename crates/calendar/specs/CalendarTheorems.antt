@@ -10,9 +10,9 @@ use Rattle.integer.specs.declared.Found.the-variants.{At, Nothing}
 use Rattle.rulebook.specs.Units.{lastDay}
 use Rattle.rulebook.specs.Numbers.{pastLastDay}
 use Rattle.calendar.specs.Calendar.{isDay, isMonth, isDate, dayOf, dateGiven, weekdayOf, isProper, isListed, isBusinessDay, daysAfter, isNthAfter, nthAfter, statementDay, dueAfter, dateAccepted, dayAccepted, dayRefused, dateTold, dayTold, finalStatementTold, residualDueTold}
-use Rattle.calendar.specs.laws.CalendarLaws.{day-date-day, date-day-date, weekday-next, Ascending, proper-ascending, ascending-proper, dueAfter-month, finalStatement-is, finalStatement-none, residualDue-is, residualDue-none}
+use Rattle.calendar.specs.laws.CalendarLaws.{day-date-day, date-day-date, weekday-next, proper-ascending, ascending-proper, dueAfter-month, finalStatement-is, finalStatement-none, residualDue-is, residualDue-none}
 use Rattle.calendar.specs.laws.BusinessLaws.{daysAfter-none, daysAfter-suc, nth-unique}
-use Rattle.calendar.specs.CalendarTable.{DayGiven, MonthGiven, DateGiven, Listed, BusinessDay, NthBusinessDay, DateTable, DayTable, WeekdayTable, StatementTable, BusinessTable, FinalTable, DueTable}
+use Rattle.calendar.specs.CalendarTable.{Ascending, DayGiven, MonthGiven, DateGiven, Listed, BusinessDay, NthBusinessDay, DateTable, DayTable, WeekdayTable, StatementTable, BusinessTable, FinalTable, DueTable}
 use Rattle.calendar.specs.laws.CalendarWordLaws.{day-says, month-says, date-says, listed-says, business-says, nth-says, nth-told, nth-absent}
 use Rattle.calendar.specs.laws.CalendarTableLaws.{date-table, day-table, weekday-table, statement-table, business-table, final-table, due-table}
 use Rattle.calendar.specs.examples.CalendarExamples.{CalendarFigures, calendar-figures}

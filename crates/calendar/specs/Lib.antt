@@ -1,6 +1,6 @@
 pub mod Calendar
-pub mod CalendarTheorems
 pub mod CalendarTable
+pub mod CalendarTheorems
 pub mod Steps
 -- figures and examples
 pub mod examples

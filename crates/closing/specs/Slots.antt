@@ -8,7 +8,7 @@ use Rattle.rulebook.specs.declared.Terms.{Terms}
 use Rattle.rulebook.specs.DayAmount.{settlesResidual, residualDay}
 use Rattle.rulebook.specs.Layout.{slotLength, slotStart}
 use Rattle.amounts.specs.declared.day.Residuals.{Residuals}
-use Rattle.amounts.specs.Day.{residualsOf, noResiduals}
+use Rattle.amounts.specs.Day.{residualsIf}
 
 -- the words of day d's slot
 abbrev pub slotWords : Terms → List ℤ → ℕ → List ℤ
@@ -20,4 +20,4 @@ thenDay o D = cond (settlesResidual o D) (residualDay o D) D
 
 -- R and S of each interval of r, none where no residual is due
 unfoldable pub residualsDue : Terms → List ℤ → ℕ → Residuals
-residualsDue o w D = cond (settlesResidual o D) (residualsOf (o .accounts) (slotWords o w (thenDay o D))) noResiduals
+residualsDue o w D = residualsIf (settlesResidual o D) (o .accounts) (slotWords o w (thenDay o D))

@@ -2,17 +2,17 @@
 use mathlib.Core.Path.{_≡_}
 use mathlib.Core.List.{List}
 use Prim.Native.Nat.{ℕ, _+_, _≤_, _<_, _^_}
-use lib.IntN.{ℤ, natAbs, negℤ}
+use lib.IntN.{ℤ, natAbs}
 use lib.ListN.{length, set}
 use Rattle.integer.specs.declared.Found.the-variants.{Nothing}
-use Rattle.integer.specs.Below.{sumℤ}
 use Rattle.integer.specs.Words.{word}
 use Rattle.rulebook.specs.declared.Terms.{Terms}
 use Rattle.rulebook.specs.Units.{lastDay}
+use Rattle.rulebook.specs.DayAmount.{minusSum}
 use Rattle.rulebook.specs.Layout.{balanceWord}
 use Rattle.rulebook.specs.WellFormed.{dayBound}
 use Rattle.rulebook.specs.Close.{firstMissing, posted, postedToMssl}
-use Rattle.book.specs.laws.JudgedLaws.{Formed}
+use Rattle.book.specs.Judged.{Formed}
 
 -- each of the statement's n amounts is at most a day's
 pub record Small (n : ℕ) (st : List ℤ) : Type 0 where
@@ -39,4 +39,4 @@ pub record StatementOf (w : List ℤ) (o : Terms) (D : ℕ) (st : List ℤ) : Ty
 
 -- word n is minus the sum of the n before it
 unfoldable pub withMssl : ℕ → List ℤ → List ℤ
-withMssl n st = set st n (negℤ (sumℤ n (word st)))
+withMssl n st = set st n (minusSum n (word st))

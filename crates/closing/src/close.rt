@@ -22,7 +22,7 @@ ghost use Rattle.rulebook.specs.Close.{firstMissing, residualCount};
 ghost use Rattle.rulebook.specs.Promises.{ClosePromise};
 ghost use Rattle.book.specs.declared.judge.Judged.the-variants.{WellFormed};
 ghost use Rattle.book.specs.Judged.{judgedBook};
-ghost use Rattle.book.specs.laws.JudgedLaws.{Formed};
+ghost use Rattle.book.specs.Judged.{Formed};
 ghost use Rattle.closing.specs.Written.{Settling};
 
 // The flag of the first datum that the close of `day` needs and the book lacks.

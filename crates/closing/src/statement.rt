@@ -6,11 +6,11 @@ use integer::put_word;
 use integer::word_at;
 ghost use mathlib.Core.Path.{_≡_};
 ghost use Prim.Native.Nat.{_≤_, _<_};
-ghost use lib.IntN.{negℤ};
 ghost use lib.ListN.{length};
 ghost use Rattle.integer.specs.Below.{sumℤ};
 ghost use Rattle.integer.specs.Words.{word, filled};
 ghost use Rattle.rulebook.specs.Shares.{mostAccounts};
+ghost use Rattle.rulebook.specs.DayAmount.{minusSum};
 ghost use Rattle.amounts.specs.Day.{DaysRanged, slotPosted};
 ghost use Rattle.closing.specs.Written.{Small, withMssl};
 
@@ -50,7 +50,7 @@ fn amounts_sum(statement: &[i64], n: usize) -> i64
 // The MSSL gets minus that.
 fn mssl_amount(statement: &[i64], n: usize) -> i64
     requires { ⌜ Small n (now statement) × (n ≤ mostAccounts) ⌝ }
-    ensures { λ r. ⌜ r ≡ negℤ (sumℤ n (word (now (statement .entry)))) ⌝ }
+    ensures { λ r. ⌜ r ≡ minusSum n (word (now (statement .entry))) ⌝ }
 {
     0 - amounts_sum(statement, n)
 }

@@ -2,14 +2,12 @@
 use mathlib.Core.Bool.{Bool, true, false}
 use mathlib.Core.List.{List}
 use Prim.Native.Nat.{ℕ, _+_}
-use lib.Dec.{leb}
-use lib.ListN.{length}
 use Rattle.rulebook.specs.declared.Why.{Why}
 use Rattle.rulebook.specs.declared.Why.the-variants.{NotWhole}
 use Rattle.rulebook.specs.declared.Verdict.{Verdict}
 use Rattle.rulebook.specs.declared.Verdict.the-variants.{Accepted, Refused}
-use Rattle.rulebook.specs.File.{num}
-use Rattle.rulebook.specs.Judging.{numberIn}
+use Rattle.rulebook.specs.File.{num, dayWidth}
+use Rattle.rulebook.specs.Judging.{isWhole, numberIn}
 use Rattle.files.specs.declared.fields.FieldRead.{FieldRead}
 use Rattle.files.specs.declared.fields.FieldRead.the-variants.{Whole, Cut}
 use Rattle.files.specs.declared.fields.Outcome.{Outcome}
@@ -29,7 +27,7 @@ wholeOr false f = Cut
 
 -- the field of n bytes at `at`
 unfoldable pub fieldAt : ℕ → List ℕ → ℕ → FieldRead
-fieldAt n s at = wholeOr (leb (at + n) (length s)) (Whole (num n s at) (at + n))
+fieldAt n s at = wholeOr (isWhole n s at) (Whole (num n s at) (at + n))
 
 -- where reading goes on: past a whole field, or where it was
 abbrev pub nextOf : FieldRead → ℕ → ℕ
@@ -45,7 +43,7 @@ past n s at = nextOf (fieldAt n s at) at
 
 -- an account of n bytes at `at`, the day after it, and a count of m bytes after that
 abbrev pub headingAt : ℕ → ℕ → List ℕ → ℕ → Heading
-headingAt n m s at = headingOf (fieldAt n s at) (fieldAt 2 s (past n s at)) (fieldAt m s (past 2 s (past n s at))) (past m s (past 2 s (past n s at)))
+headingAt n m s at = headingOf (fieldAt n s at) (fieldAt dayWidth s (past n s at)) (fieldAt m s (past dayWidth s (past n s at))) (past m s (past dayWidth s (past n s at)))
 
 -- ---- Judged
 

@@ -11,7 +11,7 @@ ghost use Prim.Native.Nat.{_+_, _*_, _≤_, _<_, _^_};
 ghost use lib.ListN.{length};
 ghost use Rattle.rulebook.specs.Units.{intervals};
 ghost use Rattle.rulebook.specs.ReferencePrice.{mostFacilities};
-ghost use Rattle.rulebook.specs.File.{dayPos, countPos, valuesPos, accountAt, dayAt, countAt, valuesOf, rowEndOf, rowsIn};
+ghost use Rattle.rulebook.specs.File.{firstRow, dayPos, countPos, valuesPos, accountAt, dayAt, countAt, valuesOf, rowEndOf, rowsIn};
 
 // The bytes of a section's count of rows, of a row's day and of each of its values.
 pub const ROWS_BYTES: usize = 2;
@@ -25,7 +25,7 @@ pub const VALUE_BYTES: usize = 4;
 // The first row of the section at a position.
 pub fn first_row(at: usize) -> usize
     requires { ⌜ at < 2 ^ 63 ⌝ }
-    ensures { λ r. ⌜ r ≡ at + 2 ⌝ }
+    ensures { λ r. ⌜ r ≡ firstRow at ⌝ }
 {
     at + ROWS_BYTES
 }

@@ -28,7 +28,7 @@ module _ (Read : ℕ → List ℕ → Type 0) where
     next : {t : Turn} (read : List ℕ) → Reached book opening t → t .more ≡ true → Read (t .position) read → Reached book opening (turn (t .accounts) (t .position) (t .book) read)
 
   -- what a run leaves: the book and the line of a turn that it reached
-  pub record Leaves (book : List ℤ) (opening : List ℕ) (bookAfter : List ℤ) (lineAfter : List ℕ) : Type 0 where
+  pub record RunLeaves (book : List ℤ) (opening : List ℕ) (bookAfter : List ℤ) (lineAfter : List ℕ) : Type 0 where
     pub last : Turn
     pub reached : Reached book opening last
     pub bookLeft : bookAfter ≡ last .book
@@ -36,12 +36,12 @@ module _ (Read : ℕ → List ℕ → Type 0) where
 
   -- all of a run: where every line was written, it ended because nothing more was to be read
   pub record Runs (book : List ℤ) (opening : List ℕ) (written : Bool) (bookAfter : List ℤ) (lineAfter : List ℕ) : Type 0 where
-    pub left : Leaves book opening bookAfter lineAfter
+    pub left : RunLeaves book opening bookAfter lineAfter
     pub whole : written ≡ true → (left .last .more ≡ false) ⊎ (farthest ≤ left .last .position)
 
   -- and between two turns, with what the last one handed on
   pub record Stands (book : List ℤ) (opening : List ℕ) (r : Handed) (bookNow : List ℤ) (lineNow : List ℕ) : Type 0 where
-    pub left : Leaves book opening bookNow lineNow
+    pub left : RunLeaves book opening bookNow lineNow
     pub ended : r .end ≡ length (left .last .line)
     pub counted : r .accounts ≡ left .last .accounts
     pub placed : r .position ≡ left .last .position

@@ -14,7 +14,7 @@ ghost use Prim.Native.Nat.{_≤_, _<_};
 ghost use lib.ListN.{length, drop};
 ghost use Rattle.console.specs.Lines.{lineRoom};
 ghost use Rattle.interpreter.specs.Interpreter.{mostAccounts, newWords, Performs};
-ghost use Rattle.interpreter.specs.Running.{RestOf, Leaves};
+ghost use Rattle.interpreter.specs.Running.{RestOf, RunLeaves};
 
 // The longest input.
 const FRAME_BYTES: usize = 40000;
@@ -53,7 +53,7 @@ fn item(book: &mut [i64], turn: Handed, s: &[u8], line: &mut [u8]) -> Handed
 // An input on a new book.
 fn run(book: &mut [i64], s: &[u8], line: &mut [u8])
     requires { ⌜ (now book ≡ newWords) × (length (now s) ≤ 40000) × (lineRoom ≤ length (now line)) ⌝ }
-    ensures { λ _. ⌜ Leaves (RestOf (now (s .entry))) newWords (now (s .entry)) (now (book .exit)) (now (line .exit)) ⌝ }
+    ensures { λ _. ⌜ RunLeaves (RestOf (now (s .entry))) newWords (now (s .entry)) (now (book .exit)) (now (line .exit)) ⌝ }
 {
     let mut turn = begin(book, s, line);
     while print(line, turn.end) && turn.more {

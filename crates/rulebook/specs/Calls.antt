@@ -13,7 +13,7 @@ use Rattle.rulebook.specs.declared.Kind.the-variants.{Quantity, Injectio
 use Rattle.rulebook.specs.declared.Kind.{Kind}
 use Rattle.rulebook.specs.Units.{inRange, between, asQuantity}
 use Rattle.rulebook.specs.ReferencePrice.{mostFacilities, referencePrice}
-use Rattle.rulebook.specs.Shares.{mostAccounts, leastResidual, mostResidual, share}
+use Rattle.rulebook.specs.Shares.{mostAccounts, leastResidual, mostResidual, share, spareOf}
 use Rattle.rulebook.specs.Tranches.{tranche1, tranche2}
 use Rattle.rulebook.specs.declared.PriceReturned.{PriceReturned}
 use Rattle.rulebook.specs.declared.TrancheReturned.{TrancheReturned}
@@ -53,9 +53,9 @@ pub record SharesIn (r : ℤ) (uegq : List ℤ) : Type 0 where
   pub few : length uegq ≤ mostAccounts
   pub quantities : allInRange Quantity uegq ≡ true
 
--- S
-abbrev pub spareGeneration : List ℤ → ℕ
-spareGeneration uegq = sumℕ (length uegq) (λ b. asQuantity (word uegq b))
+-- S of the list
+abbrev pub spareIn : List ℤ → ℕ
+spareIn uegq = spareOf (length uegq) (λ b. asQuantity (word uegq b))
 
 -- one word an account
 unfoldable pub shareWord : ℤ → List ℤ → ℕ → ℤ

@@ -7,7 +7,7 @@ use Rattle.integer.specs.Below.{sumℕ, sumℤ}
 use Rattle.rulebook.specs.declared.Terms.{Terms}
 use Rattle.rulebook.specs.Units.{intervals, nearest, thousandthsPerCent}
 use Rattle.rulebook.specs.ReferencePrice.{referencePrice}
-use Rattle.rulebook.specs.Shares.{share, ShareTotal}
+use Rattle.rulebook.specs.Shares.{share, ShareTotal, spareOf}
 use Rattle.rulebook.specs.Tranches.{tranche1, tranche2}
 
 -- ---- Data
@@ -71,7 +71,7 @@ module _ (n : ℕ) (x : ℕ → AccountData) where
 
   -- S, the sum of UEGQ
   unfoldable pub spareGeneration : ℕ
-  spareGeneration = sumℕ n (λ b. x b .uegq)
+  spareGeneration = spareOf n (λ b. x b .uegq)
 
 -- R, of NCC load and hedge total
 abbrev pub residualOver : ℕ → ℕ → ℤ
@@ -96,6 +96,10 @@ abbrev pub IntervalShares : ℕ → ℕ → (ℕ → AccountData) → Type 0
 IntervalShares load n x = ShareTotal (rvq load n x) (residualLoad load n x) n (λ b. x b .uegq)
 
 -- ---- The day
+
+-- of n amounts
+abbrev pub minusSum : ℕ → (ℕ → ℤ) → ℤ
+minusSum n f = negℤ (sumℤ n f)
 
 -- a day's amount in thousandths of a cent is posted as the nearest whole cent
 abbrev pub inCents : ℤ → ℤ
@@ -126,8 +130,8 @@ module _ (o : Terms) where
 
   -- the MSSL gets minus the sum of the posted amounts
   unfoldable pub msslAmount : SettlementData → ℕ → ℤ
-  msslAmount x D = negℤ (sumℤ (o .accounts) (λ a. postedAmount x a D))
+  msslAmount x D = minusSum (o .accounts) (λ a. postedAmount x a D)
 
   -- its exact amount, to which that is near: minus the sum of the exact amounts
   unfoldable pub msslExact : SettlementData → ℕ → ℤ
-  msslExact x D = negℤ (sumℤ (o .accounts) (λ a. exactAmount x a D))
+  msslExact x D = minusSum (o .accounts) (λ a. exactAmount x a D)

@@ -48,13 +48,23 @@ countBytes Meter = 1
 countBytes Residual = 0
 countBytes Ncc = 0
 
+-- those of a section's count of rows, of a row's day, and of a value
+abbrev pub rowsWidth : ℕ
+rowsWidth = 2
+
+abbrev pub dayWidth : ℕ
+dayWidth = 2
+
+abbrev pub valueWidth : ℕ
+valueWidth = 4
+
 -- ---- Where a row's fields stand, the row at `at`, and what they say
 
 abbrev pub dayPos : Section → ℕ → ℕ
 dayPos sec at = at + accountBytes sec
 
 abbrev pub countPos : Section → ℕ → ℕ
-countPos sec at = dayPos sec at + 2
+countPos sec at = dayPos sec at + dayWidth
 
 abbrev pub valuesPos : Section → ℕ → ℕ
 valuesPos sec at = countPos sec at + countBytes sec
@@ -63,10 +73,14 @@ abbrev pub accountAt : Section → List ℕ → ℕ → ℕ
 accountAt sec s at = num (accountBytes sec) s at
 
 abbrev pub dayAt : Section → List ℕ → ℕ → ℕ
-dayAt sec s at = num 2 s (dayPos sec at)
+dayAt sec s at = num dayWidth s (dayPos sec at)
 
 abbrev pub countAt : Section → List ℕ → ℕ → ℕ
 countAt sec s at = num (countBytes sec) s (countPos sec at)
+
+-- value k of those that start at `from`
+abbrev pub valuePos : ℕ → ℕ → ℕ
+valuePos from k = from + valueWidth * k
 
 -- how many values a row of a tranche or facility count has
 abbrev pub valuesOf : Section → ℕ → ℕ
@@ -74,7 +88,7 @@ valuesOf sec count = intervals * perInterval sec count
 
 -- and where it ends
 abbrev pub rowEndOf : Section → ℕ → ℕ → ℕ
-rowEndOf sec at count = valuesPos sec at + 4 * valuesOf sec count
+rowEndOf sec at count = valuePos (valuesPos sec at) (valuesOf sec count)
 
 -- the row's own, by the count that it says
 abbrev pub valuesIn : Section → List ℕ → ℕ → ℕ
@@ -91,10 +105,13 @@ rowPos sec s first i = turns i (λ _ at. rowEnd sec s at) first
 
 -- a section at `at`: the count of its rows in 2 bytes, then the rows
 abbrev pub rowsIn : List ℕ → ℕ → ℕ
-rowsIn s at = num 2 s at
+rowsIn s at = num rowsWidth s at
+
+abbrev pub firstRow : ℕ → ℕ
+firstRow at = at + rowsWidth
 
 unfoldable pub sectionEnd : Section → List ℕ → ℕ → ℕ
-sectionEnd sec s at = rowPos sec s (at + 2) (rowsIn s at)
+sectionEnd sec s at = rowPos sec s (firstRow at) (rowsIn s at)
 
 -- where the four sections start, and where the last ends
 abbrev pub meterPos : List ℕ → ℕ
@@ -125,11 +142,11 @@ rowAt sec s at = record {
   account = accountAt sec s at;
   day = dayAt sec s at;
   count = countAt sec s at;
-  numbers = tabulate (valuesIn sec s at) (λ k. valueAt s (valuesPos sec at + 4 * k));
+  numbers = tabulate (valuesIn sec s at) (λ k. valueAt s (valuePos (valuesPos sec at) k));
 }
 
 unfoldable pub sectionRows : Section → List ℕ → ℕ → List Row
-sectionRows sec s at = tabulate (rowsIn s at) (λ i. rowAt sec s (rowPos sec s (at + 2) i))
+sectionRows sec s at = tabulate (rowsIn s at) (λ i. rowAt sec s (rowPos sec s (firstRow at) i))
 
 -- the rows of a file, in file order
 unfoldable pub fileRows : List ℕ → List Row

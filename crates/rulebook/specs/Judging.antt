@@ -13,10 +13,9 @@ use Rattle.rulebook.specs.declared.Why.{Why}
 use Rattle.rulebook.specs.declared.Why.the-variants.{NotWhole, OutOfRange, DayNotOpen, Repeated, Excess}
 use Rattle.rulebook.specs.declared.Verdict.{Verdict}
 use Rattle.rulebook.specs.declared.Verdict.the-variants.{Accepted, Refused}
-use Rattle.rulebook.specs.Units.{inRange}
-use Rattle.rulebook.specs.Sections.{leastCount, mostCount, kindOf}
+use Rattle.rulebook.specs.Sections.{leastCount, mostCount, valueInRange}
 use Rattle.rulebook.specs.Layout.{windowFrom, windowTo}
-use Rattle.rulebook.specs.File.{num, accountBytes, countBytes, dayPos, countPos, valuesPos, accountAt, dayAt, valuesIn, valueAt, rowPos, rowsIn, meterPos, residualPos, nccPos, endPos}
+use Rattle.rulebook.specs.File.{num, accountBytes, countBytes, dayPos, countPos, valuesPos, accountAt, dayAt, valuesIn, valueAt, rowPos, rowsIn, meterPos, residualPos, nccPos, endPos, rowsWidth, dayWidth, valueWidth, valuePos, firstRow}
 
 -- ---- Checks in order
 
@@ -55,9 +54,13 @@ limitsOf o C = record {
 
 -- ---- Fields
 
--- the n bytes at `at` are all there, else 4
+-- the n bytes at `at` are all there
+abbrev pub isWhole : ℕ → List ℕ → ℕ → Bool
+isWhole n s at = leb (at + n) (length s)
+
+-- else 4
 abbrev pub whole : ℕ → List ℕ → ℕ → Verdict
-whole n s at = require (leb (at + n) (length s)) NotWhole at
+whole n s at = require (isWhole n s at) NotWhole at
 
 -- the number v, read at `at`: from low to high, else refused for `why`
 abbrev pub numberIn : ℕ → ℕ → Why → ℕ → ℕ → Verdict
@@ -70,8 +73,8 @@ fieldIn n low high why s at = whole n s at andThen numberIn low high why (num n 
 -- value k of a row whose values start at `from`: whole, in range
 unfoldable pub value : Section → List ℕ → ℕ → ℕ → Verdict
 value sec s from k =
-    whole 4 s (from + 4 * k)
-    andThen require (inRange (kindOf sec k) (valueAt s (from + 4 * k))) OutOfRange (from + 4 * k)
+    whole valueWidth s (valuePos from k)
+    andThen require (valueInRange sec k (valueAt s (valuePos from k))) OutOfRange (valuePos from k)
 
 -- ---- A row
 
@@ -79,7 +82,7 @@ value sec s from k =
 unfoldable pub key : Limits → Section → List ℕ → ℕ → Verdict
 key l sec s at =
     fieldIn (accountBytes sec) 0 (l .accounts - 1) OutOfRange s at
-    andThen fieldIn 2 (openFrom l sec) (l .last) DayNotOpen s (dayPos sec at)
+    andThen fieldIn dayWidth (openFrom l sec) (l .last) DayNotOpen s (dayPos sec at)
 
 -- some row before row i of the section has account a and day d
 unfoldable pub given : Section → List ℕ → ℕ → ℕ → ℕ → ℕ → Bool
@@ -108,7 +111,7 @@ judgedRow l sec s first i =
 
 -- the section at `at`: its count whole, then its rows
 unfoldable pub judgedSection : Limits → Section → List ℕ → ℕ → Verdict
-judgedSection l sec s at = whole 2 s at andThen upTo (rowsIn s at) (judgedRow l sec s (at + 2))
+judgedSection l sec s at = whole rowsWidth s at andThen upTo (rowsIn s at) (judgedRow l sec s (firstRow at))
 
 -- the four sections, and no byte after them
 unfoldable pub judged : Limits → List ℕ → Verdict

@@ -10,14 +10,14 @@ use mathlib.Core.List.{List, [], _∷_}
 use mathlib.Core.Option.{Option, none, some}
 use Prim.Native.Nat.{ℕ, suc, _+_, _-_, _*_, _≤_, _<_}
 use lib.Dec.{T}
-use lib.IntN.{ℤ, pos, negℤ, natAbs}
+use lib.IntN.{ℤ, pos, natAbs}
 use lib.ListN.{length, getD}
-use Rattle.integer.specs.Below.{sumℤ}
 use Rattle.integer.specs.Words.{word}
 use Rattle.rulebook.specs.declared.Section.{Section}
 use Rattle.rulebook.specs.declared.Section.the-variants.{Vesting, Meter}
 use Rattle.rulebook.specs.declared.Terms.{Terms}
 use Rattle.rulebook.specs.Units.{lastDay, intervals}
+use Rattle.rulebook.specs.DayAmount.{minusSum}
 use Rattle.rulebook.specs.Sections.{accountsOf, leastCount, mostCount, perInterval, valueInRange}
 use Rattle.rulebook.specs.Layout.{width, intervalSize, ring, size, InWindow, intervalWord, rowWord, padding, isPadding, intervalTable, accountTable, accountPlace, intervalWords, accountWords, bookMark, markWord, accountsWord, lagWord, horizonWord, firstDayWord, nextDayWord, msslWord, balanceWord, balancePadding, headerPadding, headerPaddingWords, balancePaddingWords}
 use Rattle.rulebook.specs.BookData.{Entries, termsOf, nextDay, entriesOf}
@@ -47,7 +47,7 @@ entriesIn rows s a d i j = entryOf (rows s a d) i j
 
 -- of k closed days, rows in force and balances; the MSSL has minus their sum
 abbrev pub ledger : Terms → ℕ → RowsInForce → (ℕ → ℤ) → Ledger
-ledger o k rows balance = record { closed = k; entries = entriesIn rows; balance = balance; mssl = negℤ (sumℤ (o .accounts) balance) }
+ledger o k rows balance = record { closed = k; entries = entriesIn rows; balance = balance; mssl = minusSum (o .accounts) balance }
 
 abbrev pub ledgerAfter : Terms → List Event → Ledger
 ledgerAfter o past = ledger o (closes past) (inForce past) (formulaBalance o past)

@@ -36,8 +36,8 @@ pub mod Bounds
 -- between the words and the history: what each call keeps
 pub mod Ledger
 -- what is proved
-pub mod Theorems
 pub mod FileTheorems
+pub mod Theorems
 -- figures and examples
 pub mod examples
 -- laws and proofs

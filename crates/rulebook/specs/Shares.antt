@@ -21,9 +21,13 @@ mostResidual = 1000000000
 unfoldable pub shareOf : ℤ → ℕ → ℕ → ℕ
 shareOf r s u = cond (leZ r (pos 0) || eqb s 0) 0 (cond (leZ (pos s) r) u (positive r * u / s))
 
--- the share of account a of n; S is the sum of UEGQ
+-- S, the sum of n accounts' UEGQ
+abbrev pub spareOf : ℕ → (ℕ → ℕ) → ℕ
+spareOf n uegq = sumℕ n uegq
+
+-- the share of account a of n
 unfoldable pub share : ℤ → ℕ → (ℕ → ℕ) → ℕ → ℕ
-share r n uegq a = shareOf r (sumℕ n uegq) (uegq a)
+share r n uegq a = shareOf r (spareOf n uegq) (uegq a)
 
 -- ---- What the rule says of it
 
@@ -40,6 +44,6 @@ pub record RuleShare (r : ℤ) (s u q : ℕ) : Type 0 where
 -- with S the spare generation and max(R, 0) the residual load: the shares q total at most each, and fall short of the smaller by fewer kWh
 -- than there are accounts
 pub record ShareTotal (q : ℕ → ℕ) (r : ℤ) (n : ℕ) (uegq : ℕ → ℕ) : Type 0 where
-  pub spare : sumℕ n q ≤ sumℕ n uegq
+  pub spare : sumℕ n q ≤ spareOf n uegq
   pub residual : sumℕ n q ≤ positive r
-  pub short : 0 < n → min (sumℕ n uegq) (positive r) < sumℕ n q + n
+  pub short : 0 < n → min (spareOf n uegq) (positive r) < sumℕ n q + n

@@ -63,9 +63,17 @@ accountFits closed f = paddingZero accountTable f && rowFits Vesting (wordOfRow 
 unfoldable pub nccFits : (ℕ → ℤ) → Bool
 nccFits f = paddingZero intervalTable f && rowFits Ncc (wordOfRow f Ncc)
 
--- its own, then those of each account
+-- those of each account
+abbrev pub accountsFit : ℕ → Bool → (ℕ → ℤ) → Bool
+accountsFit n closed f = all n (λ a. accountFits closed (λ q. f (accountPlace a q)))
+
+-- its own, then those
 unfoldable pub intervalFits : ℕ → Bool → (ℕ → ℤ) → Bool
-intervalFits n closed f = nccFits f && all n (λ a. accountFits closed (λ q. f (accountPlace a q)))
+intervalFits n closed f = nccFits f && accountsFit n closed f
+
+-- a day's intervals, f i being the words of interval i
+abbrev pub intervalsFit : ℕ → Bool → (ℕ → ℕ → ℤ) → Bool
+intervalsFit n closed f = all intervals (λ i. intervalFits n closed (f i))
 
 unfoldable pub intervalBlank : ℕ → (ℕ → ℤ) → Bool
 intervalBlank n f = all (intervalLength n) (λ m. isZero (f m))
@@ -86,7 +94,7 @@ module _ (o : Terms) (w : List ℤ) where
 
   -- a slot of a day, closed or open: each interval fits
   unfoldable pub datedFits : Bool → ℕ → Bool
-  datedFits closed t = all intervals (λ i. intervalFits (o .accounts) closed (intervalAt t i))
+  datedFits closed t = intervalsFit (o .accounts) closed (intervalAt t)
 
   -- day d's slot: the days before C are closed
   unfoldable pub dayFits : ℕ → ℕ → Bool
@@ -106,6 +114,10 @@ balanceFits n k z = leb (natAbs z) (n * (k * dayBound))
 unfoldable pub balanceWordsFit : List ℤ → ℕ → ℕ → Bool
 balanceWordsFit w k a = balanceFits 1 k (word w (balanceWord a)) && all balancePaddingWords (λ j. isZero (word w (balancePadding a j)))
 
+-- those of n accounts
+abbrev pub balancesFit : List ℤ → ℕ → ℕ → Bool
+balancesFit w k n = all n (balanceWordsFit w k)
+
 -- C from F to 36,525
 abbrev pub nextDayFits : List ℤ → Bool
 nextDayFits w = between (word w firstDayWord) (pos (suc lastDay)) (word w nextDayWord)
@@ -118,7 +130,7 @@ headerFits w = between (pos bookMark) (pos bookMark) (word w markWord) && termsF
 
 -- with its terms, C the next day to close: balances and days
 unfoldable pub contentsFit : Terms → List ℤ → ℕ → Bool
-contentsFit o w C = balanceFits (o .accounts) (C - o .first) (word w msslWord) && all (o .accounts) (balanceWordsFit w (C - o .first)) && daysFit o w C
+contentsFit o w C = balanceFits (o .accounts) (C - o .first) (word w msslWord) && balancesFit w (C - o .first) (o .accounts) && daysFit o w C
 
 unfoldable pub fits : Terms → List ℤ → ℕ → Bool
 fits o w C = headerFits w && leb (size o) (length w) && contentsFit o w C

@@ -18,7 +18,7 @@ ghost use Rattle.rulebook.specs.declared.Kind.the-variants.{Quantity};
 ghost use Rattle.rulebook.specs.Units.{mostQuantity};
 ghost use Rattle.rulebook.specs.Shares.{mostAccounts, leastResidual, shareOf};
 ghost use Rattle.rulebook.specs.Numbers.{shareNumber, ShareReturned};
-ghost use Rattle.rulebook.specs.Calls.{allInRange, shareInput, spareGeneration, shareWord, shareCall};
+ghost use Rattle.rulebook.specs.Calls.{allInRange, shareInput, spareIn, shareWord, shareCall};
 ghost use Rattle.rules.specs.SpareTold.{spareWhere};
 
 // The share of an account with UEGQ u, of the residual load r, where all UEGQ total s.
@@ -59,7 +59,7 @@ fn spare_generation(uegq: &[i64]) -> Spare
 
 // The word that account a's share is written as, where s is S.
 fn share_at(r: i64, s: u64, uegq: &[i64], a: usize) -> i64
-    requires { ⌜ (natAbs r ≤ leastResidual) × (a < length (now uegq)) × (allInRange Quantity (now uegq) ≡ true) × (s ≡ spareGeneration (now uegq)) ⌝ }
+    requires { ⌜ (natAbs r ≤ leastResidual) × (a < length (now uegq)) × (allInRange Quantity (now uegq) ≡ true) × (s ≡ spareIn (now uegq)) ⌝ }
     ensures { λ w. ⌜ w ≡ shareWord r (now (uegq .entry)) a ⌝ }
 {
     signed(share_of(r, s, quantity_at(uegq, a)))
@@ -67,7 +67,7 @@ fn share_at(r: i64, s: u64, uegq: &[i64], a: usize) -> i64
 
 // Writes one share an account, where s is S, and keeps the words beyond.
 fn put_shares(r: i64, s: u64, uegq: &[i64], output: &mut [i64])
-    requires { ⌜ (natAbs r ≤ leastResidual) × (s ≡ spareGeneration (now uegq)) × (allInRange Quantity (now uegq) ≡ true) × (length (now uegq) ≤ length (now output)) ⌝ }
+    requires { ⌜ (natAbs r ≤ leastResidual) × (s ≡ spareIn (now uegq)) × (allInRange Quantity (now uegq) ≡ true) × (length (now uegq) ≤ length (now output)) ⌝ }
     ensures { λ _. ⌜ now (output .exit) ≡ filled (length (now (uegq .entry))) (shareWord r (now (uegq .entry))) (now (output .entry)) ⌝ }
 {
     for a in 0..uegq.len() {

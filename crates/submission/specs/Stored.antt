@@ -12,7 +12,7 @@ use Rattle.rulebook.specs.declared.Terms.{Terms}
 use Rattle.rulebook.specs.Units.{intervals}
 use Rattle.rulebook.specs.Sections.{accountsOf, mostCount, perInterval}
 use Rattle.rulebook.specs.Layout.{present, width, flagIndex}
-use Rattle.rulebook.specs.File.{accountAt, dayAt, countAt, rowEnd, valueAt, rowAt, rowPos, rowsIn, meterPos, residualPos, nccPos}
+use Rattle.rulebook.specs.File.{accountAt, dayAt, countAt, rowEnd, valuePos, firstRow, valueAt, rowAt, rowPos, rowsIn, meterPos, residualPos, nccPos}
 use Rattle.rulebook.specs.Submit.{rowStored}
 use Rattle.submission.specs.declared.store.Form.{Form}
 
@@ -23,7 +23,7 @@ formOf sec count = record { words = width sec; place = flagIndex sec; flag = pre
 
 -- number k of n that start at `from`; zero where there is no such number
 unfoldable pub numberFrom : ℕ → List ℕ → ℕ → ℕ → ℤ
-numberFrom n s from k = cond (ltb k n) (valueAt s (from + 4 * k)) (pos 0)
+numberFrom n s from k = cond (ltb k n) (valueAt s (valuePos from k)) (pos 0)
 
 -- which number word j is, where the flag stands at a place
 abbrev pub valueNumber : ℕ → ℕ → ℕ
@@ -35,7 +35,7 @@ wordFrom form s from j = cond (eqb j (form .place)) (pos (form .flag)) (numberFr
 
 -- the words of interval i of a row whose numbers start at `from`
 unfoldable pub rowFrom : Form → List ℕ → ℕ → ℕ → ℕ → ℤ
-rowFrom form s from i = wordFrom form s (from + 4 * (i * form .values))
+rowFrom form s from i = wordFrom form s (valuePos from (i * form .values))
 
 -- ---- Rows
 
@@ -51,8 +51,8 @@ pub record RowFits (o : Terms) (sec : Section) (s : List ℕ) (at : ℕ) : Type 
   pub whole : rowEnd sec s at ≤ length s
 
 pub record SectionFits (o : Terms) (sec : Section) (s : List ℕ) (at : ℕ) : Type 0 where
-  pub start : at + 2 ≤ length s
-  pub rows : (i : ℕ) → i < rowsIn s at → RowFits o sec s (rowPos sec s (at + 2) i)
+  pub start : firstRow at ≤ length s
+  pub rows : (i : ℕ) → i < rowsIn s at → RowFits o sec s (rowPos sec s (firstRow at) i)
 
 pub record FileFits (o : Terms) (s : List ℕ) : Type 0 where
   pub vesting : SectionFits o Vesting s 0

@@ -15,9 +15,9 @@ use Rattle.rulebook.specs.DayAmount.{vestedQuantity, hedgeTotal, spareGeneratio
 use Rattle.rulebook.specs.Layout.{cellOf}
 use Rattle.rulebook.specs.Bounds.{Sized}
 use Rattle.rulebook.specs.laws.SizeLaws.{all-vested-size, spare-size, residual-load-size}
-use Rattle.amounts.specs.Interval.{IntervalRanged, loadIn, dataIn, totalsOf, more, Room}
+use Rattle.amounts.specs.Interval.{IntervalRanged, loadIn, dataIn, totalsOf, withCell, Room}
 
-pub totals-suc : (n : ℕ) (x : List ℤ) → totalsOf (n + 1) x ≡ more (totalsOf n x) (cellOf x n)
+pub totals-suc : (n : ℕ) (x : List ℤ) → totalsOf (n + 1) x ≡ withCell (totalsOf n x) (cellOf x n)
 unfolding hedgeTotal spareGeneration
 totals-suc n x = rw (fold-suc _+_ 0 n (λ b. vestedQuantity (dataIn x b)), fold-suc _+_ 0 n (λ b. dataIn x b .uegq))
 

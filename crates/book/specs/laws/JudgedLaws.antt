@@ -2,37 +2,24 @@
 use mathlib.Core.Path.{_≡_, refl, sym, subst}
 use mathlib.Core.Bool.{Bool, true, false, cond}
 use mathlib.Core.List.{List}
-use Prim.Native.Nat.{ℕ, suc, _≤_}
+use Prim.Native.Nat.{ℕ}
 use native.Mathlib.Omega.{arith}
 use lib.Dec.{T}
 use lib.IntN.{ℤ}
-use lib.ListN.{length}
 use Rattle.rulebook.specs.declared.Terms.{Terms}
-use Rattle.rulebook.specs.Units.{lastDay}
 use Rattle.rulebook.specs.Terms.{InTerms}
-use Rattle.rulebook.specs.Layout.{size}
 use Rattle.rulebook.specs.BookData.{termsOf, nextDay}
 use Rattle.rulebook.specs.WellFormed.{wellFormed}
 use Rattle.rulebook.specs.laws.FormedLaws.{formed-holds, opened-of, next-of}
 use Rattle.book.specs.declared.judge.Judged.the-variants.{WellFormed, IllFormed}
-use Rattle.book.specs.Judged.{judgedBook}
+use Rattle.book.specs.Judged.{judgedBook, Formed}
 
 module _ (w : List ℤ) where
-  -- the book is well formed, of these terms and this next day
-  pub record Formed (o : Terms) (C : ℕ) : Type 0 where
-    pub formed : wellFormed w ≡ true
-    pub terms : termsOf w ≡ o
-    pub next : nextDay w ≡ C
-    pub inTerms : InTerms o
-    pub begun : o .first ≤ C
-    pub ended : C ≤ suc lastDay
-    pub room : size o ≤ length w
-
-  pub book-formed : (o : Terms) (C : ℕ) → judgedBook w ≡ WellFormed o C → Formed o C
+  pub book-formed : (o : Terms) (C : ℕ) → judgedBook w ≡ WellFormed o C → Formed w o C
   unfolding judgedBook
   book-formed o C e = go (wellFormed w) refl e
     where
-      go : (b : Bool) → wellFormed w ≡ b → cond b (WellFormed (termsOf w) (nextDay w)) IllFormed ≡ WellFormed o C → Formed o C
+      go : (b : Bool) → wellFormed w ≡ b → cond b (WellFormed (termsOf w) (nextDay w)) IllFormed ≡ WellFormed o C → Formed w o C
       go true f e =
           let t : T (wellFormed w) = subst T (sym f) tt in
           let x : termsOf w ≡ o = cc in

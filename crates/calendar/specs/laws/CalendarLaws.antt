@@ -23,6 +23,7 @@ use Rattle.calendar.specs.laws.DateLaws.{dayOf-dateOf, dateOf-dayOf, isD
 use Rattle.calendar.specs.Steps.{entryAt}
 use Rattle.calendar.specs.laws.HolidayLaws.{entry-is-day, entries-ascend}
 use Rattle.calendar.specs.laws.BusinessLaws.{of-isNth, nth-found, nth-none, nth-is, nth-nothing}
+use Rattle.calendar.specs.CalendarTable.{Ascending}
 use Rattle.calendar.specs.Calendar.{isDay, isDate, isMonth, dayOf, dateGiven, weekdayOf, inPlace, isProper, isEntry, isListed, isBusinessDay, daysAfter, isNthAfter, nthAfter, statementDay, finalStatement, dueAfter, dueDay, dateAccepted, dayAccepted, dayRefused, checked, upToLastDay, searchTold, dateTold, dayTold, finalStatementTold, residualDueTold}
 
 -- ---- Day to date and back
@@ -47,12 +48,6 @@ unfolding weekdayOf
 weekday-next d = omega arith
 
 -- ---- Holiday lists
-
--- strictly ascending in 0 to 36,524
-pub record Ascending (holidays : List ℤ) : Type 0 where
-  pub from : (i : ℕ) → i < length holidays → pos 0 ≤ℤ word holidays i
-  pub to : (i : ℕ) → i < length holidays → word holidays i ≤ℤ pos lastDay
-  pub later : (i j : ℕ) → i < j → j < length holidays → word holidays i <ℤ word holidays j
 
 pub proper-ascending : (holidays : List ℤ) → isProper holidays ≡ true → Ascending holidays
 proper-ascending holidays p =

@@ -14,7 +14,8 @@ use Rattle.integer.specs.declared.Found.the-variants.{At, Nothing}
 use Rattle.rulebook.specs.Units.{lastDay}
 use Rattle.calendar.specs.laws.DateLaws.{within-true, true-within, of-isMonth}
 use Rattle.calendar.specs.laws.BusinessLaws.{isNth-of, of-isNth, nth-found, nth-is, nth-nothing}
-use Rattle.calendar.specs.laws.CalendarLaws.{Ascending, proper-ascending, ascending-proper, listed-entry, entry-listed}
+use Rattle.calendar.specs.CalendarTable.{Ascending}
+use Rattle.calendar.specs.laws.CalendarLaws.{proper-ascending, ascending-proper, listed-entry, entry-listed}
 use Rattle.calendar.specs.Calendar.{isDay, isDate, isMonth, daysInMonth, dateGiven, weekdayOf, within, isProper, isListed, isBusinessDay, isNthAfter, nthAfter}
 use Rattle.calendar.specs.CalendarTable.{DayGiven, MonthGiven, DateGiven, Listed, BusinessDay, NthBusinessDay}
 

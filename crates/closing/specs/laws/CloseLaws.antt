@@ -16,7 +16,7 @@ use Rattle.rulebook.specs.WellFormed.{wellFormed}
 use Rattle.rulebook.specs.Close.{Closing, firstMissing, closeFigures, dayClosed, statementWritten, settled, closedBy, closed}
 use Rattle.rulebook.specs.Numbers.{ofClose}
 use Rattle.rulebook.specs.Promises.{ClosePromise}
-use Rattle.book.specs.laws.JudgedLaws.{Formed}
+use Rattle.book.specs.Judged.{Formed}
 
 module _ (w st : List ℤ) where
   -- what is closed so is promised

@@ -10,7 +10,7 @@ use Rattle.console.specs.Written.{Put}
 use Rattle.console.specs.laws.WrittenLaws.{length-written, written-front}
 use Rattle.interpreter.specs.declared.Handed.{Handed}
 use Rattle.interpreter.specs.Interpreter.{Turn, beginning, turn, Hands, Begins}
-use Rattle.interpreter.specs.Running.{Reached, begun, next, Leaves, Stands, Steps}
+use Rattle.interpreter.specs.Running.{Reached, begun, next, RunLeaves, Stands, Steps}
 
 -- a line that was put is what the bytes begin with
 put-front : {line text after : List ℕ} {end : ℕ} → Put line 0 text after end → take (length text) after ≡ text

@@ -5,7 +5,7 @@ use mathlib.Core.List.{List}
 use Prim.Native.Nat.{ℕ}
 use native.Mathlib.Omega.{arith}
 use lib.IntN.{ℤ}
-use Rattle.rulebook.specs.Calls.{spareGeneration}
+use Rattle.rulebook.specs.Calls.{spareIn}
 use Rattle.rules.specs.declared.share.Spare.the-variants.{Total, OutOfRange}
 use Rattle.rules.specs.SpareTold.{spareWhere}
 
@@ -23,7 +23,7 @@ tests-fail false m t uegq e = refl
 
 -- ---- What is told
 
-pub total-told : (t : Bool) (uegq : List ℤ) (s : ℕ) → spareWhere t uegq ≡ Total s → (t ≡ true) × (s ≡ spareGeneration uegq)
+pub total-told : (t : Bool) (uegq : List ℤ) (s : ℕ) → spareWhere t uegq ≡ Total s → (t ≡ true) × (s ≡ spareIn uegq)
 total-told true uegq s e = (refl, cc)
 total-told false uegq s e = let z : _≡_ {A = ℕ} 0 1 = cc in absurd (omega arith)
 

@@ -22,7 +22,7 @@ use Rattle.rulebook.specs.laws.PositionLaws.{row-end}
 use Rattle.rulebook.specs.Submit.{rowsStored, submitted}
 use Rattle.rulebook.specs.Promises.{SubmitPromise}
 use Rattle.files.specs.Judgeable.{RoomForDays, Judgeable}
-use Rattle.book.specs.laws.JudgedLaws.{Formed}
+use Rattle.book.specs.Judged.{Formed}
 use Rattle.submission.specs.Marks.{mostMarks}
 use Rattle.submission.specs.Stored.{RowFits, SectionFits, FileFits}
 

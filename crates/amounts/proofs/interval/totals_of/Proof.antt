@@ -10,7 +10,7 @@ use Rattle.integer.specs.Words.{part}
 use Rattle.integer.specs.laws.WordsLaws.{lent}
 use Rattle.rulebook.specs.Layout.{cellPlace, accountWords, cellOf}
 use Rattle.amounts.specs.declared.interval.Totals.{Totals}
-use Rattle.amounts.specs.Interval.{totalsOf, more, Room}
+use Rattle.amounts.specs.Interval.{totalsOf, withCell, Room}
 use Rattle.amounts.specs.laws.IntervalLaws.{totals-zero, totals-suc, totals-room}
 use Rattle.amounts.proofs.interval.totals_of.Statement.{statement}
 use Rattle.amounts.proofs.interval.totals_of.Tie as tie
@@ -66,7 +66,7 @@ add-b c = omega arith
 loop-less : tie.Need-loop-less Inv-loop μ-loop
 loop-less c = omega arith
 
-more-cong : {t u : Totals} {x y : List ℤ} → t ≡ u → x ≡ y → more t x ≡ more u y
+more-cong : {t u : Totals} {x y : List ℤ} → t ≡ u → x ≡ y → withCell t x ≡ withCell u y
 more-cong e f = cc
 
 loop-again : tie.Need-loop-again Inv-loop μ-loop

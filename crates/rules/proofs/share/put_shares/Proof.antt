@@ -10,7 +10,7 @@ use Rattle.integer.specs.Below.{tabulate}
 use Rattle.integer.specs.Bits.{got}
 use Rattle.integer.specs.Words.{filled}
 use Rattle.integer.specs.laws.WordsLaws.{filled-suc}
-use Rattle.rulebook.specs.Calls.{spareGeneration, shareWord}
+use Rattle.rulebook.specs.Calls.{spareIn, shareWord}
 use Rattle.rules.proofs.share.put_shares.Statement.{statement}
 use Rattle.rules.proofs.share.put_shares.Tie as tie
 

@@ -8,7 +8,7 @@ use lib.ListN.{length}
 use mir.Syntax.{w64}
 use mir.Val.{toZ, ofZ}
 use native.Mathlib.Omega.{arith}
-use Rattle.rulebook.specs.Calls.{spareGeneration, shareInput, shareCall}
+use Rattle.rulebook.specs.Calls.{spareIn, shareInput, shareCall}
 use Rattle.rulebook.specs.laws.CallsLaws.{shares-in}
 use Rattle.rules.specs.SpareTold.{spareWhere}
 use Rattle.rules.specs.laws.SpareToldLaws.{total-told, refusal-told}

@@ -8,7 +8,8 @@ use Rattle.rulebook.specs.declared.SubmitAnswer.the-variants.{Taken}
 use Rattle.rulebook.specs.Judging.{limitsOf, judged}
 use Rattle.rulebook.specs.Promises.{SubmitPromise}
 use Rattle.files.specs.Judgeable.{Judgeable}
-use Rattle.book.specs.laws.JudgedLaws.{Formed, book-formed}
+use Rattle.book.specs.Judged.{Formed}
+use Rattle.book.specs.laws.JudgedLaws.{book-formed}
 use Rattle.submission.specs.Marks.{mostMarks}
 use Rattle.submission.specs.laws.SubmitLaws.{marks-enough, file-fits, file-taken, file-refused}
 use Rattle.submission.proofs.submit.take_file.Statement.{statement}
