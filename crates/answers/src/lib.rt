@@ -1,4 +1,4 @@
-// Document 01, "Numbers returned": the table, and what each answer returns.
+// Document 01, "Numbers returned": the table, and what open, submit and close return.
 use rulebook::Answer;
 use rulebook::CloseAnswer;
 use rulebook::OpenAnswer;
