@@ -7,10 +7,11 @@ use lib.IntN.{ℤ, natAbs, _+ℤ_}
 use Rattle.integer.specs.Words.{word}
 use Rattle.rulebook.specs.Units.{intervals, mostQuantity, mostLoad, mostPrice}
 use Rattle.rulebook.specs.ReferencePrice.{mostFacilities}
-use Rattle.rulebook.specs.DayAmount.{AccountData, SettlementData, tenders, settlesResidual, residualDay, postedAmount, msslAmount}
+use Rattle.rulebook.specs.DayAmount.{AccountData, SettlementData, tenders, settlesResidual, residualDay}
 use Rattle.rulebook.specs.Layout.{balanceWord, msslWord}
 use Rattle.rulebook.specs.BookData.{bookData, termsOf, nextDay}
 use Rattle.rulebook.specs.WellFormed.{dayBound}
+use Rattle.rulebook.specs.Close.{posted as amountPosted, postedToMssl}
 
 -- an account's data in range
 pub record Sized (x : AccountData) : Type 0 where
@@ -37,9 +38,9 @@ pub record CloseSized (w : List ℤ) : Type 0 where
   pub then : T (settlesResidual (termsOf w) (nextDay w)) → SizedDay (termsOf w .accounts) (bookData (termsOf w) w) (residualDay (termsOf w) (nextDay w))
   pub loads : T (settlesResidual (termsOf w) (nextDay w)) → (i : ℕ) → i < intervals → bookData (termsOf w) w .load (residualDay (termsOf w) (nextDay w)) i ≤ mostLoad
   -- the posted amounts, and the MSSL's
-  pub posted : (a : ℕ) → a < termsOf w .accounts → natAbs (postedAmount (termsOf w) (bookData (termsOf w) w) a (nextDay w)) ≤ dayBound
-  pub mssl : natAbs (msslAmount (termsOf w) (bookData (termsOf w) w) (nextDay w)) ≤ 153600000000000
+  pub posted : (a : ℕ) → a < termsOf w .accounts → natAbs (amountPosted (termsOf w) w (nextDay w) a) ≤ dayBound
+  pub mssl : natAbs (postedToMssl (termsOf w) w (nextDay w)) ≤ 153600000000000
   -- the grown balances
   pub balances : (a : ℕ) → a < termsOf w .accounts
-      → natAbs (word w (balanceWord a) +ℤ postedAmount (termsOf w) (bookData (termsOf w) w) a (nextDay w)) ≤ 129734400000000000
-  pub msslBalance : natAbs (word w msslWord +ℤ msslAmount (termsOf w) (bookData (termsOf w) w) (nextDay w)) ≤ 4151500800000000000
+      → natAbs (word w (balanceWord a) +ℤ amountPosted (termsOf w) w (nextDay w) a) ≤ 129734400000000000
+  pub msslBalance : natAbs (word w msslWord +ℤ postedToMssl (termsOf w) w (nextDay w)) ≤ 4151500800000000000

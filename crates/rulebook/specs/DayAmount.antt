@@ -73,15 +73,11 @@ module _ (n : ℕ) (x : ℕ → AccountData) where
   unfoldable pub spareGeneration : ℕ
   spareGeneration = spareOf n (λ b. x b .uegq)
 
--- R, of NCC load and hedge total
-abbrev pub residualOver : ℕ → ℕ → ℤ
-residualOver load hedges = pos load -ℤ pos hedges
-
 -- n accounts' data of an interval with this NCC load
 module _ (load n : ℕ) (x : ℕ → AccountData) where
   -- R = NCC load minus all accounts' BVQ and TVQ
   unfoldable pub residualLoad : ℤ
-  residualLoad = residualOver load (hedgeTotal n x)
+  residualLoad = pos load -ℤ pos (hedgeTotal n x)
 
   -- account a's share of R
   unfoldable pub rvq : ℕ → ℕ

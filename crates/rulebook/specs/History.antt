@@ -39,10 +39,13 @@ abbrev pub isClose : Call → Bool
 isClose (submit file) = false
 isClose (close st) = true
 
+abbrev pub acceptedClose : Event → Bool
+acceptedClose e = isClose (e .call) && wasAccepted e
+
 -- k: the closes accepted so far
 unfoldable pub closes : List Event → ℕ
 closes [] = 0
-closes (e ∷ past) = cond (isClose (e .call) && wasAccepted e) (suc (closes past)) (closes past)
+closes (e ∷ past) = cond (acceptedClose e) (suc (closes past)) (closes past)
 
 -- D = F + k, the day that the next close is of
 abbrev pub closingDay : Terms → List Event → ℕ
@@ -119,4 +122,4 @@ module _ (o : Terms) where
   -- and their sum over the closed days
   unfoldable pub formulaBalance : List Event → ℕ → ℤ
   formulaBalance [] a = pos 0
-  formulaBalance (e ∷ past) a = cond (isClose (e .call) && wasAccepted e) (formulaBalance past a +ℤ formulaAmount past a) (formulaBalance past a)
+  formulaBalance (e ∷ past) a = cond (acceptedClose e) (formulaBalance past a +ℤ formulaAmount past a) (formulaBalance past a)

@@ -12,6 +12,7 @@ use Rattle.rulebook.specs.DayAmount.{settlesResidual, residualDay, poste
 use Rattle.rulebook.specs.Layout.{balanceWord, msslWord, InWindow}
 use Rattle.rulebook.specs.BookData.{entriesOf, bookData, termsOf, nextDay}
 use Rattle.rulebook.specs.WellFormed.{wellFormed, dayBound}
+use Rattle.rulebook.specs.Close.{posted, postedToMssl}
 use Rattle.rulebook.specs.Bounds.{SizedDay, CloseSized}
 use Rattle.rulebook.specs.laws.SizeLaws.{posted-size, posted-sum-size}
 use Rattle.rulebook.specs.laws.RangeLaws.{RangedEntries, data-sized, load-sized}
@@ -73,6 +74,7 @@ module _ (w : List ℤ) (t : T (wellFormed w)) where
         most-grown = mul-le-mul (opened-of w t .accountsTo) (mul-le-mul-right dayBound days-few)
 
     pub close-sized : CloseSized w
+    unfolding posted postedToMssl
     close-sized = record {
       now = now-sized;
       then = then-sized;
