@@ -1,12 +1,14 @@
 -- Document 01, "Units and ranges" and "Day amount": what a close of a book reads, posts and leaves fits 64 bits. A signed word reaches to
 -- 9,223,372,036,854,775,807; the largest bound here, the MSSL's balance, is below half of that. Assumes nothing.
 use mathlib.Core.List.{List}
-use Prim.Native.Nat.{ℕ, _≤_, _<_}
+use Prim.Native.Nat.{ℕ, suc, _-_, _*_, _≤_, _<_}
 use lib.Dec.{T}
 use lib.IntN.{ℤ, natAbs, _+ℤ_}
 use Rattle.integer.specs.Words.{word}
-use Rattle.rulebook.specs.Units.{intervals, mostQuantity, mostLoad, mostPrice}
+use Rattle.rulebook.specs.Units.{lastDay, intervals, mostQuantity, mostLoad, mostPrice}
 use Rattle.rulebook.specs.ReferencePrice.{mostFacilities}
+use Rattle.rulebook.specs.Shares.{mostAccounts}
+use Rattle.rulebook.specs.Terms.{earliestFirstDay}
 use Rattle.rulebook.specs.DayAmount.{AccountData, SettlementData, tenders, settlesResidual, residualDay}
 use Rattle.rulebook.specs.Layout.{balanceWord, msslWord}
 use Rattle.rulebook.specs.BookData.{bookData, termsOf, nextDay}
@@ -31,6 +33,10 @@ pub record Sized (x : AccountData) : Type 0 where
 abbrev pub SizedDay : ℕ → SettlementData → ℕ → Type 0
 SizedDay n x d = (a i : ℕ) → a < n → i < intervals → Sized (x .account a d i)
 
+-- the days that a book can close
+abbrev pub mostDays : ℕ
+mostDays = suc lastDay - earliestFirstDay
+
 -- what a close of the book reads, posts and leaves
 pub record CloseSized (w : List ℤ) : Type 0 where
   -- the data of D, and where a residual is due those of r
@@ -39,8 +45,8 @@ pub record CloseSized (w : List ℤ) : Type 0 where
   pub loads : T (settlesResidual (termsOf w) (nextDay w)) → (i : ℕ) → i < intervals → bookData (termsOf w) w .load (residualDay (termsOf w) (nextDay w)) i ≤ mostLoad
   -- the posted amounts, and the MSSL's
   pub posted : (a : ℕ) → a < termsOf w .accounts → natAbs (amountPosted (termsOf w) w (nextDay w) a) ≤ dayBound
-  pub mssl : natAbs (postedToMssl (termsOf w) w (nextDay w)) ≤ 153600000000000
+  pub mssl : natAbs (postedToMssl (termsOf w) w (nextDay w)) ≤ termsOf w .accounts * dayBound
   -- the grown balances
   pub balances : (a : ℕ) → a < termsOf w .accounts
-      → natAbs (word w (balanceWord a) +ℤ amountPosted (termsOf w) w (nextDay w) a) ≤ 129734400000000000
-  pub msslBalance : natAbs (word w msslWord +ℤ postedToMssl (termsOf w) w (nextDay w)) ≤ 4151500800000000000
+      → natAbs (word w (balanceWord a) +ℤ amountPosted (termsOf w) w (nextDay w) a) ≤ mostDays * dayBound
+  pub msslBalance : natAbs (word w msslWord +ℤ postedToMssl (termsOf w) w (nextDay w)) ≤ mostAccounts * (mostDays * dayBound)

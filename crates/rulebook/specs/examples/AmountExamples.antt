@@ -3,16 +3,19 @@
 use mathlib.Core.Path.{_≡_, refl}
 use mathlib.Core.Bool.{true, false, cond}
 use mathlib.Core.List.{[], _∷_}
-use lib.Dec.{eqb}
+use Prim.Native.Nat.{_*_, _^_}
+use lib.Dec.{eqb, ltb}
 use lib.IntN.{ℤ, pos}
 use Rattle.integer.specs.Integer.{minus, withSign}
 use Rattle.integer.specs.Below.{fold}
 use Rattle.rulebook.specs.declared.Terms.{Terms}
 use Rattle.rulebook.specs.Units.{nearest}
 use Rattle.rulebook.specs.ReferencePrice.{average, referencePrice}
-use Rattle.rulebook.specs.Shares.{share, shareOf}
+use Rattle.rulebook.specs.Shares.{mostAccounts, share, shareOf}
 use Rattle.rulebook.specs.Tranches.{tranche1, tranche2}
 use Rattle.rulebook.specs.DayAmount.{AccountData, SettlementData, referencePriceOf, vestedQuantity, tenderAmount, vestingAmount, shareAmount, hedgeTotal, spareGeneration, residualLoad, rvq, residualAmount, settlesResidual, intervalAmount, exactAmount, postedAmount, msslAmount}
+use Rattle.rulebook.specs.WellFormed.{dayBound}
+use Rattle.rulebook.specs.Bounds.{mostDays}
 use Rattle.rulebook.specs.examples.Figures.{accountData, nothing}
 use Rattle.rulebook.specs.examples.Examples.{one}
 
@@ -28,10 +31,12 @@ pub record BoundReached : Type 0 where
   pub most : postedAmount one (days (extreme (pos 1000000) (minus 1000000))) 0 9498 ≡ pos 4800000000000
   pub least : postedAmount one (days (extreme (minus 1000000) (pos 1000000))) 0 9498 ≡ minus 4800000000000
   pub mssl : msslAmount one (days (extreme (pos 1000000) (minus 1000000))) 9498 ≡ minus 4800000000000
+  -- so the largest balance that a book comes to, the MSSL's, is below half of what a signed word reaches
+  pub fitsWord : ltb (mostAccounts * (mostDays * dayBound)) (2 ^ 62) ≡ true
 
 pub bound-reached : BoundReached
 unfolding fold share shareOf tranche1 tranche2 referencePrice average nearest withSign msslAmount postedAmount exactAmount intervalAmount settlesResidual tenderAmount vestingAmount vestedQuantity hedgeTotal spareGeneration residualLoad rvq shareAmount residualAmount referencePriceOf
-bound-reached = record { most = refl; least = refl; mssl = refl }
+bound-reached = record { most = refl; least = refl; mssl = refl; fitsWord = refl }
 
 -- 1000 less three times 10 + 1 + 2 + 4
 pub record ResidualOfThree : Type 0 where

@@ -80,7 +80,7 @@ module _ (w : List ℤ) (t : T (wellFormed w)) where
       then = then-sized;
       loads = λ x i hi. load-sized (termsOf w .accounts) (entriesOf (termsOf w) w) (residualDay (termsOf w) (nextDay w)) (book-ranged (residualDay (termsOf w) (nextDay w)) (r-inside x) r-dated) i hi;
       posted = close-amount;
-      mssl = omega (arith, mssl-amount, mul-le-mul-right dayBound (opened-of w t .accountsTo));
+      mssl = mssl-amount;
       balances = λ a la. omega (arith, abs-add (word w (balanceWord a)) (postedAmount (termsOf w) (bookData (termsOf w) w) a (nextDay w)), balance-room a la);
       msslBalance = omega (arith, abs-add (word w msslWord) (msslAmount (termsOf w) (bookData (termsOf w) w) (nextDay w)), mssl-room);
     }
