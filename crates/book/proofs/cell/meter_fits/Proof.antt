@@ -1,9 +1,9 @@
 -- `meter_fits` meets its contract by `meter-is`.
 use mathlib.Core.Path.{sym, _∙_}
+use borrow.Author.Needs.{needs}
 use Rattle.integer.specs.Below.{fold}
 use Rattle.rulebook.specs.RowPairs.{pairsInRange, restZero, pairsFit}
 use Rattle.rulebook.specs.laws.RowPairLaws.{meter-is}
-use borrow.Author.Needs.{needs}
 use Rattle.book.proofs.cell.meter_fits.Statement.{statement}
 use Rattle.book.proofs.cell.meter_fits.Tie as tie
 

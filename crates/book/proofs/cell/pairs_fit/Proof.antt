@@ -2,15 +2,15 @@
 use mathlib.Core.Path.{_≡_, sym, ap, _∙_}
 use Prim.Native.Nat.{ℕ, _+_}
 use native.Mathlib.Omega.{arith}
+use borrow.Author.Needs.{needs}
 use lib.IntN.{pos}
 use lib.Signed.{ltZ}
 use Rattle.integer.specs.Words.{word}
 use Rattle.rulebook.specs.Units.{between}
 use Rattle.rulebook.specs.WellFormed.{isZero}
 use Rattle.rulebook.specs.RowPairs.{rowPairs, pairsFit}
-use Rattle.book.specs.laws.LoopLaws.{passed, left}
 use Rattle.rulebook.specs.laws.RowPairLaws.{absent-is, no-rest}
-use borrow.Author.Needs.{needs}
+use Rattle.book.specs.laws.LoopLaws.{passed, left}
 use Rattle.book.proofs.cell.pairs_fit.Statement.{statement}
 use Rattle.book.proofs.cell.pairs_fit.Tie as tie
 

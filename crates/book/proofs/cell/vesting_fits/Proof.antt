@@ -1,9 +1,9 @@
 -- `vesting_fits` meets its contract by `vesting-is`.
 use mathlib.Core.Path.{sym, _∙_}
+use borrow.Author.Needs.{needs}
 use Rattle.integer.specs.Below.{fold}
 use Rattle.rulebook.specs.RowPairs.{pairsInRange, restZero, pairsFit}
 use Rattle.rulebook.specs.laws.RowPairLaws.{vesting-is}
-use borrow.Author.Needs.{needs}
 use Rattle.book.proofs.cell.vesting_fits.Statement.{statement}
 use Rattle.book.proofs.cell.vesting_fits.Tie as tie
 

@@ -3,8 +3,8 @@ use mathlib.Core.Path.{ap}
 use mathlib.Core.Bool.{not}
 use native.Mathlib.Omega.{arith}
 use borrow.Author.Tests.{lt-leb, le-leb}
-use Rattle.calendar.specs.Calendar.{monday, friday, weekdayOf, isBusinessDay}
 use borrow.Author.Needs.{needs}
+use Rattle.calendar.specs.Calendar.{monday, friday, weekdayOf, isBusinessDay}
 use Rattle.calendar.proofs.holidays.is_business_at.Statement.{statement}
 use Rattle.calendar.proofs.holidays.is_business_at.Tie as tie
 

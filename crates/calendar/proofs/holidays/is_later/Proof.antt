@@ -2,10 +2,10 @@
 use mathlib.Core.Path.{_≡_, ap₂, _∙_}
 use Prim.Native.Nat.{_-_}
 use borrow.Author.Tests.{ne-eqb}
+use borrow.Author.Needs.{needs}
 use lib.Signed.{ltZ}
 use Rattle.integer.specs.Words.{word}
 use Rattle.integer.specs.Bits.{got}
-use borrow.Author.Needs.{needs}
 use Rattle.calendar.proofs.holidays.is_later.Statement.{statement}
 use Rattle.calendar.proofs.holidays.is_later.Tie as tie
 

@@ -1,8 +1,8 @@
 -- `is_listed` meets its contract: the index that parts the list is where the day stands, if it is listed.
 use mathlib.Core.Path.{sym, ap, _∙_}
+use borrow.Author.Needs.{needs}
 use lib.Dec.{eqb}
 use Rattle.calendar.specs.laws.HolidayLaws.{listed-is, none-listed}
-use borrow.Author.Needs.{needs}
 use Rattle.calendar.proofs.holidays.is_listed.Statement.{statement}
 use Rattle.calendar.proofs.holidays.is_listed.Tie as tie
 

@@ -3,13 +3,13 @@ use mathlib.Core.Path.{_≡_, sym, ap, _∙_}
 use Prim.Native.Nat.{ℕ, _-_, _<_}
 use native.Mathlib.Omega.{arith}
 use borrow.Author.Tests.{not-true, not-false, eqb-true}
+use borrow.Author.Needs.{needs}
 use lib.ListN.{length}
 use Rattle.integer.specs.Below.{fold}
 use Rattle.integer.specs.Bits.{got}
 use Rattle.integer.specs.Words.{word}
 use Rattle.calendar.specs.Calendar.{isDay, isProper}
 use Rattle.calendar.specs.laws.HolidayLaws.{proper-by-ends}
-use borrow.Author.Needs.{needs}
 use Rattle.calendar.proofs.holidays.is_proper.Statement.{statement}
 use Rattle.calendar.proofs.holidays.is_proper.Tie as tie
 

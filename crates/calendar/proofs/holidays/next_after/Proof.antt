@@ -1,8 +1,8 @@
 -- `next_after` meets its contract: past the entry that is the day, or at the same index.
 use mathlib.Core.Path.{sym, _∙_}
 use native.Mathlib.Omega.{arith}
-use Rattle.calendar.specs.laws.HolidayLaws.{next-up, next-same}
 use borrow.Author.Needs.{needs}
+use Rattle.calendar.specs.laws.HolidayLaws.{next-up, next-same}
 use Rattle.calendar.proofs.holidays.next_after.Statement.{statement}
 use Rattle.calendar.proofs.holidays.next_after.Tie as tie
 

@@ -2,8 +2,8 @@
 -- this one. The measure is the days left.
 use mathlib.Core.Path.{_≡_, sym, _∙_}
 use Prim.Native.Nat.{_+_, _-_, _≤_, _<_}
-use borrow.Author.Needs.{needs}
 use native.Mathlib.Omega.{arith}
+use borrow.Author.Needs.{needs}
 use Rattle.rulebook.specs.Units.{lastDay}
 use Rattle.calendar.specs.Calendar.{isBusinessDay, daysAfter}
 use Rattle.calendar.specs.Steps.{FirstFrom}
