@@ -12,7 +12,7 @@ use Rattle.integer.specs.Below.{sumℕ, all, any, count, first, turns}
 use Rattle.integer.specs.declared.Found.{Found}
 use Rattle.integer.specs.declared.Found.the-variants.{At, Nothing}
 use Rattle.rulebook.specs.Units.{lastDay, between}
-use Rattle.rulebook.specs.Numbers.{accepted, noSuchDate, badHolidays, pastLastDay}
+use Rattle.rulebook.specs.Numbers.{accepted, noSuchDate, badHolidays, pastLastDay, checked}
 use Rattle.calendar.specs.declared.DateAnswer.{DateAnswer}
 use Rattle.calendar.specs.declared.DayAnswer.{DayAnswer}
 use Rattle.calendar.specs.declared.WeekdayAnswer.{WeekdayAnswer}
@@ -204,9 +204,6 @@ businessReturned BusinessAnswer.NoSuchDate = businessRefused noSuchDate
 businessReturned BusinessAnswer.BadHolidays = businessRefused badHolidays
 
 -- ---- The calls; checks stand in the order in which they are tried: 12, 13, 14
-
-abbrev pub checked : {A : Type 0} → Bool → A → A → A
-checked met refusal rest = cond met rest refusal
 
 abbrev pub upToLastDay : Found → DayReturned
 upToLastDay (At d) = dayAccepted d

@@ -1,4 +1,5 @@
 -- Document 01, "Numbers returned": the table, and what each answer returns. Assumes nothing.
+use mathlib.Core.Bool.{Bool, cond}
 use mathlib.Core.List.{List}
 use Prim.Native.Nat.{ℕ}
 use lib.IntN.{ℤ, pos}
@@ -80,6 +81,11 @@ badHolidays = 13
 -- calendar result past 36,524
 abbrev pub pastLastDay : ℕ
 pastLastDay = 14
+
+-- ---- One check after another, in the order in which they are tried: a check that is not met refuses, else the rest decides
+
+abbrev pub checked : {A : Type 0} → Bool → A → A → A
+checked met refusal rest = cond met rest refusal
 
 -- ---- Open, submit, close: number, position of a refusal, an accepted close's day and residual count
 

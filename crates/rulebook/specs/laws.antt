@@ -8,6 +8,7 @@ pub mod CallsLaws
 pub mod AmountLaws
 pub mod SizeLaws
 pub mod TestLaws
+pub mod CheckedLaws
 pub mod SectionsLaws
 pub mod RowWordLaws
 pub mod LayoutLaws

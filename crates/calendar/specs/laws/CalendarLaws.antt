@@ -17,14 +17,14 @@ use Rattle.integer.specs.laws.BelowLaws.{either, all-of}
 use Rattle.integer.specs.declared.Found.{Found}
 use Rattle.integer.specs.declared.Found.the-variants.{At, Nothing}
 use Rattle.rulebook.specs.Units.{lastDay}
-use Rattle.rulebook.specs.Numbers.{accepted, noSuchDate, badHolidays, pastLastDay}
+use Rattle.rulebook.specs.Numbers.{accepted, noSuchDate, badHolidays, pastLastDay, checked}
 use Rattle.integer.specs.laws.CountLaws.{any-at, any-some}
 use Rattle.calendar.specs.laws.DateLaws.{dayOf-dateOf, dateOf-dayOf, isDate-dateOf, dayOf-le, of-isDay, isDay-of, of-isMonth}
 use Rattle.calendar.specs.Steps.{entryAt}
 use Rattle.calendar.specs.laws.HolidayLaws.{entry-is-day, entries-ascend}
 use Rattle.calendar.specs.laws.BusinessLaws.{of-isNth, nth-found, nth-none, nth-is, nth-nothing}
 use Rattle.calendar.specs.CalendarTable.{Ascending}
-use Rattle.calendar.specs.Calendar.{isDay, isDate, isMonth, dayOf, dateGiven, weekdayOf, inPlace, isProper, isEntry, isListed, isBusinessDay, daysAfter, isNthAfter, nthAfter, statementDay, finalStatement, dueAfter, dueDay, dateAccepted, dayAccepted, dayRefused, checked, upToLastDay, searchTold, dateTold, dayTold, finalStatementTold, residualDueTold}
+use Rattle.calendar.specs.Calendar.{isDay, isDate, isMonth, dayOf, dateGiven, weekdayOf, inPlace, isProper, isEntry, isListed, isBusinessDay, daysAfter, isNthAfter, nthAfter, statementDay, finalStatement, dueAfter, dueDay, dateAccepted, dayAccepted, dayRefused, upToLastDay, searchTold, dateTold, dayTold, finalStatementTold, residualDueTold}
 
 -- ---- Day to date and back
 

@@ -2,10 +2,10 @@
 use mathlib.Core.Path.{_≡_, refl, sym, ap}
 use mathlib.Core.Bool.{Bool, true, false}
 use mathlib.Core.List.{List}
-use mathlib.Core.Logic.{_↔_, _≢_, ⊎-elim}
+use mathlib.Core.Logic.{_↔_, ⊎-elim}
 use Prim.Native.Nat.{ℕ, _+_, _≤_, _<_}
 use native.Mathlib.Omega.{arith}
-use borrow.Author.Tests.{leb-true, le-leb, eqb-false}
+use borrow.Author.Tests.{leb-true, le-leb}
 use lib.Dec.{leb, eqb}
 use lib.IntN.{ℤ}
 use Rattle.integer.specs.Integer.{positive}
@@ -13,43 +13,15 @@ use Rattle.integer.specs.laws.BelowLaws.{lt-or-le}
 use Rattle.integer.specs.declared.Found.{Found}
 use Rattle.integer.specs.declared.Found.the-variants.{At, Nothing}
 use Rattle.rulebook.specs.Units.{lastDay}
+use Rattle.rulebook.specs.Numbers.{checked}
+use Rattle.rulebook.specs.laws.CheckedLaws.{test-fails, then, differ, struck, met, met-last}
 use Rattle.calendar.specs.declared.DateReturned.{DateReturned}
 use Rattle.calendar.specs.declared.DayReturned.{DayReturned}
 use Rattle.calendar.specs.declared.WeekdayReturned.{WeekdayReturned}
 use Rattle.calendar.specs.declared.BusinessReturned.{BusinessReturned}
-use Rattle.calendar.specs.Calendar.{isDay, isDate, isMonth, dayOf, dateGiven, dateOf, weekdayOf, isProper, isBusinessDay, isNthAfter, nthAfter, statementDay, finalStatement, dueAfter, dueDay, dateAccepted, dateRefused, dayAccepted, dayRefused, weekdayAccepted, weekdayRefused, businessAccepted, businessRefused, checked, upToLastDay, searchTold, dateTold, dayTold, weekdayTold, statementTold, businessTold, finalStatementTold, residualDueTold}
+use Rattle.calendar.specs.Calendar.{isDay, isDate, isMonth, dayOf, dateGiven, dateOf, weekdayOf, isProper, isBusinessDay, isNthAfter, nthAfter, statementDay, finalStatement, dueAfter, dueDay, dateAccepted, dateRefused, dayAccepted, dayRefused, weekdayAccepted, weekdayRefused, businessAccepted, businessRefused, upToLastDay, searchTold, dateTold, dayTold, weekdayTold, statementTold, businessTold, finalStatementTold, residualDueTold}
 use Rattle.calendar.specs.CalendarTable.{BusinessDay, NthBusinessDay, DateTable, DayTable, WeekdayTable, StatementTable, BusinessTable, SearchTable, FinalTable, DueTable}
-use Rattle.calendar.specs.laws.CalendarWordLaws.{test-fails, day-says, month-says, date-says, list-says, business-says, nth-says, nth-told, nth-absent}
-
--- ---- One check after another
-
-then : {A B C D : Type 0} → A ↔ (B × C) → C ↔ D → A ↔ (B × D)
-then f g = (λ a. let r = f .0 a in (r .0, g .0 (r .1)), λ r. f .1 (r .0, g .1 (r .1)))
-
-module _ {A : Type 0} (number : A → ℕ) where
-  -- results of different numbers differ
-  differ : (r s : A) → eqb (number r) (number s) ≡ false → r ≢ s
-  differ r s h e = eqb-false (number r) (number s) h (ap number e)
-
-  -- a check of P that struck, or was met
-  module _ {P : Type 0} (t : Bool) (says : (t ≡ true) ↔ P) (refusal rest : A) where
-    struck : eqb (number rest) (number refusal) ≡ false → (checked t refusal rest ≡ refusal) ↔ (¬ P)
-    struck h = by t (test-fails t says)
-      where
-        by : (t : Bool) → (t ≡ false) ↔ (¬ P) → (checked t refusal rest ≡ refusal) ↔ (¬ P)
-        by true f = (λ e. absurd (differ rest refusal h e), λ n. absurd (let k = f .1 n in let z : _≡_ {A = ℕ} 0 1 = cc in omega arith))
-        by false f = (λ e. f .0 refl, λ n. refl)
-
-    met : (other : A) → eqb (number refusal) (number other) ≡ false → (checked t refusal rest ≡ other) ↔ (P × (rest ≡ other))
-    met other h = by t says
-      where
-        by : (t : Bool) → (t ≡ true) ↔ P → (checked t refusal rest ≡ other) ↔ (P × (rest ≡ other))
-        by true f = (λ e. (f .0 refl, e), λ r. r .1)
-        by false f = (λ e. absurd (differ refusal other h e), λ r. absurd (let k = f .1 (r .0) in let z : _≡_ {A = ℕ} 0 1 = cc in omega arith))
-
-    -- the last check
-    met-last : eqb (number refusal) (number rest) ≡ false → (checked t refusal rest ≡ rest) ↔ P
-    met-last h = let r = met rest h in (λ e. r .0 e .0, λ p. r .1 (p, refl))
+use Rattle.calendar.specs.laws.CalendarWordLaws.{day-says, month-says, date-says, list-says, business-says, nth-says, nth-told, nth-absent}
 
 abbrev dateNumber : DateReturned → ℕ
 dateNumber r = r .number

@@ -12,6 +12,7 @@ use Rattle.integer.specs.laws.IntegerLaws.{int, parts, le-test, le-true, le-par
 use Rattle.integer.specs.laws.BelowLaws.{and-true, nothing-first}
 use Rattle.integer.specs.declared.Found.the-variants.{At, Nothing}
 use Rattle.rulebook.specs.Units.{lastDay}
+use Rattle.rulebook.specs.laws.CheckedLaws.{test-fails}
 use Rattle.calendar.specs.laws.DateLaws.{within-true, true-within, of-isMonth}
 use Rattle.calendar.specs.laws.BusinessLaws.{isNth-of, of-isNth, nth-found, nth-is, nth-nothing}
 use Rattle.calendar.specs.CalendarTable.{Ascending}
@@ -20,11 +21,6 @@ use Rattle.calendar.specs.Calendar.{isDay, isDate, isMonth, daysInMonth,
 use Rattle.calendar.specs.CalendarTable.{DayGiven, MonthGiven, DateGiven, Listed, BusinessDay, NthBusinessDay}
 
 -- ---- What each test says
-
--- a test that passes exactly if P fails exactly if not P
-pub test-fails : {P : Type 0} (t : Bool) → (t ≡ true) ↔ P → (t ≡ false) ↔ (¬ P)
-test-fails true says = (λ e. absurd (let z : _≡_ {A = ℕ} 0 1 = cc in omega arith), λ n. absurd (n (says .0 refl)))
-test-fails false says = (λ e p. let f = says .1 p in let z : _≡_ {A = ℕ} 0 1 = cc in omega arith, λ n. refl)
 
 pub day-says : (day : ℤ) → (isDay day ≡ true) ↔ DayGiven day
 unfolding isDay
