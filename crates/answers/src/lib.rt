@@ -6,6 +6,7 @@ use rulebook::ShareAnswer;
 use rulebook::SubmitAnswer;
 use rulebook::Why;
 ghost use mathlib.Core.Path.{_≡_};
+ghost use mathlib.Core.Bool.{cond};
 ghost use Rattle.rulebook.specs.Numbers.{whyNumber, numbered as Numbers·numbered, ofOpen, ofSubmit, ofClose, shareNumber};
 
 pub const ACCEPTED: u64 = 0;
@@ -107,4 +108,11 @@ pub fn share_number(answer: ShareAnswer) -> u64
         ShareAnswer::ShareRefused => OUTSIDE_RANGE,
         ShareAnswer::OutputTooShort => OUTPUT_TOO_SHORT,
     }
+}
+
+// A test's figure: 1 where it passes.
+pub fn one_if(test: bool) -> u64
+    ensures { λ r. ⌜ r ≡ cond test 1 0 ⌝ }
+{
+    if test { 1 } else { 0 }
 }

@@ -15,7 +15,6 @@ use calendar::residual_due;
 use calendar::statement_day;
 use calendar::weekday;
 ghost use mathlib.Core.Path.{_≡_};
-ghost use mathlib.Core.Bool.{cond};
 ghost use Rattle.calendar.specs.Calendar.{dateReturned, dateTold, dayRefused, dayReturned, dayTold, weekdayReturned, weekdayTold, statementTold, businessReturned, businessTold, finalStatementTold, residualDueTold};
 
 fn of_date(answer: DateAnswer) -> DateReturned
@@ -75,19 +74,13 @@ fn of_weekday(answer: WeekdayAnswer) -> WeekdayReturned
     }
 }
 
-fn one_if(test: bool) -> u64
-    ensures { λ r. ⌜ r ≡ cond test 1 0 ⌝ }
-{
-    if test { 1 } else { 0 }
-}
-
 fn of_business(answer: BusinessAnswer) -> BusinessReturned
     ensures { λ r. ⌜ r ≡ businessReturned answer ⌝ }
 {
     match answer {
         BusinessAnswer::Judged(test) => BusinessReturned {
             number: answers::ACCEPTED,
-            business: one_if(test),
+            business: answers::one_if(test),
         },
         BusinessAnswer::NoSuchDate => BusinessReturned {
             number: answers::NO_SUCH_DATE,
