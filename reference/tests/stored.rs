@@ -27,13 +27,12 @@ fn stored_files_are_the_generated_ones() {
         assert!(stored == *contents, "{path} is not what is generated");
     }
 
-    for part in ["replay", "replay_settle", "settle/runs"] {
-        let of_part = generated
-            .iter()
-            .filter_map(|file| file.path.strip_prefix(part)?.strip_prefix('/'));
-        let of_part: BTreeSet<String> = of_part.map(str::to_owned).collect();
-        assert_eq!(names(folder().join(part)), of_part, "{part}");
-    }
+    // No other runs are stored.
+    let runs = generated
+        .iter()
+        .filter_map(|file| file.path.strip_prefix("settle/runs/"));
+    let runs: BTreeSet<String> = runs.map(str::to_owned).collect();
+    assert_eq!(names(folder().join("settle/runs")), runs);
 }
 
 #[test]
