@@ -42,6 +42,9 @@
  * ANSWERS. Each has a number: 0 for accepted, else why the call was refused. A position is that of the refusal, and 0 where the number has
  * none; in a refused answer every other figure is 0. Checks are tried in the order of the list that each call gives, and the first that
  * strikes is answered.
+ *
+ * CHANGES. The calls of document 01, its numbers 0 to 14 and the words of a book are as they were. New with document 02:
+ *   P1   robijan_profile, number 15
  */
 #ifndef ROBIJAN_H
 #define ROBIJAN_H
@@ -68,13 +71,15 @@ enum {
     ROBIJAN_DATUM_ABSENT = 11,       /* a datum that the close needs was not given; word `position` of the book is its flag */
     ROBIJAN_NO_SUCH_DATE = 12,       /* no such date or month in 2000 to 2099, or day outside 0 to 36,524 */
     ROBIJAN_BAD_HOLIDAYS = 13,       /* holidays are not strictly ascending days */
-    ROBIJAN_PAST_LAST_DAY = 14       /* the day asked for is past 31 December 2099 */
+    ROBIJAN_PAST_LAST_DAY = 14,      /* the day asked for is past 31 December 2099 */
+    ROBIJAN_TOTAL_IMPOSSIBLE = 15    /* no profile could have this total within the limits */
 };
 
 typedef struct { uint64_t number, position, day, count; } robijan_answer; /* open, submit, close; day and count 0 but for a close */
 typedef struct { uint64_t number, words; } robijan_size_answer;
 typedef struct { uint64_t number; int64_t price; } robijan_price_answer;
 typedef struct { uint64_t number; int64_t first, second; } robijan_tranche_answer;
+typedef struct { uint64_t number, keeps; } robijan_profile_answer;
 typedef struct { uint64_t number, year, month, day; } robijan_date_answer;
 typedef struct { uint64_t number, day; } robijan_day_answer;
 typedef struct { uint64_t number, weekday; } robijan_weekday_answer;
@@ -154,7 +159,7 @@ robijan_answer robijan_close(int64_t *book, size_t book_words, int64_t *statemen
 /* 0 for a well-formed book, as every accepted call leaves it; else 3. The other calls ask this themselves. */
 uint64_t robijan_judge(const int64_t *book, size_t book_words);
 
-/* ---- Reference price, shares, tranches: no book */
+/* ---- Reference price, shares, tranches, profiles: no book */
 
 /* V of 1 to 4 facilities: the average of their prices (MEP) weighted with their injections (IEQ), negative ones counting 0; the simple
  * average where all weights are 0; to the nearest cent per MWh, a tie away from zero. Refused: 1. */
@@ -168,6 +173,12 @@ uint64_t robijan_share(int64_t residual, const int64_t *uegq, size_t uegqs, int6
 /* The parts of a share, all three being quantities: `first` is at most what the base contract (BVQ) left of MQ, 0 where BVQ is MQ or more;
  * `second` is the rest. Refused: 1. */
 robijan_tranche_answer robijan_tranche(int64_t rvq, int64_t bvq, int64_t mq);
+
+/* Whether a forecaster's profile of a day, 48 quantities, keeps its limits. The intervals at indices 0 and 1, 2 and 3, .. are a Gas Balancing
+ * Period each; its kWh may be from 80 to 125 per cent of `contracted`, both ends included, and the day's must be `total`. `contracted` is the
+ * daily contracted quantity in kWh for one such period, 0 to 10,000,000; `total` is 0 to 480,000,000. `keeps` is 1 if all of this is so, else
+ * 0. Refused: 1, for a list not of 48 too; then 15 where no 48 quantities could keep these limits, whatever those given are. */
+robijan_profile_answer robijan_profile(const int64_t *profile, size_t intervals, int64_t total, int64_t contracted);
 
 /* ---- The trading calendar: no book. Holidays are days, strictly ascending. */
 

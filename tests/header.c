@@ -1,5 +1,6 @@
 /* include/robijan.h against the library: each number by an input that it is for, each answer's fields and each call's arguments by figures of
- * document 01. A number, a field or an argument exchanged in the header is seen here. */
+ * document 01. A number, a field or an argument exchanged in the header is seen here, but for the names of two arguments
+ * of one type. */
 #include <inttypes.h>
 #include <stdio.h>
 #include <stdlib.h>
@@ -157,6 +158,27 @@ static void rules(void)
     same("second tranche", 60, tranches.second);
 }
 
+/* The limits of a pair are 80 and 125 kWh, of the day 1,920 and 3,000; T may be 480,000,000, D may not. */
+static void profiles(void)
+{
+    static int64_t profile[49];
+    for (int i = 0; i < 49; i++)
+        profile[i] = 50;
+    NUMBER(ROBIJAN_ACCEPTED, robijan_profile(profile, 48, 2400, 100).number);
+    same("a profile that keeps the limits", 1, (int64_t)robijan_profile(profile, 48, 2400, 100).keeps);
+    profile[0] = 20, profile[2] = 80;
+    NUMBER(ROBIJAN_ACCEPTED, robijan_profile(profile, 48, 2400, 100).number);
+    same("a profile that does not", 0, (int64_t)robijan_profile(profile, 48, 2400, 100).keeps);
+    NUMBER(ROBIJAN_TOTAL_IMPOSSIBLE, robijan_profile(profile, 48, 3001, 100).number);
+    NUMBER(15, ROBIJAN_TOTAL_IMPOSSIBLE);
+    NUMBER(ROBIJAN_TOTAL_IMPOSSIBLE, robijan_profile(profile, 48, 480000000, 100).number);
+    NUMBER(ROBIJAN_OUTSIDE_RANGE, robijan_profile(profile, 48, 100, 480000000).number);
+    NUMBER(ROBIJAN_OUTSIDE_RANGE, robijan_profile(profile, 49, 2400, 100).number);
+    const int64_t wide = INT64_C(1) << 32; /* no word is cut on its way */
+    NUMBER(ROBIJAN_OUTSIDE_RANGE, robijan_profile(profile, 48, 2400 + wide, 100).number);
+    NUMBER(ROBIJAN_OUTSIDE_RANGE, robijan_profile(profile, 48, 2400, 100 + wide).number);
+}
+
 static void calendar(void)
 {
     static const int64_t none[1], friday[] = {9575}, bad[] = {5, 5}; /* 20 March 2026 */
@@ -186,6 +208,7 @@ int main(void)
     a_closed_book();
     places();
     rules();
+    profiles();
     calendar();
     return wrong;
 }

@@ -81,6 +81,7 @@ static void write_file(uint32_t day, int residuals)
 
 static uint64_t number;
 static const int64_t list[ACCOUNTS] = {1, 2, 3, 4};
+static const int64_t profile[48];
 static int64_t output[ACCOUNTS];
 
 static void nothing(void) { number = ROBIJAN_ACCEPTED; }
@@ -93,6 +94,7 @@ static void judge(void) { number = robijan_judge(book, sizeof book / 8); }
 static void price(void) { number = robijan_price(list, 4, list, 4).number; }
 static void share(void) { number = robijan_share(5, list, ACCOUNTS, output, ACCOUNTS); }
 static void tranche(void) { number = robijan_tranche(3, 2, 1).number; }
+static void check_profile(void) { number = robijan_profile(profile, 48, 0, 0).number; }
 static void date(void) { number = robijan_date(36524).number; }
 static void day(void) { number = robijan_day(2099, 12, 31).number; }
 static void weekday(void) { number = robijan_weekday(36524).number; }
@@ -128,6 +130,7 @@ int main(void)
     measure("price", price);
     measure("share", share);
     measure("tranche", tranche);
+    measure("profile", check_profile);
     measure("date", date);
     measure("day", day);
     measure("weekday", weekday);

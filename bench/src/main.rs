@@ -72,6 +72,7 @@ fn no_book(rng: &mut Rng) {
         .map(|accounts| measures::sharing(rng, accounts))
         .into();
     rows.extend(measures::days(rng, 500));
+    rows.extend(measures::profiles(rng));
     println!("\n## No book: 1,000 calls\n");
     tables::plain(&rows);
 }

@@ -6,7 +6,9 @@ use crate::{plain, robijan};
 use reference::book::{open, well_formed};
 use reference::calendar;
 use reference::close::close;
+use reference::generate::profiles::{keeping_profile, profile_case, ProfileCase};
 use reference::generate::Rng;
+use reference::profile::profile;
 use reference::share::share;
 use reference::submission::submit;
 use std::cell::RefCell;
@@ -208,6 +210,52 @@ pub fn sharing(rng: &mut Rng, accounts: usize) -> Measured {
     assert!(ours == theirs);
     let name = format!("share among {accounts}");
     Measured::of(&name, times, &["reference"], 16 * accounts * BATCH)
+}
+
+/// Profiles that keep the limits, and profiles of every answer.
+pub fn profiles(rng: &mut Rng) -> [Measured; 2] {
+    let keeping: Vec<ProfileCase> = (0..BATCH)
+        .map(|_| {
+            let contracted = rng.between(0, 10_000_000);
+            keeping_profile(rng, contracted)
+        })
+        .collect();
+    let any: Vec<ProfileCase> = (0..BATCH).map(|_| profile_case(rng)).collect();
+    [
+        checking("profile that keeps the limits", &keeping),
+        checking("profile, every answer", &any),
+    ]
+}
+
+fn checking(name: &str, cases: &[ProfileCase]) -> Measured {
+    let (mut ours, mut theirs) = (0, 0);
+    let times = interleaved(
+        501,
+        &mut [
+            &mut || {
+                ours = 0;
+                timed(|| {
+                    for case in cases {
+                        let list = black_box(&case.quantities[..]);
+                        let told = robijan::profile(list, case.total, case.contracted);
+                        ours += told.number + told.keeps;
+                    }
+                })
+            },
+            &mut || {
+                theirs = 0;
+                timed(|| {
+                    for case in cases {
+                        let list = black_box(&case.quantities[..]);
+                        let answer = profile(list, case.total, case.contracted);
+                        theirs += u64::from(answer.number) + u64::from(answer.keeps);
+                    }
+                })
+            },
+        ],
+    );
+    assert_eq!(ours, theirs);
+    Measured::of(name, times, &["reference"], 0)
 }
 
 /// Final statement days, with a list of so many holidays, and dates.

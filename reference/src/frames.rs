@@ -10,8 +10,11 @@ use crate::book::Opening;
 /// The words of the program's book: as many as N = 4, L = 75 and H = 92 take,
 /// and some beyond.
 pub const BOOK_WORDS: usize = 802_000;
-/// The most words of a statement, and of each list of a call on no book.
+/// The most words of a statement, and of each list of a call on no book but a
+/// profile.
 pub const LIST_WORDS: usize = 40;
+/// The most words of a profile.
+pub const PROFILE_WORDS: usize = 64;
 pub const MOST_HOLIDAYS: usize = 1_200;
 pub const LONGEST_FILE: usize = 131_072;
 
@@ -52,6 +55,11 @@ pub enum Frame {
         rvq: i64,
         bvq: i64,
         mq: i64,
+    },
+    Profile {
+        total: i64,
+        contracted: i64,
+        quantities: Vec<i64>,
     },
     DayToDate(i64),
     DateToDay([i64; 3]),
@@ -118,6 +126,15 @@ impl Frame {
             Frame::Tranche { rvq, bvq, mq } => {
                 input.push(b'T');
                 write_words(input, &[*rvq, *bvq, *mq]);
+            }
+            Frame::Profile {
+                total,
+                contracted,
+                quantities,
+            } => {
+                input.push(b'Q');
+                write_words(input, &[*total, *contracted]);
+                write_list(input, quantities);
             }
             Frame::DayToDate(day) => {
                 input.push(b'd');

@@ -9,9 +9,10 @@
 //!
 //! `history` tells a list of calls from their arguments and answers alone,
 //! `generate` makes cases from a fixed seed, `checker` runs one against the
-//! other, and `variant` holds the wrong books, calendars and programs which the
-//! cases have to show. `frames` and `player` are the form of the test program
-//! `replay`'s input and output, `stored` has all the cases that are kept as files.
+//! other, and `variant` holds the wrong books, calendars, profile checks and
+//! programs which the cases have to show. `frames` and `player` are the form of
+//! the test program `replay`'s input and output, `stored` has all the cases that
+//! are kept as files.
 
 pub mod book;
 pub mod calendar;
@@ -24,6 +25,7 @@ pub mod history;
 pub mod layout;
 pub mod numbers;
 pub mod player;
+pub mod profile;
 pub mod reference_price;
 pub mod settle;
 pub mod share;
@@ -32,3 +34,4 @@ pub mod submission;
 pub mod tranche;
 pub mod units;
 pub mod variant;
+pub mod wrong_profile;

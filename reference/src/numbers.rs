@@ -20,6 +20,8 @@ pub const DATUM_ABSENT: u8 = 11;
 pub const NO_SUCH_DATE: u8 = 12;
 pub const BAD_HOLIDAYS: u8 = 13;
 pub const PAST_LAST_DAY: u8 = 14;
+/// No profile that keeps the limits adds to the day's total.
+pub const IMPOSSIBLE_TOTAL: u8 = 15;
 
 /// The answer of an opening, a submission or a close.
 #[derive(Clone, Copy, Debug, PartialEq, Eq)]

@@ -11,6 +11,7 @@ use crate::calendar::{
 };
 use crate::close::close_in;
 use crate::frames::{Frame, BOOK_WORDS};
+use crate::profile::profile_in;
 use crate::reference_price::reference_price_in;
 use crate::share::share_in;
 use crate::submission::submit_in;
@@ -96,6 +97,16 @@ impl Player {
             Frame::Tranche { rvq, bvq, mq } => {
                 let answer = tranche_in(context, *rvq, *bvq, *mq);
                 Line::of("tranche").figures([i64::from(answer.number), answer.first, answer.second])
+            }
+            Frame::Profile {
+                total,
+                contracted,
+                quantities,
+            } => {
+                let answer = profile_in(context, quantities, *total, *contracted);
+                Line::of("profile")
+                    .figures([answer.number, u8::from(answer.keeps)])
+                    .digest(quantities)
             }
             calendar => calendar_line(context, calendar),
         };

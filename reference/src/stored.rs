@@ -6,7 +6,7 @@ use crate::generate::runs::{runs, Run};
 use crate::generate::settle_inputs::settle_inputs;
 use crate::player::Player;
 use crate::settle::settle_in;
-use crate::variant::{Context, WRONG_CALENDARS, WRONG_SETTLES};
+use crate::variant::{Context, WRONG_CALENDARS, WRONG_PROFILES, WRONG_SETTLES};
 
 /// A file, by its path in the folder.
 pub struct Stored {
@@ -17,14 +17,19 @@ pub struct Stored {
 /// What the stored files are made of.
 pub struct Cases {
     frames: Vec<Frame>,
+    /// What the right book prints for each frame.
+    lines: Vec<Option<String>>,
     settle_inputs: Vec<Vec<u8>>,
     runs: Vec<Run>,
 }
 
 impl Cases {
     pub fn generate() -> Cases {
+        let frames = cases();
+        let mut player = Player::new(Context::RIGHT);
         Cases {
-            frames: cases(),
+            lines: frames.iter().map(|frame| player.play(frame)).collect(),
+            frames,
             settle_inputs: settle_inputs(),
             runs: runs(),
         }
@@ -53,11 +58,13 @@ impl Cases {
     }
 
     /// The outputs that a variant can change: not those of `replay`, if it is
-    /// one of `settle`, and no others, if it is one of the calendar.
+    /// one of `settle`, and no others, if it is one of the calendar or of the
+    /// profile check.
     pub fn variant_outputs(&self, context: Context) -> Vec<Stored> {
-        if WRONG_SETTLES.contains(&context.variant) {
+        let variant = context.variant;
+        if WRONG_SETTLES.contains(&variant) {
             self.settle_outputs(context)
-        } else if WRONG_CALENDARS.contains(&context.variant) {
+        } else if WRONG_CALENDARS.contains(&variant) || WRONG_PROFILES.contains(&variant) {
             self.replay_outputs(context)
         } else {
             self.outputs(context)
@@ -75,11 +82,19 @@ impl Cases {
         files
     }
 
-    /// What the test program `replay` prints.
+    /// What the test program `replay` prints. Only profiles are played by a
+    /// wrong profile check, as it changes no other line.
     fn replay(&self, context: Context) -> Vec<u8> {
+        let profiles_alone = WRONG_PROFILES.contains(&context.variant);
         let mut player = Player::new(context);
+        let lines = self.frames.iter().zip(&self.lines);
+        let lines = lines.filter_map(|(frame, right)| match frame {
+            Frame::Profile { .. } => player.play(frame),
+            _ if profiles_alone => right.clone(),
+            _ => player.play(frame),
+        });
         let mut output = Vec::new();
-        for line in self.frames.iter().filter_map(|frame| player.play(frame)) {
+        for line in lines {
             output.extend(line.bytes());
             output.push(b'\n');
         }

@@ -14,11 +14,19 @@ pub const PRICE: RangeInclusive<i64> = -1_000_000..=1_000_000;
 /// Load left after all hedges, the R of a share call.
 pub const REMAINING_LOAD: RangeInclusive<i64> = -1_280_000_000..=1_000_000_000;
 
+/// The day's total of a profile, the T of a profile call, kWh.
+pub const DAY_TOTAL: RangeInclusive<i64> = 0..=480_000_000;
+/// The daily contracted quantity's kWh for one Gas Balancing Period, the D of a
+/// profile call.
+pub const CONTRACTED: RangeInclusive<i64> = 0..=10_000_000;
+
 /// 31 December 2099, in days since 1 January 2000.
 pub const LAST_DAY: i64 = 36_524;
 pub const DAY: RangeInclusive<i64> = 0..=LAST_DAY;
 
 pub const INTERVALS: usize = 48;
+/// A day's Gas Balancing Periods, of two intervals each.
+pub const PAIRS: usize = INTERVALS / 2;
 pub const MOST_ACCOUNTS: usize = 32;
 pub const MOST_FACILITIES: usize = 4;
 pub const MOST_TRANCHES: usize = 3;

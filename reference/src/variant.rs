@@ -1,5 +1,5 @@
-//! Wrong ways to keep the book, to reckon the calendar and to run `settle`. The
-//! stored cases must show each of them.
+//! Wrong ways to keep the book, to reckon the calendar, to check a profile and to
+//! run `settle`. The stored cases must show each of them.
 
 #[derive(Clone, Copy, Debug, Default, PartialEq, Eq)]
 pub enum Variant {
@@ -38,6 +38,83 @@ pub enum Variant {
     TakesMagnitudeOfDueMonth,
     /// Says that the due month lies in 2100 before the holidays are judged.
     SaysDuePastLastDayBeforeHolidays,
+
+    // The profile check: its pairs and their limits.
+    /// Pairs begin at even-numbered intervals, 48 and 1 being the last pair.
+    PairsFromSecondInterval,
+    /// Any two intervals in a row are a pair.
+    OverlappingPairs,
+    FirstPairUnjudged,
+    LastPairUnjudged,
+    /// Compares the total alone.
+    PairsUnjudged,
+    /// Holds each interval against half the limits of a pair.
+    HalvesLimits,
+    FloorRoundedDown,
+    CapRoundedUp,
+    LimitsToNearest,
+    /// 80 per cent itself is too little.
+    ExclusiveFloor,
+    /// 125 per cent itself is too much.
+    ExclusiveCap,
+    FloorOf75PerCent,
+    CapOf120PerCent,
+    NoFloor,
+    NoCap,
+    /// A pair's limits are of T / 24, not of D.
+    LimitsOfTotal,
+    /// A pair's limits are of 2 × D, as if D were an interval's.
+    ContractedPerInterval,
+    /// A pair's limits are of D / 24, as if D were the day's.
+    ContractedPerDay,
+    /// Rounds D / 5 and D / 4 down before it multiplies them.
+    DividesBeforeMultiplying,
+
+    // The profile check: the total.
+    TotalNotCompared,
+    /// Says yes where all 48 add to less than T.
+    TotalAtMost,
+    /// Says yes where all 48 add to more than T.
+    TotalAtLeast,
+    /// Says no of an impossible T.
+    NeverImpossible,
+    ImpossibleBelowOnly,
+    ImpossibleAboveOnly,
+    /// The least and the greatest total are impossible too.
+    EndsImpossible,
+    /// T is possible from 19.2 × D to 30 × D.
+    ImpossibleBy19And30,
+    /// Says no where a pair breaks its limits, before T is judged.
+    ImpossibleAfterQuantities,
+    /// Says that T is impossible where a pair breaks its limits.
+    ImpossibleForBrokenPairs,
+    /// Says that T is impossible where the quantities do not add to it.
+    ImpossibleForOtherSum,
+
+    // The profile check: ranges.
+    ImpossibleBeforeRange,
+    /// Judges T before the list, but after the ranges of T and D.
+    ImpossibleBeforeList,
+    /// Judges T before the quantities' range, but after the list's length.
+    ImpossibleBeforeQuantities,
+    /// Takes a list of 47, the last quantity being 0.
+    TakesShortProfile,
+    /// Takes a list of 49, the last quantity being ignored.
+    TakesLongProfile,
+    TakesAnyWholePairs,
+    TakesEmptyProfile,
+    QuantitiesUnjudged,
+    TakesNegativeQuantities,
+    TakesLargeQuantities,
+    /// Leaves the quantities after a pair that breaks its limits unjudged.
+    LeavesAtBrokenPair,
+    /// Leaves the quantities after those that add to more than T unjudged.
+    LeavesAtPassedTotal,
+    TotalUnjudged,
+    /// T has no more than the caps of the largest D.
+    TotalUpTo300Million,
+    ContractedUnjudged,
+    RefusesContractedOfZero,
 
     // `settle`: its opening.
     ExchangesLagAndHorizon,
@@ -156,6 +233,56 @@ pub const WRONG_CALENDARS: [Variant; 4] = [
     Variant::SaysDuePastLastDayBeforeHolidays,
 ];
 
+/// The wrong profile checks, of which the book and `settle` know nothing.
+pub const WRONG_PROFILES: [Variant; 46] = [
+    Variant::PairsFromSecondInterval,
+    Variant::OverlappingPairs,
+    Variant::FirstPairUnjudged,
+    Variant::LastPairUnjudged,
+    Variant::PairsUnjudged,
+    Variant::HalvesLimits,
+    Variant::FloorRoundedDown,
+    Variant::CapRoundedUp,
+    Variant::LimitsToNearest,
+    Variant::ExclusiveFloor,
+    Variant::ExclusiveCap,
+    Variant::FloorOf75PerCent,
+    Variant::CapOf120PerCent,
+    Variant::NoFloor,
+    Variant::NoCap,
+    Variant::LimitsOfTotal,
+    Variant::ContractedPerInterval,
+    Variant::ContractedPerDay,
+    Variant::DividesBeforeMultiplying,
+    Variant::TotalNotCompared,
+    Variant::TotalAtMost,
+    Variant::TotalAtLeast,
+    Variant::NeverImpossible,
+    Variant::ImpossibleBelowOnly,
+    Variant::ImpossibleAboveOnly,
+    Variant::EndsImpossible,
+    Variant::ImpossibleBy19And30,
+    Variant::ImpossibleAfterQuantities,
+    Variant::ImpossibleForBrokenPairs,
+    Variant::ImpossibleForOtherSum,
+    Variant::ImpossibleBeforeRange,
+    Variant::ImpossibleBeforeList,
+    Variant::ImpossibleBeforeQuantities,
+    Variant::TakesShortProfile,
+    Variant::TakesLongProfile,
+    Variant::TakesAnyWholePairs,
+    Variant::TakesEmptyProfile,
+    Variant::QuantitiesUnjudged,
+    Variant::TakesNegativeQuantities,
+    Variant::TakesLargeQuantities,
+    Variant::LeavesAtBrokenPair,
+    Variant::LeavesAtPassedTotal,
+    Variant::TotalUnjudged,
+    Variant::TotalUpTo300Million,
+    Variant::ContractedUnjudged,
+    Variant::RefusesContractedOfZero,
+];
+
 /// The wrong programs `settle`, which keep the right book.
 pub const WRONG_SETTLES: [Variant; 64] = [
     Variant::ExchangesLagAndHorizon,
@@ -229,6 +356,7 @@ pub fn wrong() -> impl Iterator<Item = Variant> {
     WRONG_BOOKS
         .into_iter()
         .chain(WRONG_CALENDARS)
+        .chain(WRONG_PROFILES)
         .chain(WRONG_SETTLES)
 }
 

@@ -1,7 +1,7 @@
 //! The stored files are the generated ones, and show every wrong variant.
 
 use reference::stored::{Cases, Stored};
-use reference::variant::{wrong, Context, Variant, WRONG_BOOKS, WRONG_CALENDARS};
+use reference::variant::{wrong, Context, Variant, WRONG_BOOKS, WRONG_CALENDARS, WRONG_PROFILES};
 use std::collections::BTreeSet;
 use std::fs;
 use std::path::PathBuf;
@@ -70,6 +70,7 @@ fn every_wrong_variant_is_shown() {
             Variant::ReadsOnly65536Bytes | Variant::PositionsOf16Bits => &["settle/runs/"],
             _ if WRONG_BOOKS.contains(&variant) => &["replay/", "replay_settle/", "settle/runs/"],
             _ if WRONG_CALENDARS.contains(&variant) => &["replay/"],
+            _ if WRONG_PROFILES.contains(&variant) => &["replay/"],
             _ => &["replay_settle/", "settle/runs/"],
         };
         assert!(changed.iter().eq(expected), "{variant:?}: {changed:?}");

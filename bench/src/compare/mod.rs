@@ -19,7 +19,7 @@ use tally::Tally;
 /// Runs so many cases of one call; on a difference, the case in words.
 pub type Cases = fn(&mut Rng, usize, &mut Tally) -> Result<(), String>;
 
-pub const CALLS: [(&str, Cases); 9] = [
+pub const CALLS: [(&str, Cases); 10] = [
     ("judge", judging::judge),
     ("submit", submitting::submit),
     ("close", closing::close),
@@ -28,6 +28,7 @@ pub const CALLS: [(&str, Cases); 9] = [
     ("price", rules::price),
     ("share", rules::share),
     ("tranche", rules::tranche),
+    ("profile", rules::profile),
     ("calendar", calendar::calendar),
 ];
 

@@ -1,8 +1,9 @@
-//! Reference prices, shares and tranches.
+//! Reference prices, shares, tranches and profiles.
 
 use super::tally::Tally;
 use super::{same, same_words};
 use crate::robijan;
+use reference::generate::profiles::profile_case;
 use reference::generate::Rng;
 use reference::reference_price::reference_price;
 
@@ -85,6 +86,29 @@ pub fn tranche(rng: &mut Rng, cases: usize, tally: &mut Tally) -> Result<(), Str
             || format!("case {case}: RVQ {rvq}, BVQ {bvq}, MQ {mq}"),
         )?;
         tally.add("tranches", told.number, 0);
+    }
+    Ok(())
+}
+
+/// Profiles at and beside the limits of D and T, most lists of 48 quantities.
+pub fn profile(rng: &mut Rng, cases: usize, tally: &mut Tally) -> Result<(), String> {
+    for case in 0..cases {
+        let given = profile_case(rng);
+        let told = robijan::profile(&given.quantities, given.total, given.contracted);
+        let answer = reference::profile::profile(&given.quantities, given.total, given.contracted);
+        same(
+            (told.number, told.keeps),
+            (answer.number.into(), answer.keeps.into()),
+            || format!("case {case}: {given:?}"),
+        )?;
+        tally.add(
+            match told.keeps {
+                1 => "profiles that keep the limits",
+                _ => "profiles that do not, or refused",
+            },
+            told.number,
+            0,
+        );
     }
     Ok(())
 }

@@ -335,6 +335,25 @@ pub fn tranches(rvq: i64, bvq: i64, mq: i64) -> Result<Tranches, Refusal> {
     told(answer.number, 0, tranches)
 }
 
+/// Does a forecaster's profile of a day, 48 quantities, keep its limits? The intervals at indices 0 and 1, 2 and 3, .. are a Gas Balancing Period
+/// each; its kWh may be from 80 to 125 per cent of `contracted`, both ends included, and the day's must be `total`. `contracted` is the daily
+/// contracted quantity in kWh for one such period, 0 to 10,000,000; `total` is 0 to 480,000,000. A list not of 48, or a figure out of range, is
+/// [`numbers::OUTSIDE_RANGE`]; a total that no 48 quantities could have within the limits [`numbers::TOTAL_IMPOSSIBLE`].
+///
+/// ```
+/// let mut profile = [50; 48];
+/// assert_eq!(robijan::keeps_limits(&profile, 2_400, 100), Ok(true));
+/// profile[0] = 20;
+/// profile[2] = 80;
+/// assert_eq!(robijan::keeps_limits(&profile, 2_400, 100), Ok(false));
+/// let refusal = robijan::keeps_limits(&profile, 3_001, 100).unwrap_err();
+/// assert_eq!(refusal.number, robijan::numbers::TOTAL_IMPOSSIBLE);
+/// ```
+pub fn keeps_limits(profile: &[i64], total: i64, contracted: i64) -> Result<bool, Refusal> {
+    let answer = raw::profile(profile, total, contracted);
+    told(answer.number, 0, answer.keeps == 1)
+}
+
 /// The date of a day.
 ///
 /// ```

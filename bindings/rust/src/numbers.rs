@@ -29,6 +29,8 @@ pub const NO_SUCH_DATE: u64 = 12;
 pub const BAD_HOLIDAYS: u64 = 13;
 /// The day asked for is past 31 December 2099.
 pub const PAST_LAST_DAY: u64 = 14;
+/// No profile could have this total within the limits.
+pub const TOTAL_IMPOSSIBLE: u64 = 15;
 
 /// A number in words.
 pub fn text(number: u64) -> &'static str {
@@ -48,6 +50,7 @@ pub fn text(number: u64) -> &'static str {
         NO_SUCH_DATE => "no such date",
         BAD_HOLIDAYS => "holidays not strictly ascending days",
         PAST_LAST_DAY => "past 31 December 2099",
+        TOTAL_IMPOSSIBLE => "total impossible within the limits",
         _ => "unknown number",
     }
 }

@@ -50,6 +50,13 @@ pub struct Tranches {
 
 #[repr(C)]
 #[derive(Clone, Copy, Debug, PartialEq, Eq)]
+pub struct Profile {
+    pub number: u64,
+    pub keeps: u64,
+}
+
+#[repr(C)]
+#[derive(Clone, Copy, Debug, PartialEq, Eq)]
 pub struct Date {
     pub number: u64,
     pub year: u64,
@@ -79,7 +86,9 @@ pub struct Business {
 }
 
 mod library {
-    use super::{Answer, BookSize, Business, Date, Day, ReferencePrice, Terms, Tranches, Weekday};
+    use super::{
+        Answer, BookSize, Business, Date, Day, Profile, ReferencePrice, Terms, Tranches, Weekday,
+    };
 
     extern "C" {
         pub fn robijan_open(book: *mut i64, book_words: usize, terms: Terms) -> Answer;
@@ -111,6 +120,12 @@ mod library {
             output_words: usize,
         ) -> u64;
         pub fn robijan_tranche(rvq: i64, bvq: i64, mq: i64) -> Tranches;
+        pub fn robijan_profile(
+            profile: *const i64,
+            intervals: usize,
+            total: i64,
+            contracted: i64,
+        ) -> Profile;
         pub fn robijan_date(day: i64) -> Date;
         pub fn robijan_day(year: i64, month: i64, day: i64) -> Day;
         pub fn robijan_weekday(day: i64) -> Weekday;
@@ -171,6 +186,10 @@ pub fn share(residual: i64, uegq: &[i64], output: &mut [i64]) -> u64 {
 
 pub fn tranche(rvq: i64, bvq: i64, mq: i64) -> Tranches {
     unsafe { library::robijan_tranche(rvq, bvq, mq) }
+}
+
+pub fn profile(profile: &[i64], total: i64, contracted: i64) -> Profile {
+    unsafe { library::robijan_profile(profile.as_ptr(), profile.len(), total, contracted) }
 }
 
 pub fn date(day: i64) -> Date {

@@ -85,6 +85,31 @@ fn closing() {
 }
 
 #[test]
+fn profiles() {
+    // The limits of a pair are 80 and 125 kWh, of the day 1,920 and 3,000.
+    let mut profile = [50; 48];
+    assert_eq!(keeps_limits(&profile, 2_400, 100), Ok(true));
+    assert_eq!(keeps_limits(&profile, 2_401, 100), Ok(false));
+    // Pairs begin at even indices.
+    (profile[0], profile[1], profile[2]) = (20, 60, 70);
+    assert_eq!(keeps_limits(&profile, 2_400, 100), Ok(true));
+    profile[1] = 59;
+    assert_eq!(keeps_limits(&profile, 2_399, 100), Ok(false));
+    assert_eq!(refused(keeps_limits(&profile, 1_919, 100)), (15, 0));
+    assert_eq!(refused(keeps_limits(&profile, 3_001, 100)), (15, 0));
+    assert_eq!(numbers::TOTAL_IMPOSSIBLE, 15);
+    // Total and contracted quantity have ranges of their own.
+    assert_eq!(refused(keeps_limits(&profile, 480_000_000, 100)), (15, 0));
+    assert_eq!(refused(keeps_limits(&profile, 100, 480_000_000)), (1, 0));
+    assert_eq!(refused(keeps_limits(&profile[1..], 2_400, 100)), (1, 0));
+    // No word is cut on its way.
+    profile[1] = 60;
+    let wide = 1 << 32;
+    assert_eq!(refused(keeps_limits(&profile, 2_400 + wide, 100)), (1, 0));
+    assert_eq!(refused(keeps_limits(&profile, 2_400, 100 + wide)), (1, 0));
+}
+
+#[test]
 fn calendar() {
     assert_eq!(refused(day(2026, 2, 29)), (12, 0));
     assert_eq!(numbers::NO_SUCH_DATE, 12);
@@ -92,4 +117,11 @@ fn calendar() {
     assert_eq!(numbers::BAD_HOLIDAYS, 13);
     assert_eq!(refused(statement_day(36_450)), (14, 0));
     assert_eq!(numbers::PAST_LAST_DAY, 14);
+}
+
+#[test]
+fn texts() {
+    for number in 0..=numbers::TOTAL_IMPOSSIBLE {
+        assert_ne!(numbers::text(number), "unknown number");
+    }
 }

@@ -1,4 +1,4 @@
-// Document 01, "Numbers returned": the table, and what open, submit and close return.
+// Document 01, "Numbers returned", with the numbers of document 02: the table, and what open, submit and close return.
 use rulebook::Answer;
 use rulebook::CloseAnswer;
 use rulebook::OpenAnswer;
@@ -38,6 +38,8 @@ pub const NO_SUCH_DATE: u64 = 12;
 pub const BAD_HOLIDAYS: u64 = 13;
 
 pub const PAST_LAST_DAY: u64 = 14;
+
+pub const TOTAL_IMPOSSIBLE: u64 = 15;
 
 // Every other figure is 0.
 fn numbered(number: u64, position: usize) -> Answer

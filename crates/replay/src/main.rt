@@ -9,14 +9,14 @@
 //     S lent, file                submit                          T RVQ, BVQ, MQ              tranche
 //     C lent, fill, count         close                           d, w, s: day                date, weekday, statement day
 //     y year, month, day          day                             b, f: day, holidays         business day, final statement
-//                                                                 m year, month, holidays     residual due day
+//     Q T, D, quantities          profile                         m year, month, holidays     residual due day
 //
 // A line has the call's name, number and figures, then what was lent: the digest of the book, a file or a list, the words of a statement or
 // an output.
 mod input; // input.rt: fields of standard input
 mod output; // output.rt: lines of standard output, digests
 mod book_calls; // book_calls.rt: open, submit, close
-mod rules_calls; // rules_calls.rt: price, share, tranche
+mod rules_calls; // rules_calls.rt: price, share, tranche, profile
 mod calendar_calls; // calendar_calls.rt: the seven calendar calls
 
 use book_calls::close;
@@ -25,6 +25,7 @@ use book_calls::poke;
 use book_calls::submit;
 use calendar_calls::calendar_call;
 use rules_calls::price;
+use rules_calls::profile;
 use rules_calls::share;
 use rules_calls::tranche;
 ghost use mathlib.Core.Path.{_≡_};
@@ -43,6 +44,7 @@ fn call_without_book(command: u8) -> bool
         b'V' => price(),
         b'R' => share(),
         b'T' => tranche(),
+        b'Q' => profile(),
         _ => return calendar_call(command),
     }
     true

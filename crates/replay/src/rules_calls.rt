@@ -1,7 +1,8 @@
-// The calls that hold no book: reference price, shares, tranches.
+// The calls that hold no book: reference price, shares, tranches, profiles.
 use crate::input;
 use crate::output;
 use robijan::rules_calls::robijan_price;
+use robijan::rules_calls::robijan_profile;
 use robijan::rules_calls::robijan_share;
 use robijan::rules_calls::robijan_tranche;
 ghost use mathlib.Core.Path.{_≡_};
@@ -9,6 +10,8 @@ ghost use Rattle.rulebook.specs.Calls.{shareCall};
 ghost use Rattle.replay.specs.Frames.{SharedFrom};
 
 const LIST_WORDS: usize = 40;
+
+const PROFILE_WORDS: usize = 64;
 
 fn price_of(mep: &[i64], ieq: &[i64]) {
     let answer = robijan_price(mep, ieq);
@@ -69,4 +72,25 @@ pub fn tranche() {
     output::word(answer.first);
     output::word(answer.second);
     output::end();
+}
+
+fn profile_of(total: i64, contracted: i64, profile: &[i64]) {
+    let answer = robijan_profile(profile, total, contracted);
+    output::name(b"profile");
+    output::figure(answer.number);
+    output::figure(answer.keeps);
+    output::digest(profile);
+    output::end();
+}
+
+fn profile_from(space: &mut [i64]) {
+    let total = input::word();
+    let contracted = input::word();
+    let n = input::list(space);
+    profile_of(total, contracted, &space[..n]);
+}
+
+pub fn profile() {
+    let mut space = [0i64; PROFILE_WORDS];
+    profile_from(&mut space);
 }

@@ -1,14 +1,17 @@
-// The calls that hold no book: reference price, shares, tranches.
+// The calls that hold no book: reference price, shares, tranches, profiles.
 use rulebook::PriceAnswer;
 use rulebook::PriceReturned;
+use rulebook::ProfileAnswer;
+use rulebook::ProfileReturned;
 use rulebook::TrancheAnswer;
 use rulebook::TrancheReturned;
 use rules::price::reference_price;
+use rules::profile::check_profile;
 use rules::share::shares;
 use rules::tranche::tranches;
 ghost use mathlib.Core.Path.{_≡_};
-ghost use Rattle.rulebook.specs.Numbers.{priceReturned, trancheReturned};
-ghost use Rattle.rulebook.specs.Calls.{priceCall, shareCall, trancheCall};
+ghost use Rattle.rulebook.specs.Numbers.{priceReturned, trancheReturned, profileRefused, profileReturned};
+ghost use Rattle.rulebook.specs.Calls.{priceCall, shareCall, trancheCall, profileCall};
 
 fn of_price(answer: PriceAnswer) -> PriceReturned
     ensures { λ r. ⌜ r ≡ priceReturned answer ⌝ }
@@ -42,6 +45,28 @@ fn of_tranches(answer: TrancheAnswer) -> TrancheReturned
     }
 }
 
+fn refused_profile(number: u64) -> ProfileReturned
+    ensures { λ r. ⌜ r ≡ profileRefused number ⌝ }
+{
+    ProfileReturned {
+        number: number,
+        keeps: 0,
+    }
+}
+
+fn of_profile(answer: ProfileAnswer) -> ProfileReturned
+    ensures { λ r. ⌜ r ≡ profileReturned answer ⌝ }
+{
+    match answer {
+        ProfileAnswer::Judged(keeps) => ProfileReturned {
+            number: answers::ACCEPTED,
+            keeps: answers::one_if(keeps),
+        },
+        ProfileAnswer::TotalImpossible => refused_profile(answers::TOTAL_IMPOSSIBLE),
+        ProfileAnswer::ProfileRefused => refused_profile(answers::OUTSIDE_RANGE),
+    }
+}
+
 // The reference price of facilities with these MEP and IEQ.
 #[no_mangle]
 pub extern "C" fn robijan_price(mep: &[i64], ieq: &[i64]) -> PriceReturned
@@ -64,4 +89,12 @@ pub extern "C" fn robijan_tranche(rvq: i64, bvq: i64, mq: i64) -> TrancheReturne
     ensures { λ r. ⌜ r ≡ trancheCall rvq bvq mq ⌝ }
 {
     of_tranches(tranches(rvq, bvq, mq))
+}
+
+// Whether a profile of 48 intervals keeps the limits of the day's total T and the contracted quantity D.
+#[no_mangle]
+pub extern "C" fn robijan_profile(profile: &[i64], total: i64, contracted: i64) -> ProfileReturned
+    ensures { λ r. ⌜ r ≡ profileCall (now (profile .entry)) total contracted ⌝ }
+{
+    of_profile(check_profile(profile, total, contracted))
 }

@@ -1,4 +1,4 @@
--- What the calls on no book return, and the words that they leave: reference price, shares, tranches. Assumes nothing.
+-- What the calls on no book return, and the words that they leave: reference price, shares, tranches, profiles. Assumes nothing.
 use mathlib.Core.Path.{_≡_}
 use mathlib.Core.Bool.{Bool, true, cond, _&&_}
 use mathlib.Core.List.{List}
@@ -7,21 +7,27 @@ use lib.Dec.{leb, eqb}
 use lib.IntN.{ℤ, pos, natAbs}
 use lib.ListN.{length}
 use Rattle.integer.specs.Integer.{minus}
-use Rattle.integer.specs.Below.{all, sumℕ}
+use Rattle.integer.specs.Below.{all}
 use Rattle.integer.specs.Words.{word, filled}
 use Rattle.rulebook.specs.declared.Kind.the-variants.{Quantity, Injection, Price}
 use Rattle.rulebook.specs.declared.Kind.{Kind}
-use Rattle.rulebook.specs.Units.{inRange, between, asQuantity}
+use Rattle.rulebook.specs.Units.{inRange, between, asQuantity, intervals, positive}
 use Rattle.rulebook.specs.ReferencePrice.{mostFacilities, referencePrice}
 use Rattle.rulebook.specs.Shares.{mostAccounts, leastResidual, mostResidual, share, spareOf}
 use Rattle.rulebook.specs.Tranches.{tranche1, tranche2}
+use Rattle.rulebook.specs.Profile.{mostDayKwh, mostContracted, keepsLimits, totalPossible}
 use Rattle.rulebook.specs.declared.PriceReturned.{PriceReturned}
 use Rattle.rulebook.specs.declared.TrancheReturned.{TrancheReturned}
-use Rattle.rulebook.specs.Numbers.{accepted, outsideRange, outputTooShort, priceAccepted, priceRefused, ShareReturned, trancheAccepted, trancheRefused}
+use Rattle.rulebook.specs.declared.ProfileReturned.{ProfileReturned}
+use Rattle.rulebook.specs.Numbers.{accepted, outsideRange, outputTooShort, priceAccepted, priceRefused, ShareReturned, trancheAccepted, trancheRefused, totalImpossible, checked, profileAccepted, profileRefused}
 
 -- every word of a list is in the range of its kind
 unfoldable pub allInRange : Kind → List ℤ → Bool
 allInRange kind xs = all (length xs) (λ i. inRange kind (word xs i))
+
+-- the words of a list of quantities, as quantities
+abbrev pub quantitiesIn : List ℤ → ℕ → ℕ
+quantitiesIn xs i = asQuantity (word xs i)
 
 -- ---- Reference price: the lists of MEP and IEQ
 
@@ -55,11 +61,11 @@ pub record SharesIn (r : ℤ) (uegq : List ℤ) : Type 0 where
 
 -- S of the list
 abbrev pub spareIn : List ℤ → ℕ
-spareIn uegq = spareOf (length uegq) (λ b. asQuantity (word uegq b))
+spareIn uegq = spareOf (length uegq) (quantitiesIn uegq)
 
 -- one word an account
 unfoldable pub shareWord : ℤ → List ℤ → ℕ → ℤ
-shareWord r uegq a = pos (share r (length uegq) (λ b. asQuantity (word uegq b)) a)
+shareWord r uegq a = pos (share r (length uegq) (quantitiesIn uegq) a)
 
 unfoldable pub shareCall : ℤ → List ℤ → List ℤ → ShareReturned
 shareCall r uegq output =
@@ -78,3 +84,22 @@ trancheCall rvq bvq mq =
     cond (trancheInput rvq bvq mq)
     (trancheAccepted (pos (tranche1 (asQuantity rvq) (asQuantity bvq) (asQuantity mq))) (pos (tranche2 (asQuantity rvq) (asQuantity bvq) (asQuantity mq))))
     trancheRefused
+
+-- ---- Profiles (document 02, P1): 48 quantities, the day's total T, and D
+
+-- the list's length, T and D are in range
+abbrev pub profileTerms : ℕ → ℤ → ℤ → Bool
+profileTerms count t d = eqb count intervals && (between (pos 0) (pos mostDayKwh) t && between (pos 0) (pos mostContracted) d)
+
+unfoldable pub profileInput : List ℤ → ℤ → ℤ → Bool
+profileInput profile t d = profileTerms (length profile) t d && allInRange Quantity profile
+
+-- what is returned, by whether the input is in range
+unfoldable pub profileTold : Bool → List ℤ → ℕ → ℕ → ProfileReturned
+profileTold given profile t d =
+    checked given (profileRefused outsideRange)
+    (checked (totalPossible t d) (profileRefused totalImpossible)
+    (profileAccepted (keepsLimits t d (quantitiesIn profile))))
+
+unfoldable pub profileCall : List ℤ → ℤ → ℤ → ProfileReturned
+profileCall profile t d = profileTold (profileInput profile t d) profile (positive t) (positive d)

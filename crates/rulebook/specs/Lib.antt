@@ -3,6 +3,7 @@ pub mod Units
 pub mod ReferencePrice
 pub mod Shares
 pub mod Tranches
+pub mod Profile
 pub mod DayAmount
 pub mod Terms
 pub mod Sections
@@ -31,6 +32,7 @@ pub mod Demand3
 pub mod Companion
 pub mod SearchOrder
 pub mod CloseTable
+pub mod ProfileTable
 pub mod Leaves
 pub mod Bounds
 -- between the words and the history: what each call keeps

@@ -1,4 +1,4 @@
--- Document 01, "Numbers returned": the table, and what each answer returns. Assumes nothing.
+-- Document 01, "Numbers returned", and the numbers that document 02 adds: the table, and what each answer returns. Assumes nothing.
 use mathlib.Core.Bool.{Bool, cond}
 use mathlib.Core.List.{List}
 use Prim.Native.Nat.{ℕ}
@@ -16,19 +16,22 @@ use Rattle.rulebook.specs.declared.CloseAnswer.the-variants.{Closed, Boo
 pub use Rattle.rulebook.specs.declared.Answer.{Answer}
 use Rattle.rulebook.specs.declared.PriceReturned.{PriceReturned}
 use Rattle.rulebook.specs.declared.TrancheReturned.{TrancheReturned}
+use Rattle.rulebook.specs.declared.ProfileReturned.{ProfileReturned}
 use Rattle.rulebook.specs.declared.PriceAnswer.{PriceAnswer}
 use Rattle.rulebook.specs.declared.PriceAnswer.the-variants.{Priced, PriceRefused}
 use Rattle.rulebook.specs.declared.ShareAnswer.{ShareAnswer}
 use Rattle.rulebook.specs.declared.ShareAnswer.the-variants.{Shared, ShareRefused, OutputTooShort}
 use Rattle.rulebook.specs.declared.TrancheAnswer.{TrancheAnswer}
 use Rattle.rulebook.specs.declared.TrancheAnswer.the-variants.{Split, TrancheRefused}
+use Rattle.rulebook.specs.declared.ProfileAnswer.{ProfileAnswer}
+use Rattle.rulebook.specs.declared.ProfileAnswer.the-variants.{Judged, TotalImpossible, ProfileRefused}
 
 -- ---- The table
 
 abbrev pub accepted : ℕ
 accepted = 0
 
--- opening, share, tranche or price parameter, or a list's length, outside its range; MEP and IEQ lists of unequal length
+-- opening, share, tranche, price or profile parameter, or a list's length, outside its range; MEP and IEQ lists of unequal length
 abbrev pub outsideRange : ℕ
 outsideRange = 1
 
@@ -81,6 +84,10 @@ badHolidays = 13
 -- calendar result past 36,524
 abbrev pub pastLastDay : ℕ
 pastLastDay = 14
+
+-- profile: no 48 quantities keep the limits of this T and D (document 02, P1)
+abbrev pub totalImpossible : ℕ
+totalImpossible = 15
 
 -- ---- One check after another, in the order in which they are tried: a check that is not met refuses, else the rest decides
 
@@ -153,3 +160,15 @@ trancheRefused = record { number = outsideRange; first = pos 0; second = pos 0 }
 abbrev pub trancheReturned : TrancheAnswer → TrancheReturned
 trancheReturned (Split t u) = trancheAccepted t u
 trancheReturned TrancheRefused = trancheRefused
+
+-- 1 where the profile keeps the limits, 0 where it does not
+abbrev pub profileAccepted : Bool → ProfileReturned
+profileAccepted keeps = record { number = accepted; keeps = cond keeps 1 0 }
+
+abbrev pub profileRefused : ℕ → ProfileReturned
+profileRefused number = record { number = number; keeps = 0 }
+
+abbrev pub profileReturned : ProfileAnswer → ProfileReturned
+profileReturned (Judged keeps) = profileAccepted keeps
+profileReturned TotalImpossible = profileRefused totalImpossible
+profileReturned ProfileRefused = profileRefused outsideRange

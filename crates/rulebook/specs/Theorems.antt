@@ -37,6 +37,7 @@ use Rattle.rulebook.specs.Demand3.{Demand3OnCalls, Demand3Holds}
 use Rattle.rulebook.specs.Companion.{OpeningHolds, CompanionHolds, KeptFrom}
 use Rattle.rulebook.specs.SearchOrder.{SearchHolds}
 use Rattle.rulebook.specs.CloseTable.{CloseTable}
+use Rattle.rulebook.specs.ProfileTable.{ProfileTable}
 use Rattle.rulebook.specs.Leaves.{SubmitLeaves, CloseLeaves, CloseKeeps}
 use Rattle.rulebook.specs.Bounds.{CloseSized}
 use Rattle.rulebook.specs.FileTheorems.{FileTheorems, file-theorems}
@@ -50,6 +51,7 @@ use Rattle.rulebook.specs.examples.FileExamples.{BytesRead, bytes-read, 
 use Rattle.rulebook.specs.examples.DataExamples.{BookRead, book-read, RowsRead, rows-read}
 use Rattle.rulebook.specs.examples.NumberExamples.{Returned, returned, Table, table, Refusals, refusals, ThreeAccounts, three-accounts}
 use Rattle.rulebook.specs.examples.InputExamples.{CallsTold, calls-told}
+use Rattle.rulebook.specs.examples.ProfileExamples.{ProfilesTold, profiles-told}
 use Rattle.rulebook.specs.examples.CallExamples.{Openings, openings, LentBooks, lent-books}
 use Rattle.rulebook.specs.examples.SubmitExamples.{StoredRows, stored-rows, OverNines, over-nines, SubmittedFile, submitted-file}
 use Rattle.rulebook.specs.examples.HistoryExamples.{Closes, closes-told, NewBooks, new-books}
@@ -63,6 +65,7 @@ use Rattle.rulebook.specs.laws.FormedBookLaws.{formed-book, book-formed}
 use Rattle.rulebook.specs.laws.BookSizeLaws.{close-sized}
 use Rattle.rulebook.specs.laws.SearchOrderLaws.{search-holds}
 use Rattle.rulebook.specs.laws.CloseTableLaws.{close-table}
+use Rattle.rulebook.specs.laws.ProfileTableLaws.{profile-table}
 use Rattle.rulebook.specs.laws.AnySubmitLaws.{submitted-formed}
 use Rattle.rulebook.specs.laws.AnyCloseLaws.{closed-formed}
 use Rattle.rulebook.specs.laws.LentLaws.{submitted-beyond, closed-words-beyond, submitted-rows, refused-submit, refused-close}
@@ -124,6 +127,10 @@ pub record Theorems : Type 0 where
   pub closeTable : (w statement : List ℤ) → CloseTable w statement
   -- 11 is at the first flag in search order that is zero, and 0 is returned if none is
   pub search : SearchHolds
+  -- ---- Profiles
+
+  -- of any list, T and D: 1, 15, yes and no, each exactly when; a profile that keeps the limits, wherever 0 is returned
+  pub profiles : (profile : List ℤ) (t d : ℤ) → ProfileTable profile t d
   -- ---- The ring
 
   -- two days of the window share no slot; every slot is of exactly one day of the window or of none
@@ -171,6 +178,7 @@ pub record Theorems : Type 0 where
   pub threeAccounts : ThreeAccounts
   -- the calls on no book, and openings
   pub callsTold : CallsTold
+  pub profilesTold : ProfilesTold
   pub openings : Openings
   pub lentBooks : LentBooks
   -- what a row, and a file, leaves in the book's words, by index
@@ -209,6 +217,7 @@ theorems = record {
   closeSized = close-sized;
   closeTable = close-table;
   search = search-holds;
+  profiles = profile-table;
   daysApart = window-days-apart;
   slotDay = slot-day;
   daysArePlaces = days-are-places;
@@ -242,6 +251,7 @@ theorems = record {
   refusals = refusals;
   threeAccounts = three-accounts;
   callsTold = calls-told;
+  profilesTold = profiles-told;
   openings = openings;
   lentBooks = lent-books;
   storedRows = stored-rows;

@@ -9,6 +9,7 @@ pub mod FileExamples
 pub mod DataExamples
 pub mod NumberExamples
 pub mod InputExamples
+pub mod ProfileExamples
 pub mod CallExamples
 pub mod SubmitExamples
 pub mod HistoryExamples

@@ -5,10 +5,12 @@ pub mod SharesLaws
 pub mod TranchesLaws
 pub mod DayAmountLaws
 pub mod CallsLaws
+pub mod ProfileLaws
 pub mod AmountLaws
 pub mod SizeLaws
 pub mod TestLaws
 pub mod CheckedLaws
+pub mod ProfileTableLaws
 pub mod SectionsLaws
 pub mod RowWordLaws
 pub mod LayoutLaws

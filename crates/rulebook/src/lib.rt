@@ -106,6 +106,13 @@ pub struct TrancheReturned {
     pub second: i64,
 }
 
+// What the profile call returns: number, and 1 where the profile keeps the limits; where it does not, or refused, 0.
+#[repr(C)]
+pub struct ProfileReturned {
+    pub number: u64,
+    pub keeps: u64,
+}
+
 // What the reference price call answers: V, or a list's length or a value outside its range.
 pub enum PriceAnswer {
     Priced(i64),
@@ -123,4 +130,12 @@ pub enum ShareAnswer {
 pub enum TrancheAnswer {
     Split(i64, i64),
     TrancheRefused,
+}
+
+// What the profile call answers: whether the profile keeps the limits, or that no 48 quantities could, or a list not of 48 or a value outside its
+// range.
+pub enum ProfileAnswer {
+    Judged(bool),
+    TotalImpossible,
+    ProfileRefused,
 }

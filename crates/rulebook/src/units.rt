@@ -30,6 +30,13 @@ pub const LEAST_RESIDUAL: i64 = -1280000000;
 
 pub const MOST_RESIDUAL: i64 = 1000000000;
 
+// Document 02, P1: the day's total, the contracted quantity of a Gas Balancing Period, and a day's such periods.
+pub const MOST_DAY_KWH: i64 = 480000000;
+
+pub const MOST_CONTRACTED: i64 = 10000000;
+
+pub const BALANCING_PERIODS: usize = 24;
+
 // Tender vesting pairs of a vesting row.
 pub const TENDERS: usize = 3;
 

@@ -1,4 +1,5 @@
 pub mod PriceSums
 pub mod SpareTold
+pub mod PeriodsTold
 -- laws and proofs
 pub mod laws

@@ -3,8 +3,8 @@ use mathlib.Core.Path.{_≡_, refl, sym, ap, _∙_}
 use mathlib.Core.Bool.{Bool, true, false, _&&_, and-false}
 use mathlib.Core.Logic.{_⊎_, inl, inr, ⊎-elim}
 use mathlib.Core.List.{List, [], _∷_, _++_}
-use Prim.Native.Nat.{ℕ, zero, suc, _+_, _*_, _≤_, _<_}
-use native.Mathlib.Nat.{not-suc-le-zero, le-of-suc-le-suc, suc-mul}
+use Prim.Native.Nat.{ℕ, zero, suc, _+_, _*_, _-_, _≤_, _<_}
+use native.Mathlib.Nat.{not-suc-le-zero, le-of-suc-le-suc, suc-mul, zero-mul}
 use native.Mathlib.Numerals.{add-one}
 use native.Mathlib.Omega.{arith}
 use borrow.Author.Tests.{ltb-true, ltb-false}
@@ -73,6 +73,23 @@ fold-stop op e x stays zero f i l t = absurd (not-suc-le-zero l)
 fold-stop op e x stays (suc n) f i l t =
     ⊎-elim (λ h. rw (fold-stop op e x stays n f i h t) (stays (f n))) (λ h. let q : i ≡ n = omega arith in rw (← q) t) (lt-or-le i n)
 
+-- two turns at a time, where joining is associative
+pub fold-by-two {ℓ} : {A : Type ℓ} (op : A → A → A) (e : A) → ((x y z : A) → op (op x y) z ≡ op x (op y z))
+    → (n : ℕ) (f : ℕ → A) → fold op e (2 * n) f ≡ fold op e n (λ b. op (f (2 * b)) (f (2 * b + 1)))
+unfolding fold
+fold-by-two op e assoc zero f = refl
+fold-by-two op e assoc (suc n) f =
+    let twice : 2 * suc n ≡ suc (suc (2 * n)) = omega arith in
+    let next : suc (2 * n) ≡ 2 * n + 1 = omega arith in
+    rw (twice, next, fold-by-two op e assoc n f) (assoc (fold op e n (λ b. op (f (2 * b)) (f (2 * b + 1)))) (f (2 * n)) (f (2 * n + 1)))
+
+-- a test that passes of what is joined exactly if it passes of both
+pub fold-test {ℓ} : {A : Type ℓ} (op : A → A → A) (e : A) (test : A → Bool) → test e ≡ true → ((x y : A) → test (op x y) ≡ (test x && test y))
+    → (n : ℕ) (f : ℕ → A) → test (fold op e n f) ≡ all n (λ i. test (f i))
+unfolding fold
+fold-test op e test unit both zero f = unit
+fold-test op e test unit both (suc n) f = both (fold op e n f) (f n) ∙ ap (λ (t : Bool). t && test (f n)) (fold-test op e test unit both n f)
+
 -- ---- sumℕ, sumℤ
 
 pub sumℕ-cong : (n : ℕ) (f g : ℕ → ℕ) → ((i : ℕ) → i < n → f i ≡ g i) → sumℕ n f ≡ sumℕ n g
@@ -85,6 +102,19 @@ pub sumℕ-le : (n m : ℕ) (f : ℕ → ℕ) → ((i : ℕ) → i < n → f i �
 unfolding fold
 sumℕ-le zero m f h = omega arith
 sumℕ-le (suc n) m f h = omega (arith, sumℕ-le n m f (λ i l. h i (omega arith)), h n (omega arith), suc-mul n m)
+
+pub sumℕ-ge : (n m : ℕ) (f : ℕ → ℕ) → ((i : ℕ) → i < n → m ≤ f i) → n * m ≤ sumℕ n f
+unfolding fold
+sumℕ-ge zero m f h = omega (arith, zero-mul m)
+sumℕ-ge (suc n) m f h = omega (arith, sumℕ-ge n m f (λ i l. h i (omega arith)), h n (omega arith), suc-mul n m)
+
+-- what rises from turn to turn rises in all by the sum of its differences
+pub sumℕ-rises : (n : ℕ) (f : ℕ → ℕ) → ((i : ℕ) → i < n → f i ≤ f (i + 1)) → f 0 + sumℕ n (λ i. f (i + 1) - f i) ≡ f n
+unfolding fold
+sumℕ-rises zero f h = omega arith
+sumℕ-rises (suc n) f h =
+    let e : f (n + 1) ≡ f (suc n) = ap f (omega arith) in
+    omega (arith, sumℕ-rises n f (λ i l. h i (omega arith)), h n (omega arith), e)
 
 -- one summand is at most the sum
 pub sumℕ-member : (n : ℕ) (f : ℕ → ℕ) (i : ℕ) → i < n → f i ≤ sumℕ n f

@@ -14,6 +14,9 @@ share-requires c κs = search needs
 tranche-requires : tie.Need-tranche-requires
 tranche-requires c κs = search needs
 
+profile-requires : tie.Need-profile-requires
+profile-requires c κs = search needs
+
 calendar-call-requires : tie.Need-calendar-call-requires
 calendar-call-requires c κs = search needs
 
@@ -22,7 +25,7 @@ unfolding bookless
 returns c =
     let m = c .before .before .args .command in
     let n = c .before .match .rest in
-    rw (ne-eqb m 86 (n .0 .0 .1), ne-eqb m 82 (n .0 .1), ne-eqb m 84 (n .1)) (c .calendar-call .ensures)
+    rw (ne-eqb m 86 (n .0 .0 .0 .1), ne-eqb m 82 (n .0 .0 .1), ne-eqb m 84 (n .0 .1), ne-eqb m 81 (n .1)) (c .calendar-call .ensures)
 
 returns-2 : tie.Need-returns-2
 unfolding bookless
@@ -36,6 +39,10 @@ returns-4 : tie.Need-returns-4
 unfolding bookless
 returns-4 c = rw (c .before .match .keys3)
 
+returns-5 : tie.Need-returns-5
+unfolding bookless
+returns-5 c = rw (c .before .match .keys4)
+
 pub call-without-book-spec : {M : Type 1} → statement M
 call-without-book-spec =
     tie.close
@@ -43,8 +50,10 @@ call-without-book-spec =
     price-requires
     share-requires
     tranche-requires
+    profile-requires
     calendar-call-requires
     returns
     returns-2
     returns-3
-    returns-4)
+    returns-4
+    returns-5)

@@ -5,7 +5,7 @@ use Prim.Native.Nat.{ℕ, _≤_}
 use lib.IntN.{ℤ, pos, natAbs}
 use lib.Signed.{leZ, _≤ℤ_}
 use Rattle.integer.specs.Integer.{positive, negative, minus}
-use Rattle.integer.specs.laws.IntegerLaws.{int, parts, parts-le, le-test, neg-parts}
+use Rattle.integer.specs.laws.IntegerLaws.{int, parts, le-parts, parts-le, le-test, le-true, neg-parts}
 use Rattle.integer.specs.laws.BelowLaws.{and-true}
 use Rattle.rulebook.specs.declared.Kind.the-variants.{Quantity, Injection, Load, Price}
 use Rattle.rulebook.specs.Units.{between, inRange, mostQuantity, mostLoad, mostPrice}
@@ -14,6 +14,9 @@ pub between-true : (low high z : ℤ) → between low high z ≡ true → (low �
 between-true low high z e =
     let t = and-true (leZ low z) (leZ z high) e in
     (parts-le (le-test low z (t .0)), parts-le (le-test z high (t .1)))
+
+pub true-between : (low high z : ℤ) → low ≤ℤ z → z ≤ℤ high → between low high z ≡ true
+true-between low high z l h = rw (le-true low z (le-parts l), le-true z high (le-parts h))
 
 -- from 0 to n
 pub record UpTo (n : ℕ) (z : ℤ) : Type 0 where

@@ -29,7 +29,7 @@ fn values(rng: &mut Rng, range: &RangeInclusive<i64>, count: usize) -> Vec<i64> 
 }
 
 /// Values next to a range, and wild ones.
-fn beyond(range: &RangeInclusive<i64>) -> [i64; 4] {
+pub(super) fn beyond(range: &RangeInclusive<i64>) -> [i64; 4] {
     [range.start() - 1, range.end() + 1, i64::MIN, i64::MAX]
 }
 

@@ -10,6 +10,7 @@ mod figures;
 mod large;
 mod lists;
 mod openings;
+mod profiles;
 mod words;
 
 use super::Rng;
@@ -30,6 +31,7 @@ pub fn cases() -> Vec<Frame> {
     absent::write(&mut script);
     closes::write(&mut script);
     large::write(&mut script);
+    profiles::write(&mut script);
     script.frames
 }
 
