@@ -46,3 +46,8 @@ pub record ProfileTable (profile : List ℤ) (t d : ℤ) : Type 0 where
   pub no : (profileCall profile t d ≡ record { number = 0; keeps = 0 }) ↔ (ProfileGiven profile t d × ((¬ Keeping t d profile) × ((other : List ℤ) × Keeping t d other)))
   -- one that does, wherever neither 1 nor 15 is returned
   pub shown : profileCall profile t d .number ≡ 0 → Keeping t d (evenProfile t)
+
+-- what keeps the limits of a T and D in range is answered yes
+abbrev pub KeepingAnswered : Type 0
+KeepingAnswered = (profile : List ℤ) (t d : ℤ) → pos 0 ≤ℤ t → t ≤ℤ pos 480000000 → pos 0 ≤ℤ d → d ≤ℤ pos 10000000
+    → Keeping t d profile → profileCall profile t d ≡ record { number = 0; keeps = 1 }

@@ -37,7 +37,7 @@ use Rattle.rulebook.specs.Demand3.{Demand3OnCalls, Demand3Holds}
 use Rattle.rulebook.specs.Companion.{OpeningHolds, CompanionHolds, KeptFrom}
 use Rattle.rulebook.specs.SearchOrder.{SearchHolds}
 use Rattle.rulebook.specs.CloseTable.{CloseTable}
-use Rattle.rulebook.specs.ProfileTable.{ProfileTable}
+use Rattle.rulebook.specs.ProfileTable.{ProfileTable, KeepingAnswered}
 use Rattle.rulebook.specs.Leaves.{SubmitLeaves, CloseLeaves, CloseKeeps}
 use Rattle.rulebook.specs.Bounds.{CloseSized}
 use Rattle.rulebook.specs.FileTheorems.{FileTheorems, file-theorems}
@@ -65,7 +65,7 @@ use Rattle.rulebook.specs.laws.FormedBookLaws.{formed-book, book-formed}
 use Rattle.rulebook.specs.laws.BookSizeLaws.{close-sized}
 use Rattle.rulebook.specs.laws.SearchOrderLaws.{search-holds}
 use Rattle.rulebook.specs.laws.CloseTableLaws.{close-table}
-use Rattle.rulebook.specs.laws.ProfileTableLaws.{profile-table}
+use Rattle.rulebook.specs.laws.ProfileTableLaws.{profile-table, keeping-answered}
 use Rattle.rulebook.specs.laws.AnySubmitLaws.{submitted-formed}
 use Rattle.rulebook.specs.laws.AnyCloseLaws.{closed-formed}
 use Rattle.rulebook.specs.laws.LentLaws.{submitted-beyond, closed-words-beyond, submitted-rows, refused-submit, refused-close}
@@ -131,6 +131,7 @@ pub record Theorems : Type 0 where
 
   -- of any list, T and D: 1, 15, yes and no, each exactly when; a profile that keeps the limits, wherever 0 is returned
   pub profiles : (profile : List ℤ) (t d : ℤ) → ProfileTable profile t d
+  pub keepingAnswered : KeepingAnswered
   -- ---- The ring
 
   -- two days of the window share no slot; every slot is of exactly one day of the window or of none
@@ -218,6 +219,7 @@ theorems = record {
   closeTable = close-table;
   search = search-holds;
   profiles = profile-table;
+  keepingAnswered = keeping-answered;
   daysApart = window-days-apart;
   slotDay = slot-day;
   daysArePlaces = days-are-places;

@@ -58,6 +58,10 @@ pub record ProfilesTold : Type 0 where
   pub threesBelow : answers (twos 48 (pos 1) (pos 2)) (pos 71) (pos 3) 15 0
   pub threesAbove : answers (twos 48 (pos 1) (pos 2)) (pos 73) (pos 3) 15 0
   pub twosOfThree : answers ((pos 1 ∷ pos 1 ∷ pos 2 ∷ pos 2 ∷ []) ++ twos 44 (pos 1) (pos 2)) (pos 72) (pos 3) 0 0
+  -- D = 4: a pair has 4 or 5 kWh, since 3.2 and 5 are the limits; so T is 96 at least, not 77
+  pub fours : answers (twos 48 (pos 2) (pos 2)) (pos 96) (pos 4) 0 1
+  pub foursBelow : answers (twos 48 (pos 2) (pos 2)) (pos 95) (pos 4) 15 0
+  pub threeOfFour : answers ((pos 1 ∷ pos 2 ∷ pos 2 ∷ pos 3 ∷ []) ++ twos 44 (pos 2) (pos 2)) (pos 96) (pos 4) 0 0
   -- nothing contracted
   pub nothing : answers (twos 48 (pos 0) (pos 0)) (pos 0) (pos 0) 0 1
   pub notNothing : answers (twos 48 (pos 0) (pos 0)) (pos 1) (pos 0) 15 0
@@ -105,6 +109,9 @@ profiles-told = record {
   threesBelow = refl;
   threesAbove = refl;
   twosOfThree = refl;
+  fours = refl;
+  foursBelow = refl;
+  threeOfFour = refl;
   nothing = refl;
   notNothing = refl;
   largest = refl;

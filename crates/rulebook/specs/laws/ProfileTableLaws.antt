@@ -19,7 +19,7 @@ use Rattle.rulebook.specs.Units.{between, inRange, intervals, positive}
 use Rattle.rulebook.specs.Profile.{mostDayKwh, mostContracted, KeepsLimits, keepsLimits, totalPossible, evenly}
 use Rattle.rulebook.specs.Numbers.{checked, profileAccepted, profileRefused}
 use Rattle.rulebook.specs.Calls.{allInRange, quantitiesIn, profileTerms, profileInput, profileTold, profileCall}
-use Rattle.rulebook.specs.ProfileTable.{Quantities, Keeping, ProfileGiven, evenProfile, ProfileTable}
+use Rattle.rulebook.specs.ProfileTable.{Quantities, Keeping, ProfileGiven, evenProfile, ProfileTable, KeepingAnswered}
 use Rattle.rulebook.specs.laws.UnitsLaws.{between-true, true-between}
 use Rattle.rulebook.specs.laws.CallsLaws.{in-range-at}
 use Rattle.rulebook.specs.laws.CheckedLaws.{test-fails, then-where, struck, met}
@@ -173,3 +173,7 @@ module _ (profile : List ℤ) (t d : ℤ) where
         no = then-where (first (record { number = 0; keeps = 0 }) refl) another-does;
         shown = λ e. let x = one-shown input possible keeps e in even-keeping t d (says .0 (x .0) .contractedTo) (x .1);
       }
+
+pub keeping-answered : KeepingAnswered
+keeping-answered profile t d a b c e k =
+    profile-table profile t d .yes .1 (record { quantities = k .quantities; totalFrom = a; totalTo = b; contractedFrom = c; contractedTo = e }, k)
