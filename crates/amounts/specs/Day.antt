@@ -8,11 +8,12 @@ use lib.ListN.{length, getD, replicate}
 use Rattle.integer.specs.Below.{sumℤ, tabulate}
 use Rattle.integer.specs.Words.{word}
 use Rattle.rulebook.specs.Shares.{leastResidual, shareOf}
-use Rattle.rulebook.specs.Units.{intervals}
+use Rattle.rulebook.specs.Units.{intervals, mostQuantity}
 use Rattle.rulebook.specs.DayAmount.{referencePriceOf, vestingAmount, shareAmount, inCents}
 use Rattle.rulebook.specs.Layout.{slotLength, intervalOf, cellOf}
 use Rattle.amounts.specs.declared.interval.ResidualAndSpare.{ResidualAndSpare}
 use Rattle.amounts.specs.declared.day.Residuals.{Residuals}
+use Rattle.amounts.specs.declared.day.DayShares.{DayShares}
 use Rattle.amounts.specs.declared.total.DayTotal.{DayTotal}
 use Rattle.amounts.specs.Cell.{cellData}
 use Rattle.amounts.specs.Interval.{IntervalRanged, residualAt}
@@ -44,29 +45,64 @@ residualsIf due n x = cond due (residualsOf n x) noResiduals
 abbrev pub residualIn : Residuals → ℕ → ResidualAndSpare
 residualIn rs i = record { load = word (rs .loads) i; spare = getD (rs .spares) i 0 }
 
--- the slots of today and, where a residual is due, of then; R of each interval within what a share takes
-pub record DaysRanged (n : ℕ) (today then : List ℤ) (due : Bool) (rs : Residuals) : Type 0 where
+-- R of each interval is within what a share takes
+abbrev pub LoadsRanged : Residuals → Type 0
+LoadsRanged rs = (i : ℕ) → i < intervals → natAbs (word (rs .loads) i) ≤ leastResidual
+
+-- ---- An account's shares
+
+-- a cell's share of R and S
+abbrev pub cellShare : List ℤ → ResidualAndSpare → ℕ
+cellShare c r = shareOf (r .load) (r .spare) (cellData c .uegq)
+
+-- account a's at interval i of a slot
+abbrev pub shareIn : ℕ → List ℤ → Residuals → ℕ → ℕ → ℕ
+shareIn n x rs a i = cellShare (cellAt n x a i) (residualIn rs i)
+
+-- at each interval
+unfoldable pub sharesOf : ℕ → List ℤ → Residuals → ℕ → DayShares
+sharesOf n x rs a = record { kwh = tabulate intervals (shareIn n x rs a) }
+
+-- none, where no residual is due
+abbrev pub noShares : DayShares
+noShares = record { kwh = replicate intervals 0 }
+
+-- those of a slot, or none
+abbrev pub sharesIf : Bool → ℕ → List ℤ → Residuals → ℕ → DayShares
+sharesIf due n x rs a = cond due (sharesOf n x rs a) noShares
+
+-- no share is above what a quantity can be
+abbrev pub SharesRanged : DayShares → Type 0
+SharesRanged shares = (i : ℕ) → i < intervals → getD (shares .kwh) i 0 ≤ mostQuantity
+
+-- ---- An account's amount
+
+-- the slots of today and, where a residual is due, of then
+pub record DaysRanged (n : ℕ) (today then : List ℤ) (due : Bool) : Type 0 where
   pub closing : SlotRanged n today
   pub long : length then ≡ length today
   pub settled : due ≡ true → SlotRanged n then
-  pub loads : (i : ℕ) → i < intervals → natAbs (word (rs .loads) i) ≤ leastResidual
 
--- a cell's share of R and S, at its V
-abbrev pub cellResidual : List ℤ → ResidualAndSpare → ℤ
-cellResidual c r = shareAmount (cellData c) (referencePriceOf (cellData c)) (shareOf (r .load) (r .spare) (cellData c .uegq))
+-- a cell's amount of its share, at its V
+abbrev pub cellResidual : List ℤ → ℕ → ℤ
+cellResidual c share = shareAmount (cellData c) (referencePriceOf (cellData c)) share
 
 -- what an account has at an interval: vesting of today's cell and, where due, the residual of then's
-abbrev pub amountAt : List ℤ → List ℤ → Bool → ResidualAndSpare → ℤ
-amountAt today then due r = vestingAmount (cellData today) +ℤ cond due (cellResidual then r) (pos 0)
+abbrev pub amountAt : List ℤ → List ℤ → Bool → ℕ → ℤ
+amountAt today then due share = vestingAmount (cellData today) +ℤ cond due (cellResidual then share) (pos 0)
 
--- account a's amount at interval i of two slots
-unfoldable pub slotAmount : ℕ → List ℤ → List ℤ → Bool → Residuals → ℕ → ℕ → ℤ
-slotAmount n today then due rs a i = amountAt (cellAt n today a i) (cellAt n then a i) due (residualIn rs i)
+-- account a's amount at interval i of two slots, of its shares
+unfoldable pub slotAmount : ℕ → List ℤ → List ℤ → Bool → DayShares → ℕ → ℕ → ℤ
+slotAmount n today then due shares a i = amountAt (cellAt n today a i) (cellAt n then a i) due (getD (shares .kwh) i 0)
 
 -- the total of the intervals below k
-unfoldable pub totalTo : ℕ → List ℤ → List ℤ → Bool → Residuals → ℕ → ℕ → DayTotal
-totalTo n today then due rs a k = record { thousandths = sumℤ k (slotAmount n today then due rs a) }
+unfoldable pub totalTo : ℕ → List ℤ → List ℤ → Bool → DayShares → ℕ → ℕ → DayTotal
+totalTo n today then due shares a k = record { thousandths = sumℤ k (slotAmount n today then due shares a) }
 
--- the posted amount of two slots
+-- the posted amount of two slots, of the account's shares
+unfoldable pub sharesPosted : ℕ → List ℤ → List ℤ → Bool → DayShares → ℕ → ℤ
+sharesPosted n today then due shares a = inCents (totalTo n today then due shares a intervals .thousandths)
+
+-- and of R and S
 unfoldable pub slotPosted : ℕ → List ℤ → List ℤ → Bool → Residuals → ℕ → ℤ
-slotPosted n today then due rs a = inCents (totalTo n today then due rs a intervals .thousandths)
+slotPosted n today then due rs a = sharesPosted n today then due (sharesIf due n then rs a) a

@@ -18,7 +18,6 @@ use rules::price::Sums;
 use rules::price::price_of;
 use rules::price::with_facility;
 use rules::ranges::quantity_at;
-use rules::share::share_of;
 use rules::tranche::first_tranche;
 ghost use mathlib.Core.Path.{_≡_};
 ghost use Prim.Native.Nat.{_+_, _*_, _≤_, _<_};
@@ -26,7 +25,6 @@ ghost use lib.IntN.{pos, natAbs, _-ℤ_, _*ℤ_};
 ghost use lib.ListN.{length};
 ghost use Rattle.integer.specs.Words.{word};
 ghost use Rattle.rulebook.specs.Units.{mostPrice, mostQuantity};
-ghost use Rattle.rulebook.specs.Shares.{leastResidual, shareOf};
 ghost use Rattle.rulebook.specs.DayAmount.{tenders, referencePriceOf, vestedQuantity, tenderAmount, vestingAmount, shareAmount};
 ghost use Rattle.rules.specs.PriceSums.{sumsOf};
 ghost use Rattle.amounts.specs.Cell.{cellData, RangedCell};
@@ -124,12 +122,11 @@ pub fn uegq_of(c: &[i64]) -> u64
     quantity_at(c, UEGQ)
 }
 
-// (RVP1 - V) × tranche 1 + (RVP2 - V) × tranche 2, of V = v, R = r and S = s.
-pub fn residual_amount(c: &[i64], v: i64, r: i64, s: u64) -> i64
-    requires { ⌜ RangedCell (now c) × (natAbs v ≤ mostPrice) × (natAbs r ≤ leastResidual) ⌝ }
-    ensures { λ z. ⌜ z ≡ shareAmount (cellData (now (c .entry))) v (shareOf r s (cellData (now (c .entry)) .uegq)) ⌝ }
+// (RVP1 - V) × tranche 1 + (RVP2 - V) × tranche 2 of a share, of V = v.
+pub fn residual_amount(c: &[i64], v: i64, share: u64) -> i64
+    requires { ⌜ RangedCell (now c) × (natAbs v ≤ mostPrice) × (share ≤ mostQuantity) ⌝ }
+    ensures { λ z. ⌜ z ≡ shareAmount (cellData (now (c .entry))) v share ⌝ }
 {
-    let share = share_of(r, s, uegq_of(c));
     let first = first_tranche(share, quantity_at(c, BVQ), quantity_at(c, MQ));
     let one = priced_at(c, RVP1, v, first);
     add(one, priced_at(c, RVP2, v, share - first))

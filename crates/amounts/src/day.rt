@@ -1,6 +1,7 @@
 // Document 01, "Day amount": an account's posted amount from the slots of D and of r.
 use crate::cell::price_at;
 use crate::cell::residual_amount;
+use crate::cell::uegq_of;
 use crate::cell::vesting_amount;
 use crate::interval::ResidualAndSpare;
 use crate::interval::residual_at;
@@ -13,14 +14,15 @@ use rulebook::layout::cell_place;
 use rulebook::layout::interval_length;
 use rulebook::units::INTERVALS;
 use rulebook::units::THOUSANDTHS_PER_CENT;
+use rules::share::share_of;
 ghost use mathlib.Core.Path.{_≡_};
 ghost use mathlib.Core.Bool.{true};
 ghost use Prim.Native.Nat.{_≤_, _<_};
-ghost use lib.IntN.{natAbs};
-ghost use Rattle.rulebook.specs.Units.{intervals};
-ghost use Rattle.rulebook.specs.Shares.{mostAccounts, leastResidual};
-ghost use Rattle.amounts.specs.Cell.{RangedCell};
-ghost use Rattle.amounts.specs.Day.{SlotRanged, DaysRanged, residualsOf, noResiduals, residualsIf, residualIn, amountAt, slotAmount, totalTo, slotPosted};
+ghost use lib.ListN.{getD};
+ghost use Rattle.rulebook.specs.Units.{intervals, mostQuantity};
+ghost use Rattle.rulebook.specs.Shares.{mostAccounts};
+ghost use Rattle.amounts.specs.Cell.{cellData, RangedCell};
+ghost use Rattle.amounts.specs.Day.{cellAt, SlotRanged, DaysRanged, LoadsRanged, SharesRanged, residualsOf, noResiduals, residualsIf, residualIn, shareIn, sharesOf, noShares, sharesIf, amountAt, slotAmount, totalTo, sharesPosted};
 
 // R and S of a day's 48 intervals.
 pub struct Residuals {
@@ -82,18 +84,83 @@ fn residual_in(residuals: Residuals, h: usize) -> ResidualAndSpare
     ResidualAndSpare { load, spare }
 }
 
-// One account at one interval: vesting of today's cell and, where a residual is due, that of then's with V of then.
-fn amount_at(today: &[i64], then: &[i64], due: bool, r: ResidualAndSpare) -> i64
-    requires { ⌜ RangedCell (now today) × (due ≡ true → RangedCell (now then)) × (natAbs (r .load) ≤ leastResidual) ⌝ }
-    ensures { λ z. ⌜ z ≡ amountAt (now (today .entry)) (now (then .entry)) due r ⌝ }
+// The shares of one account in a day's 48 intervals, in kWh.
+pub struct DayShares {
+    pub kwh: [u64; INTERVALS],
+}
+
+// The account's UEGQ at interval h.
+fn uegq_at(slot: &[i64], n: usize, a: usize, h: usize) -> u64
+    requires { ⌜ SlotRanged n (now slot) × (n ≤ mostAccounts) × (a < n) × (h < intervals) ⌝ }
+    ensures { λ u. ⌜ (u ≡ cellData (cellAt n (now (slot .entry)) a h) .uegq) × (u ≤ mostQuantity) ⌝ }
+{
+    let i = h * interval_length(n) + cell_place(a);
+    let e = i + ACCOUNT_WORDS;
+    uegq_of(&slot[i..e])
+}
+
+// Its share there.
+fn share_in(slot: &[i64], residuals: Residuals, n: usize, a: usize, h: usize) -> u64
+    requires { ⌜ SlotRanged n (now slot) × LoadsRanged residuals × (n ≤ mostAccounts) × (a < n) × (h < intervals) ⌝ }
+    ensures { λ q. ⌜ q ≡ shareIn n (now (slot .entry)) residuals a h ⌝ }
+{
+    let r = residual_in(residuals, h);
+    share_of(r.load, r.spare, uegq_at(slot, n, a, h))
+}
+
+// Its shares of the day.
+fn shares_of(slot: &[i64], residuals: Residuals, n: usize, a: usize) -> DayShares
+    requires { ⌜ SlotRanged n (now slot) × LoadsRanged residuals × (n ≤ mostAccounts) × (a < n) ⌝ }
+    ensures { λ r. ⌜ r ≡ sharesOf n (now (slot .entry)) residuals a ⌝ }
+{
+    let mut kwh = [0; INTERVALS];
+    for h in 0..INTERVALS {
+        kwh[h] = share_in(slot, residuals, n, a, h);
+    }
+    DayShares { kwh: kwh }
+}
+
+// None, where no residual is due.
+fn no_shares() -> DayShares
+    ensures { λ r. ⌜ r ≡ noShares ⌝ }
+{
+    DayShares {
+        kwh: [0; INTERVALS],
+    }
+}
+
+// Its shares of then's slot, where a residual is due.
+pub fn shares_due(then: &[i64], due: bool, residuals: Residuals, n: usize, a: usize) -> DayShares
+    requires { ⌜ (due ≡ true → SlotRanged n (now then)) × LoadsRanged residuals × (n ≤ mostAccounts) × (a < n) ⌝ }
+    ensures { λ r. ⌜ r ≡ sharesIf due n (now (then .entry)) residuals a ⌝ }
+{
+    if due {
+        shares_of(then, residuals, n, a)
+    } else {
+        no_shares()
+    }
+}
+
+// One account at one interval: vesting of today's cell and, where a residual is due, that of then's share with V of then.
+fn amount_at(today: &[i64], then: &[i64], due: bool, share: u64) -> i64
+    requires { ⌜ RangedCell (now today) × (due ≡ true → RangedCell (now then)) × (share ≤ mostQuantity) ⌝ }
+    ensures { λ z. ⌜ z ≡ amountAt (now (today .entry)) (now (then .entry)) due share ⌝ }
 {
     let vesting = vesting_amount(today);
     if due {
         let v = price_at(then);
-        add(vesting, residual_amount(then, v, r.load, r.spare))
+        add(vesting, residual_amount(then, v, share))
     } else {
         vesting
     }
+}
+
+// The account's share of interval h.
+fn share_at(shares: DayShares, h: usize) -> u64
+    requires { ⌜ h < intervals ⌝ }
+    ensures { λ q. ⌜ q ≡ getD (shares .kwh) h 0 ⌝ }
+{
+    shares.kwh[h]
 }
 
 // The account's amount at interval h of today's slot and, where a residual is due, of then's.
@@ -101,17 +168,17 @@ fn slot_amount(
     today: &[i64],
     then: &[i64],
     due: bool,
-    residuals: Residuals,
+    shares: DayShares,
     n: usize,
     a: usize,
     h: usize,
 ) -> i64
-    requires { ⌜ DaysRanged n (now today) (now then) due residuals × (n ≤ mostAccounts) × (a < n) × (h < intervals) ⌝ }
-    ensures { λ r. ⌜ r ≡ slotAmount n (now (today .entry)) (now (then .entry)) due residuals a h ⌝ }
+    requires { ⌜ DaysRanged n (now today) (now then) due × SharesRanged shares × (n ≤ mostAccounts) × (a < n) × (h < intervals) ⌝ }
+    ensures { λ r. ⌜ r ≡ slotAmount n (now (today .entry)) (now (then .entry)) due shares a h ⌝ }
 {
     let i = h * interval_length(n) + cell_place(a);
     let e = i + ACCOUNT_WORDS;
-    amount_at(&today[i..e], &then[i..e], due, residual_in(residuals, h))
+    amount_at(&today[i..e], &then[i..e], due, share_at(shares, h))
 }
 
 // The account's amount over the 48 intervals: the day's total is lent to take each.
@@ -119,19 +186,16 @@ fn exact_amount(
     today: &[i64],
     then: &[i64],
     due: bool,
-    residuals: Residuals,
+    shares: DayShares,
     n: usize,
     a: usize,
 ) -> DayTotal
-    requires { ⌜ DaysRanged n (now today) (now then) due residuals × (n ≤ mostAccounts) × (a < n) ⌝ }
-    ensures { λ r. ⌜ r ≡ totalTo n (now (today .entry)) (now (then .entry)) due residuals a intervals ⌝ }
+    requires { ⌜ DaysRanged n (now today) (now then) due × SharesRanged shares × (n ≤ mostAccounts) × (a < n) ⌝ }
+    ensures { λ r. ⌜ r ≡ totalTo n (now (today .entry)) (now (then .entry)) due shares a intervals ⌝ }
 {
     let mut total = DayTotal { thousandths: 0 };
     for h in 0..INTERVALS {
-        absorb(
-            &mut total,
-            slot_amount(today, then, due, residuals, n, a, h),
-        );
+        absorb(&mut total, slot_amount(today, then, due, shares, n, a, h));
     }
     total
 }
@@ -141,13 +205,13 @@ pub fn posted_amount(
     today: &[i64],
     then: &[i64],
     due: bool,
-    residuals: Residuals,
+    shares: DayShares,
     n: usize,
     a: usize,
 ) -> i64
-    requires { ⌜ DaysRanged n (now today) (now then) due residuals × (n ≤ mostAccounts) × (a < n) ⌝ }
-    ensures { λ r. ⌜ r ≡ slotPosted n (now (today .entry)) (now (then .entry)) due residuals a ⌝ }
+    requires { ⌜ DaysRanged n (now today) (now then) due × SharesRanged shares × (n ≤ mostAccounts) × (a < n) ⌝ }
+    ensures { λ r. ⌜ r ≡ sharesPosted n (now (today .entry)) (now (then .entry)) due shares a ⌝ }
 {
-    let total = exact_amount(today, then, due, residuals, n, a);
+    let total = exact_amount(today, then, due, shares, n, a);
     nearest_to(total.thousandths, THOUSANDTHS_PER_CENT)
 }

@@ -1,6 +1,7 @@
 // Document 01, "Close": the statement, N amounts and then the MSSL's, in cents.
 use amounts::day::Residuals;
 use amounts::day::posted_amount;
+use amounts::day::shares_due;
 use integer::add;
 use integer::put_word;
 use integer::word_at;
@@ -11,7 +12,7 @@ ghost use Rattle.integer.specs.Below.{sumℤ};
 ghost use Rattle.integer.specs.Words.{word, filled};
 ghost use Rattle.rulebook.specs.Shares.{mostAccounts};
 ghost use Rattle.rulebook.specs.DayAmount.{minusSum};
-ghost use Rattle.amounts.specs.Day.{DaysRanged, slotPosted};
+ghost use Rattle.amounts.specs.Day.{DaysRanged, LoadsRanged, slotPosted};
 ghost use Rattle.closing.specs.Written.{Small, withMssl};
 
 // Posts the accounts' amounts, of the slots of today and of then.
@@ -23,15 +24,12 @@ pub fn post_amounts(
     residuals: Residuals,
     n: usize,
 )
-    requires { ⌜ DaysRanged n (now today) (now then) due residuals × (n ≤ mostAccounts) × (n ≤ length (now statement)) ⌝ }
+    requires { ⌜ DaysRanged n (now today) (now then) due × LoadsRanged residuals × (n ≤ mostAccounts) × (n ≤ length (now statement)) ⌝ }
     ensures { λ _. ⌜ now (statement .exit) ≡ filled n (slotPosted n (now (today .entry)) (now (then .entry)) due residuals) (now (statement .entry)) ⌝ }
 {
     for a in 0..n {
-        put_word(
-            statement,
-            a,
-            posted_amount(today, then, due, residuals, n, a),
-        );
+        let shares = shares_due(then, due, residuals, n, a);
+        put_word(statement, a, posted_amount(today, then, due, shares, n, a));
     }
 }
 

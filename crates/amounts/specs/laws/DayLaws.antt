@@ -1,42 +1,38 @@
 -- Sizes of what an account has at an interval, and of the running total of two slots. Assumes nothing.
-use mathlib.Core.Path.{_≡_, refl}
-use mathlib.Core.Bool.{Bool, true}
+use mathlib.Core.Path.{_≡_, refl, sym, _∙_}
+use mathlib.Core.Bool.{Bool, true, false}
 use mathlib.Core.List.{List}
-use Prim.Native.Nat.{ℕ, _+_, _*_, _≤_, _<_}
+use Prim.Native.Nat.{ℕ, _+_, _-_, _*_, _≤_, _<_}
 use native.Mathlib.Omega.{arith}
 use lib.IntN.{ℤ, pos, natAbs, _+ℤ_}
-use lib.ListN.{length}
+use lib.ListN.{length, getD, getD-replicate, take, drop}
 use mir.Syntax.{w64}
 use mir.Val.{SFits}
 use Rattle.integer.specs.Bits.{fits-add}
 use Rattle.integer.specs.Below.{fold, sumℤ}
 use Rattle.integer.specs.Words.{part}
 use Rattle.integer.specs.laws.BelowLaws.{fold-suc, abs-sumℤ, getD-tabulate}
-use Rattle.integer.specs.laws.WordsLaws.{row-fits, part-part}
-use Rattle.rulebook.specs.Units.{intervals}
-use Rattle.rulebook.specs.Shares.{shareOf}
+use Rattle.integer.specs.laws.WordsLaws.{row-fits, lent, part-part}
+use Rattle.rulebook.specs.Units.{intervals, mostQuantity}
 use Rattle.rulebook.specs.laws.SharesLaws.{share-cap}
 use Rattle.rulebook.specs.Layout.{cellPlace, accountWords, intervalLength, intervalOf}
 use Rattle.rulebook.specs.DayAmount.{referencePriceOf, vestingAmount}
 use Rattle.rulebook.specs.laws.TestLaws.{T-path}
 use Rattle.rulebook.specs.laws.SizeLaws.{price-sized, vesting-size, share-amount-size, amount-size}
-use Rattle.amounts.specs.declared.interval.ResidualAndSpare.{ResidualAndSpare}
 use Rattle.amounts.specs.Cell.{cellData, RangedCell}
 use Rattle.amounts.specs.declared.day.Residuals.{Residuals}
+use Rattle.amounts.specs.declared.day.DayShares.{DayShares}
 use Rattle.amounts.specs.Interval.{residualAt}
 use Rattle.amounts.specs.Total.{absorbed}
-use Rattle.amounts.specs.Day.{cellAt, SlotRanged, DaysRanged, residualsOf, residualIn, cellResidual, amountAt, slotAmount, totalTo}
+use Rattle.amounts.specs.Day.{cellAt, SlotRanged, DaysRanged, SharesRanged, residualsOf, residualIn, shareIn, sharesOf, sharesIf, cellResidual, amountAt, slotAmount, totalTo}
 
-module _ (c : List ℤ) (h : RangedCell c) (r : ResidualAndSpare) where
-  pub cell-residual-le : natAbs (cellResidual c r) ≤ 20000000000000
-  cell-residual-le =
-      let x = h .sized in
-      share-amount-size (cellData c) x (referencePriceOf (cellData c)) (price-sized (cellData c) x) (shareOf (r .load) (r .spare) (cellData c .uegq))
-      (omega (arith, share-cap (r .load) (r .spare) (cellData c .uegq), x .uegq))
+pub cell-residual-le : (c : List ℤ) → RangedCell c → (share : ℕ) → share ≤ mostQuantity → natAbs (cellResidual c share) ≤ 20000000000000
+cell-residual-le c h share l = let x = h .sized in share-amount-size (cellData c) x (referencePriceOf (cellData c)) (price-sized (cellData c) x) share l
 
-pub amount-le : (today then : List ℤ) (due : Bool) (r : ResidualAndSpare) → RangedCell today → (due ≡ true → RangedCell then) → natAbs (amountAt today then due r) ≤ 100000000000000
-amount-le today then due r h g =
-    amount-size (vestingAmount (cellData today)) (cellResidual then r) due (vesting-size (cellData today) (h .sized)) (λ t. cell-residual-le then (g (T-path due t)) r)
+pub amount-le : (today then : List ℤ) (due : Bool) (share : ℕ) → RangedCell today → (due ≡ true → RangedCell then) → share ≤ mostQuantity
+    → natAbs (amountAt today then due share) ≤ 100000000000000
+amount-le today then due share h g l =
+    amount-size (vestingAmount (cellData today)) (cellResidual then share) due (vesting-size (cellData today) (h .sized)) (λ t. cell-residual-le then (g (T-path due t)) share l)
 
 -- ---- Two slots, interval by interval
 
@@ -49,33 +45,55 @@ residual-in n x i h = rw (
 )
 
 -- account a's cell of interval i, read off the slot
-pub cell-in-slot : (n : ℕ) (x : List ℤ) (a i : ℕ) → a < n → cellAt n x a i ≡ part x (i * intervalLength n + cellPlace a) accountWords
+cell-in-slot : (n : ℕ) (x : List ℤ) (a i : ℕ) → a < n → cellAt n x a i ≡ part x (i * intervalLength n + cellPlace a) accountWords
 cell-in-slot n x a i h = part-part x (i * intervalLength n) (intervalLength n) (cellPlace a) accountWords (omega arith)
+
+-- what is lent of the slot is the cell
+pub lent-cell : (n : ℕ) (x : List ℤ) (a i : ℕ) {size at : ℕ} → a < n → size ≡ intervalLength n → at ≡ cellPlace a
+    → take (i * size + at + accountWords - (i * size + at)) (drop (i * size + at) x) ≡ cellAt n x a i
+lent-cell n x a i {size} {at} l e f = lent x (i * size + at) accountWords ∙ rw (e, f) (sym (cell-in-slot n x a i l))
 
 -- it lies within the slot
 pub cell-fits : (n : ℕ) (x : List ℤ) → SlotRanged n x → (a i : ℕ) → a < n → i < intervals → i * intervalLength n + cellPlace a + accountWords ≤ length x
 cell-fits n x r a i h k = omega (arith, r .whole, row-fits i intervals (intervalLength n) k)
 
-module _ (n : ℕ) (today then : List ℤ) (due : Bool) (rs : Residuals) (a : ℕ) where
-  pub total-zero : record { thousandths = pos 0 } ≡ totalTo n today then due rs a 0
+-- ---- Shares
+
+module _ (n : ℕ) (x : List ℤ) (rs : Residuals) (a : ℕ) where
+  -- account a's share of interval i, read back
+  pub share-in : (i : ℕ) → i < intervals → getD (sharesOf n x rs a .kwh) i 0 ≡ shareIn n x rs a i
+  unfolding sharesOf
+  share-in i h = getD-tabulate intervals (shareIn n x rs a) i 0 h
+
+  -- no share is above what a quantity can be
+  pub shares-ranged : (due : Bool) → (due ≡ true → SlotRanged n x) → a < n → SharesRanged (sharesIf due n x rs a)
+  shares-ranged true r l i h =
+      let c = cellAt n x a i in
+      omega (arith, share-in i h, share-cap (residualIn rs i .load) (residualIn rs i .spare) (cellData c .uegq), r refl .each i h .cells a l .sized .uegq)
+  shares-ranged false r l i h = omega (arith, getD-replicate {A = ℕ} intervals i 0 0 h)
+
+-- ---- Amounts
+
+module _ (n : ℕ) (today then : List ℤ) (due : Bool) (shares : DayShares) (a : ℕ) where
+  pub total-zero : record { thousandths = pos 0 } ≡ totalTo n today then due shares a 0
   unfolding totalTo fold
   total-zero = refl
 
-  pub total-suc : (k : ℕ) → totalTo n today then due rs a (k + 1) ≡ absorbed (totalTo n today then due rs a k) (slotAmount n today then due rs a k)
+  pub total-suc : (k : ℕ) → totalTo n today then due shares a (k + 1) ≡ absorbed (totalTo n today then due shares a k) (slotAmount n today then due shares a k)
   unfolding totalTo
-  total-suc k = rw (fold-suc _+ℤ_ (pos 0) k (slotAmount n today then due rs a))
+  total-suc k = rw (fold-suc _+ℤ_ (pos 0) k (slotAmount n today then due shares a))
 
-  module _ (h : DaysRanged n today then due rs) (l : a < n) where
-    pub slot-amount-le : (i : ℕ) → i < intervals → natAbs (slotAmount n today then due rs a i) ≤ 100000000000000
+  module _ (h : DaysRanged n today then due) (small : SharesRanged shares) (l : a < n) where
+    pub slot-amount-le : (i : ℕ) → i < intervals → natAbs (slotAmount n today then due shares a i) ≤ 100000000000000
     unfolding slotAmount
     slot-amount-le i k =
-        amount-le (cellAt n today a i) (cellAt n then a i) due (residualIn rs i) (h .closing .each i k .cells a l) (λ e. h .settled e .each i k .cells a l)
+        amount-le (cellAt n today a i) (cellAt n then a i) due (getD (shares .kwh) i 0) (h .closing .each i k .cells a l) (λ e. h .settled e .each i k .cells a l) (small i k)
 
-    pub total-le : (k : ℕ) → k ≤ intervals → natAbs (totalTo n today then due rs a k .thousandths) ≤ k * 100000000000000
+    pub total-le : (k : ℕ) → k ≤ intervals → natAbs (totalTo n today then due shares a k .thousandths) ≤ k * 100000000000000
     unfolding totalTo
-    total-le k m = abs-sumℤ k 100000000000000 (slotAmount n today then due rs a) (λ i j. slot-amount-le i (omega arith))
+    total-le k m = abs-sumℤ k 100000000000000 (slotAmount n today then due shares a) (λ i j. slot-amount-le i (omega arith))
 
     -- the next interval's amount has room
-    pub total-room : (k : ℕ) → k < intervals → SFits w64 (totalTo n today then due rs a k .thousandths +ℤ slotAmount n today then due rs a k)
+    pub total-room : (k : ℕ) → k < intervals → SFits w64 (totalTo n today then due shares a k .thousandths +ℤ slotAmount n today then due shares a k)
     unfolding totalTo
-    total-room k m = fits-add (sumℤ k (slotAmount n today then due rs a)) (slotAmount n today then due rs a k) (omega (arith, total-le k (omega arith), slot-amount-le k m))
+    total-room k m = fits-add (sumℤ k (slotAmount n today then due shares a)) (slotAmount n today then due shares a k) (omega (arith, total-le k (omega arith), slot-amount-le k m))

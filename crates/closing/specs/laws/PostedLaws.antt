@@ -5,6 +5,7 @@ use mathlib.Core.List.{List}
 use Prim.Native.Nat.{ℕ, _≤_, _<_}
 use lib.Dec.{T}
 use lib.IntN.{ℤ, pos}
+use lib.ListN.{getD}
 use Rattle.integer.specs.laws.BelowLaws.{sumℤ-cong}
 use Rattle.rulebook.specs.declared.Terms.{Terms}
 use Rattle.rulebook.specs.Units.{lastDay, intervals}
@@ -17,12 +18,12 @@ use Rattle.rulebook.specs.Close.{posted}
 use Rattle.rulebook.specs.Bounds.{SizedDay}
 use Rattle.rulebook.specs.laws.AmountLaws.{SameFigures, vesting-same, residual-same}
 use Rattle.rulebook.specs.laws.BookSizeLaws.{close-sized}
-use Rattle.amounts.specs.declared.day.Residuals.{Residuals}
+use Rattle.amounts.specs.declared.day.DayShares.{DayShares}
 use Rattle.amounts.specs.Cell.{cellData}
 use Rattle.amounts.specs.laws.CellLaws.{sum-cong}
 use Rattle.amounts.specs.Interval.{dataIn}
-use Rattle.amounts.specs.Day.{cellAt, residualsOf, noResiduals, residualIn, cellResidual, slotAmount, totalTo, slotPosted}
-use Rattle.amounts.specs.laws.DayLaws.{residual-in}
+use Rattle.amounts.specs.Day.{cellAt, residualsOf, noResiduals, cellShare, sharesOf, noShares, sharesIf, cellResidual, slotAmount, totalTo, sharesPosted, slotPosted}
+use Rattle.amounts.specs.laws.DayLaws.{residual-in, share-in}
 use Rattle.closing.specs.Slots.{slotWords, thenDay, residualsDue}
 use Rattle.closing.specs.laws.SlotDataLaws.{load-same, cell-alike}
 
@@ -36,37 +37,43 @@ module _ (o : Terms) (w : List ℤ) (a : ℕ) (ha : a < o .accounts) where
     alike : (b : ℕ) → b < o .accounts → SameFigures (bookData o w .account b d i) (dataIn interval b)
     alike b hb = cell-alike o w d b i hb hi (sized b i hb hi .few)
 
-    -- the residual amount of the book's data is that of the slot's cell, R and S
+    -- the residual amount of the book's data is that of the slot's cell, of its share of R and S
     slot-residual : residualAmount (bookData o w .load d i) (o .accounts) (λ b. bookData o w .account b d i) a
-        ≡ cellResidual (cellAt (o .accounts) (slotWords o w d) a i) (residualIn (residualsOf (o .accounts) (slotWords o w d)) i)
+        ≡ cellResidual (cellAt (o .accounts) (slotWords o w d) a i) (getD (sharesOf (o .accounts) (slotWords o w d) (residualsOf (o .accounts) (slotWords o w d)) a .kwh) i 0)
     unfolding residualAmount rvq share spareGeneration
     slot-residual =
         residual-same (bookData o w .load d i) (o .accounts) (λ b. bookData o w .account b d i) (dataIn interval) alike a ha
         ∙ ap (λ (l : ℕ). residualAmount l (o .accounts) (dataIn interval) a) (load-same o w d i hi)
-        ∙ ap (cellResidual (cellAt (o .accounts) (slotWords o w d) a i)) (sym (residual-in (o .accounts) (slotWords o w d) i hi))
+        ∙ ap (cellResidual (cellAt (o .accounts) (slotWords o w d) a i)) (ap (cellShare (cellAt (o .accounts) (slotWords o w d) a i)) (sym (residual-in (o .accounts) (slotWords o w d) i hi))
+        ∙ sym (share-in (o .accounts) (slotWords o w d) (residualsOf (o .accounts) (slotWords o w d)) a i hi))
 
   -- ---- The day
 
   module _ (D : ℕ) (now : SizedDay (o .accounts) (bookData o w) D) (then : T (settlesResidual o D) → SizedDay (o .accounts) (bookData o w) (residualDay o D)) where
     amount-same : (i : ℕ) → i < intervals
-        → slotAmount (o .accounts) (slotWords o w D) (slotWords o w (thenDay o D)) (settlesResidual o D) (residualsDue o w D) a i ≡ intervalAmount o (bookData o w) a D i
+        → slotAmount (o .accounts) (slotWords o w D) (slotWords o w (thenDay o D)) (settlesResidual o D)
+        (sharesIf (settlesResidual o D) (o .accounts) (slotWords o w (thenDay o D)) (residualsDue o w D) a) a i
+        ≡ intervalAmount o (bookData o w) a D i
     unfolding slotAmount intervalAmount thenDay residualsDue
     amount-same i hi = sum-cong (sym (vesting-same (bookData o w .account a D i) (cellData (cellAt (o .accounts) (slotWords o w D) a i)) alike)) (go (settlesResidual o D) then)
       where
         alike : SameFigures (bookData o w .account a D i) (cellData (cellAt (o .accounts) (slotWords o w D) a i))
         alike = cell-alike o w D a i ha hi (now a i ha hi .few)
 
-        days : Bool → Residuals
-        days b = cond b (residualsOf (o .accounts) (slotWords o w (cond b (residualDay o D) D))) noResiduals
+        then-words : Bool → List ℤ
+        then-words b = slotWords o w (cond b (residualDay o D) D)
+
+        day-shares : Bool → DayShares
+        day-shares b = cond b (sharesOf (o .accounts) (then-words b) (cond b (residualsOf (o .accounts) (then-words b)) noResiduals) a) noShares
 
         go : (b : Bool) → (T b → SizedDay (o .accounts) (bookData o w) (residualDay o D))
-            → cond b (cellResidual (cellAt (o .accounts) (slotWords o w (cond b (residualDay o D) D)) a i) (residualIn (days b) i)) (pos 0)
+            → cond b (cellResidual (cellAt (o .accounts) (then-words b) a i) (getD (day-shares b .kwh) i 0)) (pos 0)
             ≡ cond b (residualAmount (bookData o w .load (residualDay o D) i) (o .accounts) (λ b. bookData o w .account b (residualDay o D) i) a) (pos 0)
         go true s = sym (slot-residual (residualDay o D) (s tt) i hi)
         go false s = refl
 
     slots-posted : slotPosted (o .accounts) (slotWords o w D) (slotWords o w (thenDay o D)) (settlesResidual o D) (residualsDue o w D) a ≡ posted o w D a
-    unfolding slotPosted totalTo posted postedAmount exactAmount
+    unfolding slotPosted sharesPosted totalTo posted postedAmount exactAmount
     slots-posted = ap inCents (sumℤ-cong intervals _ _ amount-same)
 
 module _ (w : List ℤ) (t : T (wellFormed w)) (left : nextDay w ≤ lastDay) where

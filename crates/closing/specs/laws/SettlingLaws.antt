@@ -27,11 +27,11 @@ use Rattle.rulebook.specs.laws.ListLaws.{tabulate-cong}
 use Rattle.rulebook.specs.laws.CloseLaws.{grown-cong}
 use Rattle.rulebook.specs.laws.BeyondLaws.{statement-beyond, statement-amount, statement-mssl}
 use Rattle.rulebook.specs.laws.WordLaws.{length-stored, stored-in}
-use Rattle.amounts.specs.Day.{DaysRanged, slotPosted}
+use Rattle.amounts.specs.Day.{DaysRanged, LoadsRanged, slotPosted}
 use Rattle.closing.specs.Slots.{slotWords, thenDay, residualsDue}
 use Rattle.closing.specs.laws.SlotsLaws.{slot-sized}
 use Rattle.closing.specs.laws.PostedLaws.{slot-posted-same}
-use Rattle.closing.specs.laws.SlotRangedLaws.{days-ranged}
+use Rattle.closing.specs.laws.SlotRangedLaws.{days-ranged, loads-ranged}
 use Rattle.closing.specs.Written.{Small, Settling, StatementOf, BalancesRoom, withMssl}
 use Rattle.closing.specs.laws.WrittenLaws.{grown-header}
 
@@ -52,15 +52,18 @@ module _ (w : List ℤ) (o : Terms) (D : ℕ) (s : Settling w o D) where
   left : nextDay w ≤ lastDay
   left = omega (arith, s .book .next, s .left)
 
-  -- the slots that it reads are in range
-  pub settling-ranged : DaysRanged (o .accounts) (slotWords o w D) (slotWords o w (thenDay o D)) (settlesResidual o D) (residualsDue o w D)
+  -- the slots that it reads are in range, and R of each interval of r
+  pub settling-ranged : DaysRanged (o .accounts) (slotWords o w D) (slotWords o w (thenDay o D)) (settlesResidual o D)
   settling-ranged =
       days-ranged-at (s .none)
     where
-      days-ranged-at : firstMissing o w D ≡ Nothing → DaysRanged (o .accounts) (slotWords o w D) (slotWords o w (thenDay o D)) (settlesResidual o D) (residualsDue o w D)
+      days-ranged-at : firstMissing o w D ≡ Nothing → DaysRanged (o .accounts) (slotWords o w D) (slotWords o w (thenDay o D)) (settlesResidual o D)
       days-ranged-at =
-          at (λ (o : Terms) (D : ℕ). firstMissing o w D ≡ Nothing → DaysRanged (o .accounts) (slotWords o w D) (slotWords o w (thenDay o D)) (settlesResidual o D) (residualsDue o w D))
+          at (λ (o : Terms) (D : ℕ). firstMissing o w D ≡ Nothing → DaysRanged (o .accounts) (slotWords o w D) (slotWords o w (thenDay o D)) (settlesResidual o D))
           (days-ranged w formed left)
+
+  pub settling-loads : LoadsRanged (residualsDue o w D)
+  settling-loads = at (λ (o : Terms) (D : ℕ). LoadsRanged (residualsDue o w D)) (loads-ranged w formed left)
 
   -- the amounts posted are the rule book's
   pub settling-posted : (a : ℕ) → a < o .accounts → slotPosted (o .accounts) (slotWords o w D) (slotWords o w (thenDay o D)) (settlesResidual o D) (residualsDue o w D) a ≡ posted o w D a

@@ -39,7 +39,7 @@ use Rattle.rulebook.specs.laws.SearchLaws.{needed-there}
 use Rattle.amounts.specs.Cell.{cellData, RangedCell}
 use Rattle.amounts.specs.declared.interval.ResidualAndSpare.{ResidualAndSpare}
 use Rattle.amounts.specs.laws.IntervalLaws.{residual-le}
-use Rattle.amounts.specs.Day.{cellAt, SlotRanged, DaysRanged, residualsOf, noResiduals}
+use Rattle.amounts.specs.Day.{cellAt, SlotRanged, DaysRanged, LoadsRanged, residualsOf, noResiduals}
 use Rattle.amounts.specs.laws.DayLaws.{residual-in}
 use Rattle.closing.specs.Slots.{slotWords, thenDay, residualsDue}
 use Rattle.closing.specs.laws.SlotsLaws.{slot-length, load-word, vesting-word, residual-word}
@@ -120,14 +120,12 @@ module _ (w : List ℤ) (t : T (wellFormed w)) (left : nextDay w ≤ lastDay) wh
       (λ a i ha hi. formed-fit w t .meters a (residualDay (termsOf w) (nextDay w)) i inside (omega (arith, opened-of w t .lagFrom, opened-of w t .firstFrom, next-of w t .1)) ha hi)
 
   pub days-ranged : firstMissing (termsOf w) w (nextDay w) ≡ Nothing
-      → DaysRanged (termsOf w .accounts) (slotWords (termsOf w) w (nextDay w)) (slotWords (termsOf w) w (thenDay (termsOf w) (nextDay w)))
-      (settlesResidual (termsOf w) (nextDay w)) (residualsDue (termsOf w) w (nextDay w))
-  unfolding thenDay residualsDue
+      → DaysRanged (termsOf w .accounts) (slotWords (termsOf w) w (nextDay w)) (slotWords (termsOf w) w (thenDay (termsOf w) (nextDay w))) (settlesResidual (termsOf w) (nextDay w))
+  unfolding thenDay
   days-ranged none = record {
     closing = slot-ranged w t (nextDay w) (D-inside w t left) left (λ a i ha hi. needed-there (termsOf w) w (nextDay w) none Meter a (nextDay w) i (meterOf ha) hi);
     long = slot-length w t (thenDay (termsOf w) (nextDay w)) ∙ sym (slot-length w t (nextDay w));
     settled = then (settlesResidual (termsOf w) (nextDay w)) settled-ranged;
-    loads = loads (settlesResidual (termsOf w) (nextDay w)) settled-ranged;
   }
     where
       then : (b : Bool) → (T b → SlotRanged (termsOf w .accounts) (slotWords (termsOf w) w (residualDay (termsOf w) (nextDay w))))
@@ -135,6 +133,10 @@ module _ (w : List ℤ) (t : T (wellFormed w)) (left : nextDay w ≤ lastDay) wh
       then true s e = s tt
       then false s e = let z : _≡_ {A = ℕ} 0 1 = cc in absurd (omega arith)
 
+  pub loads-ranged : LoadsRanged (residualsDue (termsOf w) w (nextDay w))
+  unfolding thenDay residualsDue
+  loads-ranged = loads (settlesResidual (termsOf w) (nextDay w)) settled-ranged
+    where
       loads : (b : Bool) → (T b → SlotRanged (termsOf w .accounts) (slotWords (termsOf w) w (residualDay (termsOf w) (nextDay w)))) → (i : ℕ) → i < intervals
           → natAbs (word (cond b (residualsOf (termsOf w .accounts) (slotWords (termsOf w) w (cond b (residualDay (termsOf w) (nextDay w)) (nextDay w)))) noResiduals .loads) i) ≤ leastResidual
       loads true s i hi =

@@ -1,5 +1,5 @@
--- `residual_amount` meets its contract: the share is within UEGQ and splits into two tranches, so both amounts are within 2 × 10^13.
-use mathlib.Core.Path.{_≡_, ap, _∙_}
+-- `residual_amount` meets its contract: the share is a quantity and splits into two tranches, so both amounts are within 2 × 10^13.
+use mathlib.Core.Path.{_≡_, refl, ap, _∙_}
 use mathlib.Core.List.{List}
 use Prim.Native.Nat.{ℕ, _-_, _≤_}
 use native.Mathlib.Omega.{arith}
@@ -7,32 +7,23 @@ use borrow.Author.Needs.{needs}
 use lib.IntN.{ℤ, pos, natAbs, _-ℤ_, _*ℤ_}
 use mir.Syntax.{w64}
 use mir.Val.{toZ, ofZ}
-use Rattle.integer.specs.laws.IntegerLaws.{int}
-use Rattle.integer.specs.Bits.{got, known}
+use Rattle.integer.specs.Bits.{got}
 use Rattle.integer.specs.Words.{word}
-use Rattle.rulebook.specs.Units.{asQuantity}
-use Rattle.rulebook.specs.Shares.{shareOf}
-use Rattle.rulebook.specs.laws.SharesLaws.{share-cap}
+use Rattle.rulebook.specs.Units.{mostQuantity, asQuantity}
 use Rattle.rulebook.specs.Tranches.{tranche1, tranche2}
 use Rattle.rulebook.specs.laws.TranchesLaws.{tranche-split}
 use Rattle.rulebook.specs.DayAmount.{shareAmount}
 use Rattle.rulebook.specs.laws.SizeLaws.{first-tranche-size, second-tranche-size}
 use Rattle.amounts.specs.Cell.{cellData}
-use Rattle.amounts.specs.laws.CellLaws.{priced-cong, shareOf-cong, tranche-cong, sum-cong}
+use Rattle.amounts.specs.laws.CellLaws.{priced-cong, tranche-cong, sum-cong}
 use Rattle.amounts.proofs.cell.residual_amount.Statement.{statement}
 use Rattle.amounts.proofs.cell.residual_amount.Tie as tie
 
-uegq-of-requires : tie.Need-uegq-of-requires
-uegq-of-requires c κs = search needs
-
-share-of-requires : tie.Need-share-of-requires
-share-of-requires c κs = (omega (int, known (c .before .fits .r), c .before .pre .2), c .uegq-of .ensures .1)
-
 quantity-at-requires : tie.Need-quantity-at-requires
-quantity-at-requires c κs = let s = c .before .before in let e = s .pre .0 .whole in (omega arith, s .pre .0 .bvq)
+quantity-at-requires c κs = let e = c .pre .0 .whole in (omega arith, c .pre .0 .bvq)
 
 quantity-at-requires-2 : tie.Need-quantity-at-requires-2
-quantity-at-requires-2 c κs = let s = c .before .before .before in let e = s .pre .0 .whole in (omega arith, s .pre .0 .mq)
+quantity-at-requires-2 c κs = let s = c .before in let e = s .pre .0 .whole in (omega arith, s .pre .0 .mq)
 
 first-tranche-requires : tie.Need-first-tranche-requires
 first-tranche-requires c κs = search needs
@@ -40,26 +31,19 @@ first-tranche-requires c κs = search needs
 -- the share and its tranches, of the cell
 module _ (c : tie.After-first-tranche) where
   abbrev start : tie.Start
-  start = c .before .before .before .before .before
+  start = c .before .before .before
 
   abbrev cell : List ℤ
   cell = start .args .c .now
 
   abbrev share : ℕ
-  share = shareOf (start .args .r) (start .args .s) (asQuantity (word cell 19))
-
-  share-is : c .before .before .before .share-of .result ≡ share
-  share-is =
-      let q = c .before .before .before .share-of .ensures in
-      let u = c .before .before .before .before .uegq-of .ensures .0 in
-      let x : toZ w64 (ofZ w64 (start .args .r)) ≡ start .args .r = search needs in
-      q ∙ shareOf-cong (start .args .s) x u
+  share = start .args .share
 
   first-is : c .first-tranche .result ≡ tranche1 share (asQuantity (word cell 1)) (asQuantity (word cell 20))
-  first-is = c .first-tranche .ensures ∙ tranche-cong share-is (c .before .before .quantity-at .ensures .0) (c .before .quantity-at2 .ensures .0)
+  first-is = c .first-tranche .ensures ∙ tranche-cong refl (c .before .before .quantity-at .ensures .0) (c .before .quantity-at2 .ensures .0)
 
-  share-le : share ≤ 10000000
-  share-le = omega (arith, share-cap (start .args .r) (start .args .s) (asQuantity (word cell 19)), start .pre .0 .sized .uegq)
+  share-le : share ≤ mostQuantity
+  share-le = start .pre .2
 
 -- V, read back
 price : (c : tie.After-first-tranche) → toZ w64 (ofZ w64 (start c .args .v)) ≡ start c .args .v
@@ -79,14 +63,14 @@ priced-at-requires c κs =
 sub-priced-at : tie.Need-sub-priced-at
 sub-priced-at c =
     let b = c .before in
-    omega (arith, first-is b, share-is b, tranche-split (share b) (asQuantity (word (cell b) 1)) (asQuantity (word (cell b) 20)) .share)
+    omega (arith, first-is b, tranche-split (share b) (asQuantity (word (cell b) 1)) (asQuantity (word (cell b) 20)) .share)
 
 priced-at-requires-2 : tie.Need-priced-at-requires-2
 priced-at-requires-2 c κs =
     let b = c .before in
     let s = start b in
     let e = s .pre .0 .whole in
-    (omega arith, s .pre .0 .sized .rvp2, price-le b, omega (arith, share-is b, share-le b))
+    (omega arith, s .pre .0 .sized .rvp2, price-le b, omega (arith, share-le b))
 
 -- both amounts, read back
 module _ (c : tie.After-priced-at2) where
@@ -102,10 +86,7 @@ module _ (c : tie.After-priced-at2) where
   unfolding tranche2
   two =
       let r = c .priced-at2 in
-      got (r .result) (r .ok) ∙ r .ensures ∙ priced-cong (word (cell split) 22) (price split) (less (share-is split) (first-is split))
-    where
-      less : {a a′ b b′ : ℕ} → a ≡ a′ → b ≡ b′ → a - b ≡ a′ - b′
-      less e f = cc
+      got (r .result) (r .ok) ∙ r .ensures ∙ priced-cong (word (cell split) 22) (price split) (ap (λ (t : ℕ). share split - t) (first-is split))
 
 add-requires : tie.Need-add-requires
 add-requires c κs =
@@ -127,4 +108,4 @@ unfolding shareAmount
 returns c = got (c .add .result) (c .add .ok) ∙ c .add .ensures ∙ sum-cong (one (c .before)) (two (c .before))
 
 pub residual-amount-spec : {M : Type 1} → statement M
-residual-amount-spec = tie.close (tie.spec uegq-of-requires share-of-requires quantity-at-requires quantity-at-requires-2 first-tranche-requires priced-at-requires sub-priced-at priced-at-requires-2 add-requires returns)
+residual-amount-spec = tie.close (tie.spec quantity-at-requires quantity-at-requires-2 first-tranche-requires priced-at-requires sub-priced-at priced-at-requires-2 add-requires returns)

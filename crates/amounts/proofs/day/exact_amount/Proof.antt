@@ -51,14 +51,14 @@ use denote.Triple.Table.{entered, cited}
 use denote.Triple.Walked.{says, needs, Stays, stay-none, stay-none-slice, walkOf, goes-none, goes-none-slice, Walks, ends-at, walked, walk-meets}
 use denote.Exit.{yes}
 use Rattle.amounts.specs.declared.total.DayTotal.{DayTotal}
-use Rattle.amounts.specs.declared.day.Residuals.{Residuals}
+use Rattle.amounts.specs.declared.day.DayShares.{DayShares}
 use Rattle.amounts.specs.Total.{absorbed}
-use Rattle.amounts.specs.Day.{DaysRanged, slotAmount, totalTo}
+use Rattle.amounts.specs.Day.{DaysRanged, SharesRanged, slotAmount, totalTo}
 use Rattle.amounts.specs.laws.DayLaws.{total-zero, total-suc, total-room}
 use Rattle.amounts.proofs.total.DayTotal as T
 use Rattle.amounts.proofs.total.DayTotal.Laws as T′
-use Rattle.amounts.proofs.day.Residuals as R
-use Rattle.amounts.proofs.day.Residuals.Laws as R′
+use Rattle.amounts.proofs.day.DayShares as R
+use Rattle.amounts.proofs.day.DayShares.Laws as R′
 use Rattle.amounts.proofs.total.absorb as absorb
 use Rattle.amounts.proofs.total.absorb.Symbol as absorb-def
 use Rattle.amounts.proofs.total.absorb.Symbol.{name as #absorb}
@@ -126,8 +126,8 @@ module _ {M : Type 1} (𝓤 : URA M) (H : Heap 𝓤) (A : Atoms 𝓤) (W : Given
   opened r l = qed W (‵ (partAt T.the-row fullShare r l 0) ∷ []) ∵ fpick ! (λ vs. fsplit ! $ spelt ! T.the-row (Is T.the-row) (shows 𝓤 H A T.the-row) (LL.vals T.the-type T′.the-laws) (LL.tells T.the-type T′.the-laws) fullShare r vs l 0 $
       use1 W (‵ (fat fullShare T′.mir l 0 (T′.lowered r))) (W .laws .raw-at fullShare T′.mir l 0 (T′.lowered r)) $ frame ! $ done !)
 
-module _ {M : Type 1} (𝓤 : URA M) (H : Heap 𝓤) (A : Atoms 𝓤) (W : Given 𝓤 H A) (at-mem : Memory → SProp 𝓤) (run : Routine → Fun 𝓤) (κ κ′ : Lft) (q q′ : Share) (s s′ : RefT (List ℤ)) (due : Bool) (rs : Residuals) (rv : Val) (n a : ℕ)
-    (rs-is : Is R.the-row rs (rv ∷ [])) (n-fits : n < 2 ^ 64) (a-fits : a < 2 ^ 64) (ranged : DaysRanged n (s .now) (s′ .now) due rs) (few : n ≤ 32) (one : a < n) where
+module _ {M : Type 1} (𝓤 : URA M) (H : Heap 𝓤) (A : Atoms 𝓤) (W : Given 𝓤 H A) (at-mem : Memory → SProp 𝓤) (run : Routine → Fun 𝓤) (κ κ′ : Lft) (q q′ : Share) (s s′ : RefT (List ℤ)) (due : Bool) (shares : DayShares) (rv : Val) (n a : ℕ)
+    (shares-is : Is R.the-row shares (rv ∷ [])) (n-fits : n < 2 ^ 64) (a-fits : a < 2 ^ 64) (ranged : DaysRanged n (s .now) (s′ .now) due) (small : SharesRanged shares) (few : n ≤ 32) (one : a < n) where
   -- the machine values of the two slots
   abbrev v : Val
   v = sliceVal (s .ptr) (length (s .now))
@@ -149,23 +149,23 @@ module _ {M : Type 1} (𝓤 : URA M) (H : Heap 𝓤) (A : Atoms 𝓤) (W : Given
 
   -- the total of the intervals below i, and the amount at i
   abbrev upTo : ℕ → DayTotal
-  upTo = totalTo n (s .now) (s′ .now) due rs a
+  upTo = totalTo n (s .now) (s′ .now) due shares a
 
   abbrev amount : ℕ → ℤ
-  amount = slotAmount n (s .now) (s′ .now) due rs a
+  amount = slotAmount n (s .now) (s′ .now) due shares a
 
   abbrev Post : Val → SProp 𝓤
-  Post = walkOf 𝓤 H A exact-amount.ended stayed (exact-amount.clauses 𝓤 H A at-mem run) .post (((κ, (κ′, tt)), (q, (q′, tt)), tt, (s, (s′, (due, (rs, (n, (a, tt)))))), (v ∷ [], (v′ ∷ [], (vbool due ∷ [], (rv ∷ [], (vint w64 n ∷ [], (vint w64 a ∷ [], tt))))))), tt)
+  Post = walkOf 𝓤 H A exact-amount.ended stayed (exact-amount.clauses 𝓤 H A at-mem run) .post (((κ, (κ′, tt)), (q, (q′, tt)), tt, (s, (s′, (due, (shares, (n, (a, tt)))))), (v ∷ [], (v′ ∷ [], (vbool due ∷ [], (rv ∷ [], (vint w64 n ∷ [], (vint w64 a ∷ [], tt))))))), tt)
 
   -- the call of `slot_amount`
   abbrev to-at : ℕ → AmountAt 𝓤 H A at-mem run .Ghost
-  to-at i = (((κ, (κ′, tt)), (q, (q′, tt)), tt, (s, (s′, (due, (rs, (n, (a, (i, tt))))))), (v ∷ [], (v′ ∷ [], (vbool due ∷ [], (rv ∷ [], (vint w64 n ∷ [], (vint w64 a ∷ [], (vint w64 i ∷ [], tt)))))))), tt)
+  to-at i = (((κ, (κ′, tt)), (q, (q′, tt)), tt, (s, (s′, (due, (shares, (n, (a, (i, tt))))))), (v ∷ [], (v′ ∷ [], (vbool due ∷ [], (rv ∷ [], (vint w64 n ∷ [], (vint w64 a ∷ [], (vint w64 i ∷ [], tt)))))))), tt)
 
   goes-at : (i : ℕ) → i < 48 → i < 2 ^ 64 → ent 𝓤 (⋆ 𝓤 H A (‵ Own ∷ ‵ Own′ ∷ Tok ∷ [])) (AmountAt 𝓤 H A at-mem run .pre (to-at i))
   goes-at i below fits =
-      qed W (‵ Own ∷ ‵ Own′ ∷ Tok ∷ []) ∵ says ! (ranged, few, one, below) $ move ! (2 ∷ []) $ frame ! $ nothing ! $ owned ! usize (Is usize) (uint-makes 𝓤 H A W w64) i _ (refl, fits) $ fjoin ! $
+      qed W (‵ Own ∷ ‵ Own′ ∷ Tok ∷ []) ∵ says ! (ranged, small, few, one, below) $ move ! (2 ∷ []) $ frame ! $ nothing ! $ owned ! usize (Is usize) (uint-makes 𝓤 H A W w64) i _ (refl, fits) $ fjoin ! $
       owned ! usize (Is usize) (uint-makes 𝓤 H A W w64) a _ (refl, a-fits) $ fjoin ! $ owned ! usize (Is usize) (uint-makes 𝓤 H A W w64) n _ (refl, n-fits) $ fjoin ! $
-      owned ! R.the-row (Is R.the-row) ((LL.makes R.the-type R′.the-plain) 𝓤 H A) rs _ rs-is $ fjoin ! $ owned ! bool (Is bool) (bool-makes 𝓤 H A W) due _ refl $ fjoin ! $
+      owned ! R.the-row (Is R.the-row) ((LL.makes R.the-type R′.the-plain) 𝓤 H A) shares _ shares-is $ fjoin ! $ owned ! bool (Is bool) (bool-makes 𝓤 H A W) due _ refl $ fjoin ! $
       move ! (2 ∷ 0 ∷ []) $ fjoin ! $ move ! (1 ∷ 0 ∷ []) $ fjoin ! $ done !
 
   -- it is asked for copies, and the two slices are kept
@@ -175,8 +175,8 @@ module _ {M : Type 1} (𝓤 : URA M) (H : Heap 𝓤) (A : Atoms 𝓤) (W : Given
       use1 W (‵ Own′ ⊛ ‵ Own′) (shr-slice-copy 𝓤 H A W (named 1) κ′ (SInt w64) .twice s′ (v′ ∷ [])) $ split ! $ move ! (2 ∷ 0 ∷ 4 ∷ []) $
       use3 W (raw (AmountAt 𝓤 H A at-mem run .pre (to-at i))) (goes-at i below fits) $ frame ! $ move ! (1 ∷ []) $ frame ! $ done !
 
-  at-said : (i : ℕ) (z : ℤ) → ent 𝓤 (ensured 𝓤 H A slot-amount.ended (slot-amount.clauses 𝓤 H A at-mem run) (κ, (κ′, tt)) (s, (s′, (due, (rs, (n, (a, (i, tt))))))) tt z) (fact 𝓤 (z ≡ amount i))
-  at-said i z = exE 𝓤 _ (λ ws. snd∗ 𝓤 (sem 𝓤 H A (lasts slot-amount.ended (κ, (κ′, tt)) (s, (s′, (due, (rs, (n, (a, (i, tt))))))) ws)) (fact 𝓤 (z ≡ amount i)))
+  at-said : (i : ℕ) (z : ℤ) → ent 𝓤 (ensured 𝓤 H A slot-amount.ended (slot-amount.clauses 𝓤 H A at-mem run) (κ, (κ′, tt)) (s, (s′, (due, (shares, (n, (a, (i, tt))))))) tt z) (fact 𝓤 (z ≡ amount i))
+  at-said i z = exE 𝓤 _ (λ ws. snd∗ 𝓤 (sem 𝓤 H A (lasts slot-amount.ended (κ, (κ′, tt)) (s, (s′, (due, (shares, (n, (a, (i, tt))))))) ws)) (fact 𝓤 (z ≡ amount i)))
 
   -- the call of `absorb`: the total t in the local at b, lent for ν under the name δ, and the amount z with the machine value u
   abbrev x : DayTotal → ℕ → GName → RefT DayTotal
@@ -192,9 +192,9 @@ module _ {M : Type 1} (𝓤 : URA M) (H : Heap 𝓤) (A : Atoms 𝓤) (W : Given
   exits : (t : DayTotal) → t ≡ upTo 48 → ent 𝓤 (⋆ 𝓤 H A (‵ (TOwn t) ∷ ‵ Own ∷ ‵ Own′ ∷ Tok ∷ [])) (Post (T′.lowered t))
   exits t e =
       qed W (‵ (TOwn t) ∷ ‵ Own ∷ ‵ Own′ ∷ Tok ∷ []) ∵
-      suffices ! _ (ends-at 𝓤 H A exact-amount.ended stayed (exact-amount.clauses 𝓤 H A at-mem run) W (((κ, (κ′, tt)), (q, (q′, tt)), tt, (s, (s′, (due, (rs, (n, (a, tt)))))), (v ∷ [], (v′ ∷ [], (vbool due ∷ [], (rv ∷ [], (vint w64 n ∷ [], (vint w64 a ∷ [], tt))))))), tt) (T′.lowered t) t (tt, (tt, (tt, (tt, (tt, (tt, tt)))))) (tt, (tt, (tt, (tt, (tt, (tt, tt))))))) $ says ! e $
+      suffices ! _ (ends-at 𝓤 H A exact-amount.ended stayed (exact-amount.clauses 𝓤 H A at-mem run) W (((κ, (κ′, tt)), (q, (q′, tt)), tt, (s, (s′, (due, (shares, (n, (a, tt)))))), (v ∷ [], (v′ ∷ [], (vbool due ∷ [], (rv ∷ [], (vint w64 n ∷ [], (vint w64 a ∷ [], tt))))))), tt) (T′.lowered t) t (tt, (tt, (tt, (tt, (tt, (tt, tt)))))) (tt, (tt, (tt, (tt, (tt, (tt, tt))))))) $ says ! e $
       move ! (3 ∷ []) $ frame ! $ nothing ! $ owned ! usize (Is usize) (uint-makes 𝓤 H A W w64) a _ (refl, a-fits) $ fjoin ! $ owned ! usize (Is usize) (uint-makes 𝓤 H A W w64) n _ (refl, n-fits) $ fjoin ! $
-      owned ! R.the-row (Is R.the-row) ((LL.makes R.the-type R′.the-plain) 𝓤 H A) rs _ rs-is $ fjoin ! $ owned ! bool (Is bool) (bool-makes 𝓤 H A W) due _ refl $ fjoin ! $
+      owned ! R.the-row (Is R.the-row) ((LL.makes R.the-type R′.the-plain) 𝓤 H A) shares _ shares-is $ fjoin ! $ owned ! bool (Is bool) (bool-makes 𝓤 H A W) due _ refl $ fjoin ! $
       move ! (3 ∷ 0 ∷ []) $ fjoin ! $ move ! (2 ∷ 0 ∷ []) $ fjoin ! $ frame ! $ done !
 
   -- the total of no interval
@@ -240,7 +240,7 @@ module _ {M : Type 1} (𝓤 : URA M) (H : Heap 𝓤) (A : Atoms 𝓤) (W : Given
 
     -- the total with the amount more is the next one
     grown : (i : ℕ) (t : DayTotal) (z : ℤ) → t ≡ absorbed (upTo i) z → z ≡ amount i → t ≡ upTo (i + 1)
-    grown i t z e f = e ∙ (ap (absorbed (upTo i)) f ∙ sym (total-suc n (s .now) (s′ .now) due rs a i))
+    grown i t z e f = e ∙ (ap (absorbed (upTo i)) f ∙ sym (total-suc n (s .now) (s′ .now) due shares a i))
 
     turns : (i : Upto) → Sq W (At i) (runs C Λ En code-mir.turn-1 (anyQ (Turned i)))
     unfolding afterTurn
@@ -253,14 +253,14 @@ module _ {M : Type 1} (𝓤 : URA M) (H : Heap 𝓤) (A : Atoms 𝓤) (W : Given
         move ! (1 ∷ 2 ∷ 3 ∷ []) $ use3 W (raw (AmountAt 𝓤 H A at-mem run .pre (to-at (i .0))) ⊛ (‵ Own ⊛ ‵ Own′)) (asks-at (i .0) (ltb→lt (i .0) 48 less) (fits i)) $ split ! $ move ! (1 ∷ []) $ split ! $ move ! (2 ∷ []) $
         -- [asked; the slices'; the total's; _12; …; _11; …]
         calls-at ! fm (AmountAt 𝓤 H A at-mem run) known-at (to-at (i .0)) (and-then ! (load ! (from ! (stop !)) (look ! 26 refl)) (and-then ! (load ! (from ! (stop !)) (look ! 24 refl)) (and-then ! (load ! (from ! (stop !)) (look ! 22 refl)) (and-then ! (load ! (from ! (stop !)) (look ! 20 refl)) (and-then ! (load ! (from ! (stop !)) (look ! 18 refl)) (and-then ! (load ! (from ! (stop !)) (look ! 16 refl)) (and-then ! (load ! (from ! (stop !)) (look ! 12 refl)) (no-more !)))))))) (λ u.
-        use1 W (later (some (λ (z : ℤ). (Tok ⊛ ‵ (SInt w64 .own z (u ∷ []))) ⊛ raw (ensured 𝓤 H A slot-amount.ended (slot-amount.clauses 𝓤 H A at-mem run) (κ, (κ′, tt)) (s, (s′, (due, (rs, (n, (a, (i .0, tt))))))) tt z)))) (id⊢ 𝓤 _) $ await ! tt $ pick ! (λ z.
+        use1 W (later (some (λ (z : ℤ). (Tok ⊛ ‵ (SInt w64 .own z (u ∷ []))) ⊛ raw (ensured 𝓤 H A slot-amount.ended (slot-amount.clauses 𝓤 H A at-mem run) (κ, (κ′, tt)) (s, (s′, (due, (shares, (n, (a, (i .0, tt))))))) tt z)))) (id⊢ 𝓤 _) $ await ! tt $ pick ! (λ z.
         split ! $ move ! (1 ∷ []) $ use1 W (raw (fact 𝓤 (z ≡ amount (i .0)))) (at-said (i .0) z) $ heard ! (z ≡ amount (i .0)) (λ e. split ! $ move ! (1 ∷ []) $
         peeks ! (SInt w64) (Is (SInt w64)) (shows 𝓤 H A (SInt w64)) z (u ∷ []) (λ is. land ! (from ! (stop !)) (init ! 5 refl (sint-lawful 𝓤 H A W w64 .typed z _ is .0)) $
         -- [the amount's; the tokens; the slices'; the total's; _12; …; _11; …; _10; …; _9; …; _8; …; _7; …]: the local is lent
         move ! (15 ∷ 4 ∷ []) $ use2 W (‵ (mem T.the-row .lies (upTo (i .0)) l₇ 0)) (shut 𝓤 H A W (upTo (i .0)) (T′.lowered (upTo (i .0))) l₇) $
         lft-new ! tt (λ ν. move ! (1 ∷ []) $
         use1 W (later (some (λ (δ : GName). ‵ (MutRef (named 0) (ν ∷ []) T.the-row .own (x (upTo (i .0)) l₇ δ) (vptr l₇ 0 ∷ [])) ⊛ ‵ (flent (ν ∷ []) (Body (mem T.the-row) l₇ 0 δ))))) (lends-ref 𝓤 H A W T.the-row (named 0) (ν ∷ []) (upTo (i .0)) l₇ 0) $ await ! tt $ pick ! (λ δ. split ! $
-        move ! (2 ∷ 0 ∷ 3 ∷ []) $ use3 W (raw (Absorb 𝓤 H A at-mem run .pre (to (upTo (i .0)) ν l₇ δ z u))) (goes (upTo (i .0)) ν l₇ δ z u (subst (Room (upTo (i .0))) (sym e) (total-room n (s .now) (s′ .now) due rs a ranged one (i .0) (ltb→lt (i .0) 48 less)))) $
+        move ! (2 ∷ 0 ∷ 3 ∷ []) $ use3 W (raw (Absorb 𝓤 H A at-mem run .pre (to (upTo (i .0)) ν l₇ δ z u))) (goes (upTo (i .0)) ν l₇ δ z u (subst (Room (upTo (i .0))) (sym e) (total-room n (s .now) (s′ .now) due shares a ranged small one (i .0) (ltb→lt (i .0) 48 less)))) $
         -- [asked; the lender's part; the tokens; the slices'; _12; …; _11; …]
         calls-at ! fm (Absorb 𝓤 H A at-mem run) known (to (upTo (i .0)) ν l₇ δ z u) (and-then ! (load ! (from ! (stop !)) (look ! 7 refl)) (and-then ! (load ! (from ! (stop !)) (look ! 5 refl)) (no-more !))) (λ w.
         use1 W (later (some (λ (r : Unit {0}). ((‵ (flft (ν ∷ []) fullShare) ⊛ ‵ ftrue) ⊛ ‵ (unit .own r (w ∷ []))) ⊛ raw (ensured 𝓤 H A absorb.ended (absorb.clauses 𝓤 H A at-mem run) (ν ∷ [], tt) (x (upTo (i .0)) l₇ δ, (z, tt)) tt r)))) (id⊢ 𝓤 _) $ await ! tt $ pick ! (λ r.
@@ -293,18 +293,18 @@ module _ {M : Type 1} (𝓤 : URA M) (H : Heap 𝓤) (A : Atoms 𝓤) (W : Given
 
   walk : (𝓣 : Tables 𝓤 H) → FmC 𝓤 H (W .laws) (𝓣 .C) → Triple 𝓤 (𝓣 .C #slot-amount) (AmountAt 𝓤 H A at-mem run) → Triple 𝓤 (𝓣 .C #absorb) (Absorb 𝓤 H A at-mem run)
       → Is (ShrSlice (named 0) κ (SInt w64)) s (v ∷ []) → Is (ShrSlice (named 1) κ′ (SInt w64)) s′ (v′ ∷ [])
-      → ent 𝓤 (onEntry 𝓤 H A exact-amount.signature (κ, (κ′, tt)) (q, (q′, tt)) (s, (s′, (due, (rs, (n, (a, tt)))))) (v ∷ [], (v′ ∷ [], (vbool due ∷ [], (rv ∷ [], (vint w64 n ∷ [], (vint w64 a ∷ [], tt))))))) (WpFn 𝓤 H (𝓣 .C) (𝓣 .Λ) code.function (v ∷ v′ ∷ vbool due ∷ rv ∷ vint w64 n ∷ vint w64 a ∷ []) Post)
+      → ent 𝓤 (onEntry 𝓤 H A exact-amount.signature (κ, (κ′, tt)) (q, (q′, tt)) (s, (s′, (due, (shares, (n, (a, tt)))))) (v ∷ [], (v′ ∷ [], (vbool due ∷ [], (rv ∷ [], (vint w64 n ∷ [], (vint w64 a ∷ [], tt))))))) (WpFn 𝓤 H (𝓣 .C) (𝓣 .Λ) code.function (v ∷ v′ ∷ vbool due ∷ rv ∷ vint w64 n ∷ vint w64 a ∷ []) Post)
   walk 𝓣 fm known-at known p p′ =
-      qed W (Tok ∷ ‵ (owns (ShrSlice (named 0) κ (SInt w64) ∷ ShrSlice (named 1) κ′ (SInt w64) ∷ bool ∷ R.the-row ∷ usize ∷ usize ∷ []) (s, (s′, (due, (rs, (n, (a, tt)))))) (v ∷ [], (v′ ∷ [], (vbool due ∷ [], (rv ∷ [], (vint w64 n ∷ [], (vint w64 a ∷ [], tt))))))) ∷ []) ∵
+      qed W (Tok ∷ ‵ (owns (ShrSlice (named 0) κ (SInt w64) ∷ ShrSlice (named 1) κ′ (SInt w64) ∷ bool ∷ R.the-row ∷ usize ∷ usize ∷ []) (s, (s′, (due, (shares, (n, (a, tt)))))) (v ∷ [], (v′ ∷ [], (vbool due ∷ [], (rv ∷ [], (vint w64 n ∷ [], (vint w64 a ∷ [], tt))))))) ∷ []) ∵
       enter ! (𝓣 .C) (𝓣 .Λ) code.function (v ∷ v′ ∷ vbool due ∷ rv ∷ vint w64 n ∷ vint w64 a ∷ []) _ $
       alloc1 ! (λ l₀. alloc1 ! (λ l₁. alloc1 ! (λ l₂. alloc1 ! (λ l₃. alloc1 ! (λ l₄. alloc1 ! (λ l₅. alloc1 ! (λ l₆. alloc1 ! (λ l₇. alloc1 ! (λ l₈. alloc1 ! (λ l₉. alloc1 ! (λ l₁₀. alloc1 ! (λ l₁₁. alloc1 ! (λ l₁₂. alloc0 ! $ params1 ! $
       pass1 ! (init ! 22 refl (shr-slice-lawful 𝓤 H A W (named 0) κ (SInt w64) .typed s (v ∷ []) p .0)) $ pass1 ! (init ! 20 refl (shr-slice-lawful 𝓤 H A W (named 1) κ′ (SInt w64) .typed s′ (v′ ∷ []) p′ .0)) $
-      pass1 ! (init ! 18 refl (tt, tt)) $ pass1 ! (init ! 16 refl (LL.lawful R.the-type R′.the-laws 𝓤 H A W .typed rs _ rs-is .0)) $ pass1 ! (init ! 14 refl (tt, record { fits = n-fits })) $ pass1 ! (init ! 12 refl (tt, record { fits = a-fits })) $ pass0 ! $
+      pass1 ! (init ! 18 refl (tt, tt)) $ pass1 ! (init ! 16 refl (LL.lawful R.the-type R′.the-laws 𝓤 H A W .typed shares _ shares-is .0)) $ pass1 ! (init ! 14 refl (tt, record { fits = n-fits })) $ pass1 ! (init ! 12 refl (tt, record { fits = a-fits })) $ pass0 ! $
       assigns ! (agg ! (and-then ! (lit ! tt) (no-more !))) (from ! (stop !)) (init ! 10 refl (tt, (record { fits = lit< tt }, tt))) $
       assigns ! (of-opd ! (lit ! tt)) (from ! (stop !)) (init ! 8 refl (tt, record { fits = lit< tt })) $
       owned ! T.the-row (Is T.the-row) ((LL.makes T.the-type T′.the-plain) 𝓤 H A) none (T′.lowered none ∷ []) (LL.owes T.the-type T′.the-laws none ((refl, lit< tt), tt)) $
-      rewrite ! 11 (λ (t : DayTotal). ‵ (fat fullShare T′.mir l₇ 0 (T′.lowered t))) (total-zero n (s .now) (s′ .now) due rs a) refl $
-      rewrite ! 0 (λ (t : DayTotal). ‵ (TOwn t)) (total-zero n (s .now) (s′ .now) due rs a) refl $
+      rewrite ! 11 (λ (t : DayTotal). ‵ (fat fullShare T′.mir l₇ 0 (T′.lowered t))) (total-zero n (s .now) (s′ .now) due shares a) refl $
+      rewrite ! 0 (λ (t : DayTotal). ‵ (TOwn t)) (total-zero n (s .now) (s′ .now) due shares a) refl $
       -- [the total's; _12; …; …; _0; …; the tokens; the parameters']
       move ! (28 ∷ []) $ fsplit ! $ move ! (1 ∷ []) $ fsplit ! $ move ! (1 ∷ []) $ drop ! $ move ! (2 ∷ 1 ∷ 0 ∷ 29 ∷ []) $
       from-first 𝓣 fm known-at known l₀ l₁ l₂ l₃ l₄ l₅ l₆ l₇ l₈ l₉ l₁₀ l₁₁ l₁₂)))))))))))))
@@ -314,9 +314,9 @@ module _ {M : Type 1} (𝓤 : URA M) (H : Heap 𝓤) (A : Atoms 𝓤) (W : Given
   exact-amount-walks 𝓣 fm known-at known = walked 𝓤 H A exact-amount.ended stayed (exact-amount.clauses 𝓤 H A mem run) (WpFn 𝓤 H (𝓣 .C) (𝓣 .Λ) code.function)
       (λ κs. (slice-vals, (slice-vals, (bool-vals, (LL.vals R.the-type R′.the-laws, (uint-vals w64, (uint-vals w64, tt)))))))
       (λ κs. (shr-slice-tells (named 0) (κs .0) (SInt w64), (shr-slice-tells (named 1) (κs .1 .0) (SInt w64), (bool-tells, (LL.tells R.the-type R′.the-laws, (uint-tells w64, (uint-tells w64, tt)))))))
-      (λ κs qs bounds a g are. needs 𝓤 (DaysRanged (a .1 .1 .1 .1 .0) (a .0 .now) (a .1 .0 .now) (a .1 .1 .0) (a .1 .1 .1 .0) × (a .1 .1 .1 .1 .0 ≤ 32) × (a .1 .1 .1 .1 .1 .0 < a .1 .1 .1 .1 .0)) _
+      (λ κs qs bounds a g are. needs 𝓤 (DaysRanged (a .1 .1 .1 .1 .0) (a .0 .now) (a .1 .0 .now) (a .1 .1 .0) × SharesRanged (a .1 .1 .1 .0) × (a .1 .1 .1 .1 .0 ≤ 32) × (a .1 .1 .1 .1 .1 .0 < a .1 .1 .1 .1 .0)) _
       (λ ok. walk 𝓤 H A W mem run (κs .0) (κs .1 .0) (qs .0) (qs .1 .0) (a .0) (a .1 .0) (a .1 .1 .0) (a .1 .1 .1 .0) _ (a .1 .1 .1 .1 .0) (a .1 .1 .1 .1 .1 .0)
-      (are .1 .1 .1 .0) (are .1 .1 .1 .1 .0 .1) (are .1 .1 .1 .1 .1 .0 .1) (ok .0) (ok .1) (ok .2) 𝓣 fm known-at known (are .0) (are .1 .0)))
+      (are .1 .1 .1 .0) (are .1 .1 .1 .1 .0 .1) (are .1 .1 .1 .1 .1 .0 .1) (ok .0) (ok .1) (ok .2) (ok .3) 𝓣 fm known-at known (are .0) (are .1 .0)))
 
 exact-amount-meets : {M : Type 1} (𝓤 : URA M) (H : Heap 𝓤) (A : Atoms 𝓤) (W : Given 𝓤 H A) (mem : Memory → SProp 𝓤) (run : Routine → Fun 𝓤) (𝓣 : Tables 𝓤 H) → Triple 𝓤 (𝓣 .C #slot-amount) (AmountAt 𝓤 H A mem run) → Triple 𝓤 (𝓣 .C #absorb) (Absorb 𝓤 H A mem run)
     → Meets 𝓤 H A exact-amount.signature (WpFn 𝓤 H (𝓣 .C) (𝓣 .Λ) code.function) (exact-amount.spec 𝓤 H A mem run)

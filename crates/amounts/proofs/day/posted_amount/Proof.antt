@@ -11,7 +11,7 @@ use Rattle.integer.specs.laws.IntegerLaws.{int, fits-abs}
 use Rattle.integer.specs.Bits.{got, known}
 use Rattle.rulebook.specs.Units.{intervals, nearest, thousandthsPerCent}
 use Rattle.amounts.specs.declared.total.DayTotal.{DayTotal}
-use Rattle.amounts.specs.Day.{slotPosted, totalTo}
+use Rattle.amounts.specs.Day.{sharesPosted, totalTo}
 use Rattle.amounts.specs.laws.DayLaws.{total-le}
 use Rattle.amounts.proofs.day.posted_amount.Statement.{statement}
 use Rattle.amounts.proofs.day.posted_amount.Tie as tie
@@ -23,7 +23,7 @@ sum-le : (c : tie.After-exact-amount) → natAbs (c .exact-amount .result .thous
 sum-le c =
     let a = c .before .args in
     let e = ap (λ (t : DayTotal). natAbs (t .thousandths)) (c .exact-amount .ensures) in
-    omega (arith, e, total-le (a .n) (a .today .now) (a .then .now) (a .due) (a .residuals) (a .a) (c .before .pre .0) (c .before .pre .2) intervals (omega arith))
+    omega (arith, e, total-le (a .n) (a .today .now) (a .then .now) (a .due) (a .shares) (a .a) (c .before .pre .0) (c .before .pre .1) (c .before .pre .3) intervals (omega arith))
 
 sum-fits : (c : tie.After-exact-amount) → SFits w64 (c .exact-amount .result .thousandths)
 sum-fits c = fits-abs (omega (int, sum-le c))
@@ -32,7 +32,7 @@ nearest-to-requires : tie.Need-nearest-to-requires
 nearest-to-requires c κs = let k = known (sum-fits (c .before)) in (omega (int, sum-le (c .before)), (omega arith, omega arith))
 
 returns : tie.Need-returns
-unfolding slotPosted totalTo
+unfolding sharesPosted totalTo
 returns c =
     let b = c .before .before in
     got (c .nearest-to .result) (c .nearest-to .ok) ∙ c .nearest-to .ensures

@@ -11,11 +11,11 @@ use Rattle.integer.specs.laws.WordsLaws.{lent}
 use Rattle.rulebook.specs.DayAmount.{settlesResidual}
 use Rattle.rulebook.specs.Layout.{slotStart}
 use Rattle.amounts.specs.declared.day.Residuals.{Residuals}
-use Rattle.amounts.specs.Day.{DaysRanged, slotPosted}
+use Rattle.amounts.specs.Day.{DaysRanged, LoadsRanged, slotPosted}
 use Rattle.closing.specs.Slots.{slotWords, thenDay, residualsDue}
 use Rattle.closing.specs.laws.SlotsLaws.{slot-sized, then-late}
 use Rattle.closing.specs.Written.{Small, withMssl}
-use Rattle.closing.specs.laws.SettlingLaws.{settling-ranged, amounts-small, amounts-room, statement-same}
+use Rattle.closing.specs.laws.SettlingLaws.{settling-ranged, settling-loads, amounts-small, amounts-room, statement-same}
 use borrow.Author.Needs.{needs}
 use Rattle.closing.proofs.write.write_statement.Statement.{statement}
 use Rattle.closing.proofs.write.write_statement.Tie as tie
@@ -121,8 +121,8 @@ part-post-amounts-end-2 : tie.Need-part-post-amounts-end-2
 part-post-amounts-end-2 c = omega (arith, then-fits (c .before .before .before .before))
 
 -- the days that the amounts are posted from, as the rule book has them
-ranged-cong : {n : ℕ} {t u x y : List ℤ} {d e : Bool} {r q : Residuals} → t ≡ u → x ≡ y → d ≡ e → r ≡ q → DaysRanged n u y e q → DaysRanged n t x d r
-ranged-cong a b c d h = rw (a, b, c, d) h
+ranged-cong : {n : ℕ} {t u x y : List ℤ} {d e : Bool} → t ≡ u → x ≡ y → d ≡ e → DaysRanged n u y e → DaysRanged n t x d
+ranged-cong a b c h = rw (a, b, c) h
 
 posted-cong : (n : ℕ) {t u x y : List ℤ} {d e : Bool} {r q : Residuals} (st : List ℤ) → t ≡ u → x ≡ y → d ≡ e → r ≡ q → filled n (slotPosted n t x d r) st ≡ filled n (slotPosted n u y e q) st
 posted-cong n st a b c d = rw (a, b, c, d)
@@ -135,7 +135,8 @@ post-amounts-requires c κs =
     let n = t .before .before in
     let s = n .before in
     let w = s .args .book .now in (
-      ranged-cong (part-is w (t .slot-start .ensures) (n .slot-length .ensures)) (part-is w (then b) (n .slot-length .ensures)) (t .before .is-due .ensures) (residuals r) (settling-ranged w (s .args .terms) (s .args .day) (s .pre .0)),
+      ranged-cong (part-is w (t .slot-start .ensures) (n .slot-length .ensures)) (part-is w (then b) (n .slot-length .ensures)) (t .before .is-due .ensures) (settling-ranged w (s .args .terms) (s .args .day) (s .pre .0)),
+      subst LoadsRanged (sym (residuals r)) (settling-loads w (s .args .terms) (s .args .day) (s .pre .0)),
       s .pre .0 .book .inTerms .accountsTo,
       omega (arith, s .pre .1),
     )
