@@ -145,7 +145,7 @@ int main(int count, char **arguments)
 {
     const char *path = count > 1 ? arguments[1] : "settlement.book";
 
-    robijan_terms terms = {.accounts = ACCOUNTS, .lag = LAG, .horizon = HORIZON, .first = robijan_day(2026, 1, 1).day};
+    robijan_terms terms = {.accounts = ACCOUNTS, .lag = LAG, .horizon = HORIZON, .first = robijan_day(2026, 1, 1).day, .change = 0};
 
     /* The words are ours: the library says how many a book takes. */
     robijan_size_answer size = robijan_book_size(terms);

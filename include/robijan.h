@@ -10,7 +10,8 @@
  * some accounts, takes submission files with the data of each account and day, and is closed day by day. A close posts to each account one
  * amount, in whole cents. Summed over the day's intervals it is what the contracts come to, (contract price - V) * quantity, with V the
  * account's own reference price at that interval; and from day first + lag on, what its share of the load that no contract covered `lag` days
- * earlier comes to, (RVP1 - V) * first part + (RVP2 - V) * second part, with the V, prices and quantities of that earlier day. The day's sum is
+ * earlier comes to, (RVP1 - V) * first part + (RVP2 - V) * second part, with the V, prices and quantities of that earlier day. Shares are whole
+ * kWh: those of days before `change` are rounded down (the first edition), those of days from `change` on use every kWh (the second). The day's sum is
  * rounded once, to the nearest cent, a tie away from zero. The MSSL (the buyer for small consumers) is posted minus the sum of these amounts,
  * so that the balances of a book that only these calls have changed total zero.
  *
@@ -43,8 +44,11 @@
  * none; in a refused answer every other figure is 0. Checks are tried in the order of the list that each call gives, and the first that
  * strikes is answered.
  *
- * CHANGES. The calls of document 01, its numbers 0 to 14 and the words of a book are as they were. New with document 02:
+ * CHANGES. The calls of document 01 and its numbers 0 to 14 are as they were, but for what is said here. New with document 02:
  *   P1   robijan_profile, number 15
+ *   P2   robijan_second_share; robijan_terms has a fifth field, `change`, so programs that open a book are compiled again: 0, as an initialiser
+ *        that leaves the field out gives it, opens the book of before. Word 7 of a book, zero until then, holds it: a book opened before P2 is
+ *        one whose `change` is 0.
  */
 #ifndef ROBIJAN_H
 #define ROBIJAN_H
@@ -92,6 +96,7 @@ typedef struct {
     uint64_t lag;      /* 1 to 75: after how many days the uncovered load of a day is settled (the market rule says 75) */
     uint64_t horizon;  /* 1 to 92: how many days, from the next one to close, rows may be given for */
     uint64_t first;    /* 9,497 to 36,524: the first day to close */
+    uint64_t change;   /* 0, for never, or 9,497 to 36,524: from which day on the uncovered load of a day is shared by the second edition */
 } robijan_terms;
 
 /* A book takes 64 + 8 * accounts + 48 * (lag + horizon) * (4 + 24 * accounts) words: 5,072 for 2 accounts, lag 1 and horizon 1, and
@@ -103,7 +108,8 @@ typedef struct {
  *   0        395
  *   1 to 4   accounts, lag, horizon, first
  *   5        C, the next day to close; 36,525 when all are closed
- *   6        the MSSL's balance; 7 to 63 are zero
+ *   6        the MSSL's balance
+ *   7        change; 8 to 63 are zero
  *   ROBIJAN_WORD_BALANCE(account)   the account's balance; seven zeros follow
  *   from 64 + 8 * accounts on       lag + horizon slots of 48 intervals each; day d has slot (d - first) mod (lag + horizon)
  * An interval has ROBIJAN_INTERVAL_WORDS(accounts) words: the NCC load, its flag, two zeros, then 24 words an account:
@@ -116,6 +122,7 @@ enum {
     ROBIJAN_WORD_LAG = 2,
     ROBIJAN_WORD_NEXT_DAY = 5,
     ROBIJAN_WORD_MSSL_BALANCE = 6,
+    ROBIJAN_WORD_CHANGE = 7,
     ROBIJAN_INTERVAL_NCC_FLAG = 1,   /* in an interval */
     ROBIJAN_INTERVAL_ACCOUNTS = 4,
     ROBIJAN_ACCOUNT_WORDS = 24,      /* of an account in an interval */
@@ -127,7 +134,7 @@ enum {
 #define ROBIJAN_WORD_FIRST_INTERVAL(accounts) (64 + 8 * (accounts))
 #define ROBIJAN_INTERVAL_WORDS(accounts) (4 + 24 * (accounts))
 
-/* How many words a book of these terms takes. All of them are judged, as by an opening; the first day has no part in the size. Refused: 1. */
+/* How many words a book of these terms takes. All of them are judged, as by an opening; first and change have no part in the size. Refused: 1. */
 robijan_size_answer robijan_book_size(robijan_terms terms);
 
 /* Opens a book: writes every word of its size, whatever they held. Refused: 1, 2. */
@@ -169,6 +176,11 @@ robijan_price_answer robijan_price(const int64_t *mep, size_t meps, const int64_
  * most that, rounded down, and zeros where the residual is 0 or less or there is none to spare; one word an account is written, words beyond
  * are kept. Returns the number. Refused: 1, 10. */
 uint64_t robijan_share(int64_t residual, const int64_t *uegq, size_t uegqs, int64_t *output, size_t output_words);
+
+/* The same by the second edition, whose shares total exactly the smaller of the residual load (0 if negative) and all spare generation. Of a
+ * residual load below it, an account gets its part of the load by the spare generation up to and with it, rounded down, less that by the spare
+ * generation before it, rounded down: 2 kWh among accounts with 1, 1 and 1 are shared 0, 1, 1. Refused: 1, 10. */
+uint64_t robijan_second_share(int64_t residual, const int64_t *uegq, size_t uegqs, int64_t *output, size_t output_words);
 
 /* The parts of a share, all three being quantities: `first` is at most what the base contract (BVQ) left of MQ, 0 where BVQ is MQ or more;
  * `second` is the rest. Refused: 1. */

@@ -119,6 +119,27 @@ static void a_closed_book(void)
     NUMBER(ROBIJAN_OUTSIDE_RANGE, robijan_book_size(terms(2, FIRST - 1)).number); /* as an opening says */
 }
 
+/* X: 0, or 9,497 to 36,524, whole, in its word; anything else there is no book. */
+static void change_days(void)
+{
+    static const uint64_t good[] = {0, 9497, 36524}, bad[] = {1, 9496, 36525, 9497 + (UINT64_C(1) << 32)};
+    robijan_terms changing = terms(2, 20000);
+    for (int i = 0; i < 3; i++) {
+        changing.change = good[i];
+        NUMBER(ROBIJAN_ACCEPTED, robijan_open(book, SIZE, changing).number);
+        same("change day", (int64_t)good[i], book[ROBIJAN_WORD_CHANGE]);
+        same("first day", 20000, book[ROBIJAN_WORD_NEXT_DAY]);
+        NUMBER(ROBIJAN_ACCEPTED, robijan_judge(book, SIZE));
+    }
+    for (int i = 0; i < 4; i++) {
+        changing.change = bad[i];
+        NUMBER(ROBIJAN_OUTSIDE_RANGE, robijan_open(book, SIZE, changing).number);
+        NUMBER(ROBIJAN_OUTSIDE_RANGE, robijan_book_size(changing).number);
+        book[ROBIJAN_WORD_CHANGE] = (int64_t)bad[i];
+        NUMBER(ROBIJAN_NOT_WELL_FORMED, robijan_judge(book, SIZE));
+    }
+}
+
 /* Each section's row of account 1, without figures: its flags stand where the header says, in the first interval and in the second. */
 static void places(void)
 {
@@ -153,6 +174,15 @@ static void rules(void)
     same("first share", 50, output[0]);
     same("last share", 150, output[2]);
     NUMBER(ROBIJAN_OUTPUT_TOO_SHORT, robijan_share(300, uegq, 3, output, 2));
+    static const int64_t ones[] = {1, 1, 1};
+    NUMBER(ROBIJAN_ACCEPTED, robijan_second_share(2, ones, 3, output, 3));
+    same("first share of the second edition", 0, output[0]);
+    same("second share of the second edition", 1, output[1]);
+    same("last share of the second edition", 1, output[2]);
+    NUMBER(ROBIJAN_ACCEPTED, robijan_share(2, ones, 3, output, 3));
+    same("last share of the first edition", 0, output[2]);
+    NUMBER(ROBIJAN_OUTPUT_TOO_SHORT, robijan_second_share(2, ones, 3, output, 2));
+    NUMBER(ROBIJAN_OUTSIDE_RANGE, robijan_second_share(2 + (INT64_C(1) << 32), ones, 3, output, 2));
     robijan_tranche_answer tranches = robijan_tranche(150, 400, 490);
     same("first tranche", 90, tranches.first);
     same("second tranche", 60, tranches.second);
@@ -206,6 +236,7 @@ int main(void)
 {
     numbers_of_a_book();
     a_closed_book();
+    change_days();
     places();
     rules();
     profiles();

@@ -85,7 +85,7 @@ static const int64_t profile[48];
 static int64_t output[ACCOUNTS];
 
 static void nothing(void) { number = ROBIJAN_ACCEPTED; }
-static const robijan_terms terms = {.accounts = ACCOUNTS, .lag = 1, .horizon = 1, .first = FIRST};
+static const robijan_terms terms = {.accounts = ACCOUNTS, .lag = 1, .horizon = 1, .first = FIRST, .change = FIRST};
 static void size(void) { number = robijan_book_size(terms).number; }
 static void open_book(void) { number = robijan_open(book, sizeof book / 8, terms).number; }
 static void submit(void) { number = robijan_submit(book, sizeof book / 8, file, length).number; }
@@ -93,6 +93,7 @@ static void close_day(void) { number = robijan_close(book, sizeof book / 8, stat
 static void judge(void) { number = robijan_judge(book, sizeof book / 8); }
 static void price(void) { number = robijan_price(list, 4, list, 4).number; }
 static void share(void) { number = robijan_share(5, list, ACCOUNTS, output, ACCOUNTS); }
+static void second_share(void) { number = robijan_second_share(5, list, ACCOUNTS, output, ACCOUNTS); }
 static void tranche(void) { number = robijan_tranche(3, 2, 1).number; }
 static void check_profile(void) { number = robijan_profile(profile, 48, 0, 0).number; }
 static void date(void) { number = robijan_date(36524).number; }
@@ -129,6 +130,7 @@ int main(void)
     measure("close, residuals", close_day);
     measure("price", price);
     measure("share", share);
+    measure("second share", second_share);
     measure("tranche", tranche);
     measure("profile", check_profile);
     measure("date", date);

@@ -7,22 +7,34 @@ use reference::generate::Rng;
 pub const FIRST_DAY: u64 = 9_497;
 const NEXT_DAY: usize = 5;
 
-/// The size of a book.
+/// The size of a book, and its change day.
 #[derive(Clone, Copy)]
 pub struct Terms {
     pub accounts: usize,
     pub lag: usize,
     pub horizon: usize,
+    pub change: u64,
 }
 
 impl Terms {
-    /// The longest lag and horizon.
-    pub fn longest(accounts: usize) -> Terms {
+    /// Without a change day.
+    pub fn unchanging(accounts: usize, lag: usize, horizon: usize) -> Terms {
         Terms {
             accounts,
-            lag: 75,
-            horizon: 92,
+            lag,
+            horizon,
+            change: 0,
         }
+    }
+
+    /// The longest lag and horizon.
+    pub fn longest(accounts: usize) -> Terms {
+        Terms::unchanging(accounts, 75, 92)
+    }
+
+    /// The second edition from this day on.
+    pub fn changing(self, change: u64) -> Terms {
+        Terms { change, ..self }
     }
 
     pub fn words(self) -> usize {
@@ -38,6 +50,7 @@ impl Terms {
             lag,
             horizon,
             first_day: FIRST_DAY,
+            change_day: self.change,
         }
     }
 
@@ -48,6 +61,7 @@ impl Terms {
             lag: self.lag,
             horizon: self.horizon,
             first: FIRST_DAY as usize,
+            change: self.change as usize,
         }
     }
 
@@ -80,6 +94,7 @@ pub fn book(rng: &mut Rng, terms: Terms, rows: Rows) -> Vec<i64> {
         accounts,
         lag,
         horizon,
+        ..
     } = terms;
     let (closed, filled) = match rows {
         Rows::Full | Rows::Mixed => (lag, lag + horizon),

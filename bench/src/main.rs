@@ -1,7 +1,7 @@
 //! The benchmark's tables, in Markdown: the page docs/BENCHMARKS.md is what `bench/run` prints, which puts a heading before them. Words: which
 //! parts to run, of `books`, `small`, `none` and `growth`; all without a word.
 
-use bench::large::{self, Rows, Sections, Terms};
+use bench::large::{self, Rows, Sections, Terms, FIRST_DAY};
 use bench::measures::{self, Measured};
 use bench::tables;
 use reference::generate::Rng;
@@ -34,11 +34,7 @@ fn books(rng: &mut Rng) {
 
 /// Calls in which the judge's pass over the book counts for less.
 fn small(rng: &mut Rng) {
-    let terms = |accounts| Terms {
-        accounts,
-        lag: 1,
-        horizon: 1,
-    };
+    let terms = |accounts| Terms::unchanging(accounts, 1, 1);
     let book = large::book(rng, terms(2), Rows::None);
     let sections = Sections::next(&book, 1, 1, 1);
     let mut rows = vec![measures::submission(
@@ -47,20 +43,25 @@ fn small(rng: &mut Rng) {
         rng,
         sections,
     )];
-    for (name, filled) in [
+    let second = terms(32).changing(FIRST_DAY);
+    for (name, terms, filled) in [
         (
             "close, residuals due, random counts, 32 accounts",
+            terms(32),
+            Rows::Mixed,
+        ),
+        (
+            "close, residuals due of the second edition, random counts, 32 accounts",
+            second,
             Rows::Mixed,
         ),
         (
             "close, no residual due, random counts, 32 accounts",
+            terms(32),
             Rows::Open,
         ),
     ] {
-        rows.push(measures::closing(
-            name,
-            &large::book(rng, terms(32), filled),
-        ));
+        rows.push(measures::closing(name, &large::book(rng, terms, filled)));
     }
     println!("\n## Small books: lag and horizon 1\n");
     tables::plain(&rows);
@@ -69,8 +70,9 @@ fn small(rng: &mut Rng) {
 /// Calls that hold no book.
 fn no_book(rng: &mut Rng) {
     let mut rows: Vec<Measured> = [1, 8, 32]
-        .map(|accounts| measures::sharing(rng, accounts))
-        .into();
+        .into_iter()
+        .flat_map(|accounts| measures::sharing(rng, accounts))
+        .collect();
     rows.extend(measures::days(rng, 500));
     rows.extend(measures::profiles(rng));
     println!("\n## No book: 1,000 calls\n");
@@ -79,11 +81,7 @@ fn no_book(rng: &mut Rng) {
 
 /// How judge and close grow with accounts and horizon.
 fn growth(rng: &mut Rng) {
-    let terms = |accounts, horizon| Terms {
-        accounts,
-        lag: 75,
-        horizon,
-    };
+    let terms = |accounts, horizon| Terms::unchanging(accounts, 75, horizon);
     let accounts = [1, 2, 4, 8, 16, 32].map(|accounts| terms(accounts, 92));
     let horizons = [1, 12, 23, 46].map(|horizon| terms(32, horizon));
     println!("\n## Growth: every row, random counts, lag 75, the fastest round\n");
@@ -119,10 +117,16 @@ fn calls(rng: &mut Rng, terms: Terms) -> Vec<Measured> {
             sections,
         ));
     }
-    for (name, filled) in [
-        ("close, residuals due, all pairs used", Rows::Full),
-        ("close, residuals due, random counts", Rows::Mixed),
-        ("close, no residual due, random counts", Rows::Open),
+    let second = terms.changing(FIRST_DAY);
+    for (name, terms, filled) in [
+        ("close, residuals due, all pairs used", terms, Rows::Full),
+        ("close, residuals due, random counts", terms, Rows::Mixed),
+        (
+            "close, residuals due of the second edition",
+            second,
+            Rows::Mixed,
+        ),
+        ("close, no residual due, random counts", terms, Rows::Open),
     ] {
         rows.push(measures::closing(name, &large::book(rng, terms, filled)));
     }

@@ -9,7 +9,7 @@ use reference::close::close;
 use reference::generate::profiles::{keeping_profile, profile_case, ProfileCase};
 use reference::generate::Rng;
 use reference::profile::profile;
-use reference::share::share;
+use reference::share::{second_share, share};
 use reference::submission::submit;
 use std::cell::RefCell;
 use std::hint::black_box;
@@ -180,36 +180,61 @@ pub fn closing(name: &str, book: &[i64]) -> Measured {
     Measured::of(name, times, &["reference", "copy"], 8 * words)
 }
 
-/// Shares among so many accounts, of as many residual loads as a batch has.
-pub fn sharing(rng: &mut Rng, accounts: usize) -> Measured {
+/// Shares among so many accounts, by either edition, of as many residual loads as a batch has.
+pub fn sharing(rng: &mut Rng, accounts: usize) -> [Measured; 2] {
     let uegq: Vec<i64> = (0..accounts).map(|_| rng.between(0, 10_000_000)).collect();
     let most = 10_000_000 * accounts as i64;
     let loads: Vec<i64> = (0..BATCH).map(|_| rng.between(-most / 8, most)).collect();
+    [
+        sharing_by(
+            &format!("share among {accounts}"),
+            robijan::share,
+            share,
+            &uegq,
+            &loads,
+        ),
+        sharing_by(
+            &format!("share among {accounts}, second edition"),
+            robijan::second_share,
+            second_share,
+            &uegq,
+            &loads,
+        ),
+    ]
+}
+
+fn sharing_by(
+    name: &str,
+    call: impl Fn(i64, &[i64], &mut [i64]) -> u64,
+    reference: impl Fn(i64, &[i64], &mut [i64]) -> u8,
+    uegq: &[i64],
+    loads: &[i64],
+) -> Measured {
+    let accounts = uegq.len();
     let (mut ours, mut theirs) = (vec![0; accounts], vec![0; accounts]);
     let times = interleaved(
         501,
         &mut [
             &mut || {
                 timed(|| {
-                    for &load in &loads {
+                    for &load in loads {
                         let output = black_box(&mut ours);
-                        assert_eq!(robijan::share(black_box(load), black_box(&uegq), output), 0);
+                        assert_eq!(call(black_box(load), black_box(uegq), output), 0);
                     }
                 })
             },
             &mut || {
                 timed(|| {
-                    for &load in &loads {
+                    for &load in loads {
                         let output = black_box(&mut theirs);
-                        assert_eq!(share(black_box(load), black_box(&uegq), output), 0);
+                        assert_eq!(reference(black_box(load), black_box(uegq), output), 0);
                     }
                 })
             },
         ],
     );
     assert!(ours == theirs);
-    let name = format!("share among {accounts}");
-    Measured::of(&name, times, &["reference"], 16 * accounts * BATCH)
+    Measured::of(name, times, &["reference"], 16 * accounts * BATCH)
 }
 
 /// Profiles that keep the limits, and profiles of every answer.

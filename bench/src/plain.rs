@@ -8,13 +8,14 @@ pub fn well_formed(book: &[i64]) -> bool {
     let Some(header) = book.first_chunk::<HEADER_WORDS>() else {
         return false;
     };
-    let [mark, accounts, lag, horizon, first, next, mssl, spares @ ..] = header;
+    let [mark, accounts, lag, horizon, first, next, mssl, change, spares @ ..] = header;
     let fits = *mark == 395
         && (1..=32).contains(accounts)
         && (1..=75).contains(lag)
         && (1..=92).contains(horizon)
         && (9_497..=LAST_DAY).contains(first)
         && (*first..=LAST_DAY + 1).contains(next)
+        && (*change == 0 || (9_497..=LAST_DAY).contains(change))
         && blank(spares);
     if !fits {
         return false;

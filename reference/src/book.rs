@@ -1,12 +1,14 @@
 //! The book: its opening, size and header, and the judge of its form.
 
+use crate::edition::NEVER;
 use crate::layout::{
-    Layout, ACCOUNT_WORDS, ENTRY_WORDS, HEADER_WORDS, METER_FLAG, MSSL_BALANCE, NCC_FLAG,
-    NCC_VALUE, NCC_WORDS, NEXT_DAY, RESIDUAL_FLAG, VESTING_FLAG,
+    Layout, ACCOUNT_WORDS, CHANGE_DAY, ENTRY_WORDS, HEADER_WORDS, METER_FLAG, MSSL_BALANCE,
+    NCC_FLAG, NCC_VALUE, NCC_WORDS, NEXT_DAY, RESIDUAL_FLAG, VESTING_FLAG,
 };
 use crate::numbers::{Answer, BAD_PARAMETER, TOO_FEW_WORDS};
 use crate::units::{IEQ, LAST_DAY, MOST_ACCOUNTS, NCC_LOAD, PRICE, QUANTITY};
 use crate::variant::{Context, Variant};
+use crate::wrong_edition::{change_day_meets, change_day_opened};
 use std::ops::RangeInclusive;
 
 pub const MAGIC: i64 = 395;
@@ -31,26 +33,33 @@ pub struct Opening {
     pub horizon: u64,
     /// F.
     pub first_day: u64,
+    /// X, from which on residual days have the second edition of the share; 0
+    /// for never.
+    pub change_day: u64,
 }
 
 impl Opening {
-    /// N = L = H = 1. Cases name what differs from it.
+    /// N = L = H = 1 and the first edition for good. Cases name what differs from
+    /// it.
     pub const fn smallest(first_day: u64) -> Opening {
         Opening {
             accounts: 1,
             lag: 1,
             horizon: 1,
             first_day,
+            change_day: NEVER,
         }
     }
 
-    /// Whether there is a layout: the first day has no part in it.
+    /// Whether there is a layout: the first day and the change day have no part
+    /// in it.
     pub(crate) fn has_layout(&self) -> bool {
         ACCOUNTS.contains(&self.accounts)
             && LAG.contains(&self.lag)
             && HORIZON.contains(&self.horizon)
     }
 
+    /// Whether all but the change day is in range.
     fn in_range(&self) -> bool {
         self.has_layout() && FIRST_DAY.contains(&self.first_day)
     }
@@ -67,12 +76,20 @@ pub fn open(book: &mut [i64], opening: Opening) -> Answer {
 }
 
 pub fn open_in(context: Context, book: &mut [i64], opening: Opening) -> Answer {
+    let change_day = change_day_opened(context, &opening);
+    let refused = !opening.in_range()
+        || (change_day.is_none() && !context.is(Variant::SizeBeforeChangeDay))
+        || context.is(Variant::RefusesEverything);
     let layout = match Layout::of(opening) {
-        Some(layout) if opening.in_range() && !context.is(Variant::RefusesEverything) => layout,
+        Some(layout) if !refused => layout,
         _ => return Answer::at(BAD_PARAMETER, 0),
     };
     let Some(book) = book.get_mut(..layout.size()) else {
         return Answer::at(TOO_FEW_WORDS, 0);
+    };
+    // One that is refused gets here by a slip alone.
+    let Some(change_day) = change_day else {
+        return Answer::at(BAD_PARAMETER, 0);
     };
     book.fill(0);
     let Opening {
@@ -80,10 +97,12 @@ pub fn open_in(context: Context, book: &mut [i64], opening: Opening) -> Answer {
         lag,
         horizon,
         first_day,
+        change_day: _,
     } = opening;
     let header = [accounts, lag, horizon, first_day, first_day].map(|word| word as i64);
     book[0] = MAGIC;
     book[1..=NEXT_DAY].copy_from_slice(&header);
+    book[CHANGE_DAY] = change_day as i64;
     Answer::ACCEPTED
 }
 
@@ -110,6 +129,11 @@ impl Header {
 
     pub fn first_day(&self) -> i64 {
         self.opening.first_day as i64
+    }
+
+    /// X.
+    pub fn change_day(&self) -> u64 {
+        self.opening.change_day
     }
 
     /// The next day to close, C.
@@ -147,7 +171,11 @@ pub fn well_formed(book: &[i64]) -> bool {
 
 /// The judge: the book's header, if the book is well formed.
 pub fn judge(book: &[i64]) -> Option<Header> {
-    let header = read_header(book)?;
+    judge_in(Context::RIGHT, book)
+}
+
+pub(crate) fn judge_in(context: Context, book: &[i64]) -> Option<Header> {
+    let header = read_header(context, book)?;
     let layout = header.layout();
     let book = book.get(..layout.size())?;
     let (before, slots) = book.split_at(layout.first_interval_at());
@@ -175,25 +203,31 @@ pub fn judge(book: &[i64]) -> Option<Header> {
 }
 
 /// The header, if it meets its rules but for the balance.
-pub(crate) fn read_header(book: &[i64]) -> Option<Header> {
+pub(crate) fn read_header(context: Context, book: &[i64]) -> Option<Header> {
     let header: &[i64; HEADER_WORDS] = book.first_chunk()?;
-    let [magic, accounts, lag, horizon, first_day, next_day, _balance, zeros @ ..] = header;
+    let [magic, accounts, lag, horizon, first_day, next_day, _balance, change_day, zeros @ ..] =
+        header;
+    let unjudged = usize::from(context.is(Variant::Word8Unjudged));
     let opening = Opening {
         accounts: u64::try_from(*accounts).ok()?,
         lag: u64::try_from(*lag).ok()?,
         horizon: u64::try_from(*horizon).ok()?,
         first_day: u64::try_from(*first_day).ok()?,
+        // A negative one is far out of range.
+        change_day: *change_day as u64,
     };
     let layout = Layout::of(opening)?;
-    let meets = *magic == MAGIC
-        && opening.in_range()
-        && (*first_day..=LAST_DAY + 1).contains(next_day)
-        && blank(zeros);
-    meets.then_some(Header {
+    let header = Header {
         opening,
         layout,
         next_day: *next_day,
-    })
+    };
+    let meets = *magic == MAGIC
+        && opening.in_range()
+        && (*first_day..=LAST_DAY + 1).contains(next_day)
+        && change_day_meets(context, &header)
+        && blank(&zeros[unjudged..]);
+    meets.then_some(header)
 }
 
 fn interval_meets(words: &[i64], closed: bool) -> bool {

@@ -2,6 +2,7 @@
 
 use crate::book::{judge, open_in, size};
 use crate::close::close_in;
+use crate::edition::Edition;
 use crate::generate::lists::{Call, List};
 use crate::history::{Breach, History, Ties};
 use crate::numbers::{Answer, ACCEPTED};
@@ -18,6 +19,8 @@ pub struct Report {
     /// How often a call returned each number.
     pub numbers: [u64; 15],
     pub residual_closes: u64,
+    /// Those of them in the second edition.
+    pub second_closes: u64,
     pub finished: bool,
     pub ties: Ties,
 }
@@ -37,6 +40,7 @@ pub fn run(context: Context, list: &List) -> Report {
         outputs: Vec::new(),
         numbers: [0; 15],
         residual_closes: 0,
+        second_closes: 0,
         finished: false,
         ties: Ties::default(),
     };
@@ -78,6 +82,8 @@ pub fn run(context: Context, list: &List) -> Report {
                     let kept = beyond == &blank[written.len()..];
                     report.expect(written == cents && kept, Breach::Statement);
                     report.residual_closes += u64::from(answer.residual_count > 0);
+                    let second = history.residual_edition() == Some(Edition::Second);
+                    report.second_closes += u64::from(second);
                 } else {
                     report.expect(statement == blank, Breach::RefusalChanged);
                 }

@@ -5,7 +5,6 @@
 
 use crate::layout::Entry;
 use crate::reference_price::price_of;
-use crate::share::share_of;
 use crate::tranche::tranches_of;
 use crate::units::{nearest, THOUSANDTHS_A_CENT};
 use crate::variant::{Context, Variant};
@@ -21,21 +20,14 @@ pub(crate) fn vesting_amount(context: Context, closing: Entry) -> i64 {
 }
 
 /// Residual amount of day r in one interval, in thousandths of a cent, from
-/// r's own entry and reference price.
-pub(crate) fn residual_amount(
-    context: Context,
-    residual: Entry,
-    closing: Entry,
-    remaining: i64,
-    spare: i64,
-) -> i64 {
+/// r's own entry, reference price and share.
+pub(crate) fn residual_amount(context: Context, residual: Entry, closing: Entry, rvq: i64) -> i64 {
     let priced = if context.is(Variant::PricesResidualAtClosingDay) {
         closing
     } else {
         residual
     };
     let v = price_of(context, priced.facilities());
-    let rvq = share_of(remaining, residual.uegq(), spare);
     let (first, second) = tranches_of(rvq, residual.bvq(), residual.mq());
     (residual.rvp1() - v) * first + (residual.rvp2() - v) * second
 }

@@ -6,6 +6,7 @@
 //! its count, a file after its length.
 
 use crate::book::Opening;
+use crate::edition::{Edition, NEVER};
 
 /// The words of the program's book: as many as N = 4, L = 75 and H = 92 take,
 /// and some beyond.
@@ -46,6 +47,7 @@ pub enum Frame {
     },
     /// The output's words are all `fill` before the call.
     Share {
+        edition: Edition,
         remaining: i64,
         fill: i64,
         uegqs: Vec<i64>,
@@ -71,6 +73,15 @@ pub enum Frame {
 }
 
 impl Frame {
+    /// Whether it has a change day or is of the second edition.
+    pub fn has_edition(&self) -> bool {
+        match self {
+            Frame::Open { opening, .. } => opening.change_day != NEVER,
+            Frame::Share { edition, .. } => *edition == Edition::Second,
+            _ => false,
+        }
+    }
+
     pub fn write(&self, input: &mut Vec<u8>) {
         match self {
             Frame::Poke { index, word } => {
@@ -86,8 +97,9 @@ impl Frame {
                     lag,
                     horizon,
                     first_day,
+                    change_day,
                 } = opening;
-                for parameter in [accounts, lag, horizon, first_day] {
+                for parameter in [accounts, lag, horizon, first_day, change_day] {
                     input.extend(parameter.to_le_bytes());
                 }
             }
@@ -113,12 +125,16 @@ impl Frame {
                 write_list(input, ieqs);
             }
             Frame::Share {
+                edition,
                 remaining,
                 fill,
                 uegqs,
                 output,
             } => {
-                input.push(b'R');
+                input.push(match edition {
+                    Edition::First => b'R',
+                    Edition::Second => b'E',
+                });
                 write_words(input, &[*remaining, *fill]);
                 write_list(input, uegqs);
                 write_count(input, *output);

@@ -9,9 +9,10 @@
 //! there does not hide itself.
 
 use crate::book::Opening;
+use crate::edition::Edition;
 use crate::numbers::{Answer, ACCEPTED, DATUM_ABSENT, FINISHED, OUTPUT_TOO_SHORT};
 use crate::reference_price::reference_price;
-use crate::share::share;
+use crate::share::{second_share, share};
 use crate::tranche::tranche;
 use crate::units::{nearest, INTERVALS, LAST_DAY, THOUSANDTHS_A_CENT};
 use std::collections::{BTreeMap, BTreeSet};
@@ -86,6 +87,8 @@ pub struct History {
     lag: i64,
     horizon: i64,
     first_day: i64,
+    /// 0 for never.
+    change_day: i64,
     in_force: BTreeMap<Key, Row>,
     closes: i64,
     sums: Vec<i64>,
@@ -102,6 +105,7 @@ impl History {
             lag: opening.lag as i64,
             horizon: opening.horizon as i64,
             first_day: opening.first_day as i64,
+            change_day: opening.change_day as i64,
             in_force: BTreeMap::new(),
             closes: 0,
             sums: vec![0; opening.accounts as usize],
@@ -245,6 +249,7 @@ impl History {
         words[4] = self.first_day;
         words[5] = self.next_day();
         words[6] = -self.sums.iter().sum::<i64>();
+        words[7] = self.change_day;
         for (account, sum) in self.sums.iter().enumerate() {
             words[64 + 8 * account] = *sum;
         }
@@ -276,6 +281,16 @@ impl History {
         (day >= self.first_day).then_some(day)
     }
 
+    /// The edition that the next close shares its residual day in, if it has one:
+    /// the second from the change day on.
+    pub fn residual_edition(&self) -> Option<Edition> {
+        let changed = |day| self.change_day > 0 && self.change_day <= day;
+        self.residual_day().map(|day| match changed(day) {
+            false => Edition::First,
+            true => Edition::Second,
+        })
+    }
+
     fn first_missing(&self) -> Option<Key> {
         self.needed().into_iter().find(|key| !self.is_in_force(key))
     }
@@ -304,7 +319,7 @@ impl History {
                 }
             }
 
-            let Some(day) = self.residual_day() else {
+            let (Some(day), Some(edition)) = (self.residual_day(), self.residual_edition()) else {
                 continue;
             };
             let hedged: i64 = accounts
@@ -318,7 +333,10 @@ impl History {
                 .map(|account| values(RESIDUAL, account, day)[0])
                 .collect();
             let mut shares = vec![0; self.accounts];
-            share(remaining, &uegqs, &mut shares);
+            match edition {
+                Edition::First => share(remaining, &uegqs, &mut shares),
+                Edition::Second => second_share(remaining, &uegqs, &mut shares),
+            };
             for account in accounts.clone() {
                 let v = v(account, day);
                 let bvq = values(VESTING, account, day)[0];

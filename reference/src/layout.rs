@@ -12,6 +12,7 @@ use std::ops::Range;
 pub const HEADER_WORDS: usize = 64;
 pub const NEXT_DAY: usize = 5;
 pub const MSSL_BALANCE: usize = 6;
+pub const CHANGE_DAY: usize = 7;
 
 /// An account's words outside the slots: its balance, then zeros.
 pub const ACCOUNT_WORDS: usize = 8;
@@ -44,7 +45,7 @@ pub struct Layout {
 impl Layout {
     /// The layout of the book of an opening whose accounts, lag and horizon
     /// are in range. The first day says which slot a day has, and is not
-    /// judged.
+    /// judged; the change day has no part in it.
     pub fn of(opening: Opening) -> Option<Layout> {
         opening.has_layout().then(|| Layout {
             accounts: opening.accounts as usize,

@@ -9,8 +9,8 @@
 //!
 //! `history` tells a list of calls from their arguments and answers alone,
 //! `generate` makes cases from a fixed seed, `checker` runs one against the
-//! other, and `variant` holds the wrong books, calendars, profile checks and
-//! programs which the cases have to show. `frames` and `player` are the form of
+//! other, and `variant` holds the wrong books, editions, shares, calendars,
+//! profile checks and programs which the cases have to show. `frames` and `player` are the form of
 //! the test program `replay`'s input and output, `stored` has all the cases that
 //! are kept as files.
 
@@ -19,6 +19,7 @@ pub mod calendar;
 pub mod checker;
 pub mod close;
 pub mod day_amount;
+pub mod edition;
 pub mod frames;
 pub mod generate;
 pub mod history;
@@ -34,4 +35,6 @@ pub mod submission;
 pub mod tranche;
 pub mod units;
 pub mod variant;
+mod wrong_edition;
 pub mod wrong_profile;
+pub mod wrong_share;

@@ -10,10 +10,11 @@ use crate::calendar::{
     statement_day, weekday,
 };
 use crate::close::close_in;
+use crate::edition::Edition;
 use crate::frames::{Frame, BOOK_WORDS};
 use crate::profile::profile_in;
 use crate::reference_price::reference_price_in;
-use crate::share::share_in;
+use crate::share::{second_share_in, share_in};
 use crate::submission::submit_in;
 use crate::tranche::tranche_in;
 use crate::variant::Context;
@@ -27,10 +28,12 @@ pub struct Player {
 
 impl Player {
     pub fn new(context: Context) -> Player {
-        Player {
-            context,
-            book: vec![0; BOOK_WORDS],
-        }
+        Player::with_book(context, vec![0; BOOK_WORDS])
+    }
+
+    /// A player that goes on with the book of another.
+    pub fn with_book(context: Context, book: Vec<i64>) -> Player {
+        Player { context, book }
     }
 
     pub fn book(&self) -> &[i64] {
@@ -82,14 +85,24 @@ impl Player {
                     .digest(ieqs)
             }
             Frame::Share {
+                edition,
                 remaining,
                 fill,
                 uegqs,
                 output,
             } => {
                 let mut output = vec![*fill; *output];
-                let number = share_in(context, *remaining, uegqs, &mut output);
-                Line::of("share")
+                let (name, number) = match edition {
+                    Edition::First => {
+                        let number = share_in(context, *remaining, uegqs, &mut output);
+                        ("share", number)
+                    }
+                    Edition::Second => {
+                        let number = second_share_in(context, *remaining, uegqs, &mut output);
+                        ("second-share", number)
+                    }
+                };
+                Line::of(name)
                     .figures([number])
                     .digest(uegqs)
                     .figures(output)

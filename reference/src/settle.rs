@@ -4,6 +4,7 @@
 
 use crate::book::{open_in, Opening};
 use crate::close::close_in;
+use crate::edition::NEVER;
 use crate::layout::{Layout, MSSL_BALANCE};
 use crate::numbers::{Answer, ACCEPTED};
 use crate::submission::submit_in;
@@ -346,8 +347,10 @@ fn opening(context: Context, bytes: [u8; OPENING_BYTES]) -> Opening {
         lag: lag.into(),
         horizon: horizon.into(),
         first_day,
+        change_day: NEVER,
     };
     match context.variant {
+        Variant::ChangesOnFirstDay => opening.change_day = first_day,
         Variant::ExchangesLagAndHorizon => swap(&mut opening.lag, &mut opening.horizon),
         Variant::ExchangesAccountsAndLag => swap(&mut opening.accounts, &mut opening.lag),
         _ => {}

@@ -6,7 +6,10 @@ use crate::generate::runs::{runs, Run};
 use crate::generate::settle_inputs::settle_inputs;
 use crate::player::Player;
 use crate::settle::settle_in;
-use crate::variant::{Context, WRONG_CALENDARS, WRONG_PROFILES, WRONG_SETTLES};
+use crate::variant::{
+    Context, Variant, WRONG_CALENDARS, WRONG_CHANGE_DAYS, WRONG_EDITIONS, WRONG_PROFILES,
+    WRONG_SETTLES, WRONG_SHARES, WRONG_SHARE_CALLS, WRONG_WITHOUT_CHANGE_DAY, WRONG_WORDS,
+};
 
 /// A file, by its path in the folder.
 pub struct Stored {
@@ -19,6 +22,9 @@ pub struct Cases {
     frames: Vec<Frame>,
     /// What the right book prints for each frame.
     lines: Vec<Option<String>>,
+    /// The first frame of the editions, and the book before it.
+    editions: usize,
+    book: Vec<i64>,
     settle_inputs: Vec<Vec<u8>>,
     runs: Vec<Run>,
 }
@@ -26,10 +32,18 @@ pub struct Cases {
 impl Cases {
     pub fn generate() -> Cases {
         let frames = cases();
+        let editions = frames.iter().position(Frame::has_edition);
+        let editions = editions.unwrap_or(frames.len());
+        let (earlier, later) = frames.split_at(editions);
         let mut player = Player::new(Context::RIGHT);
+        let mut lines: Vec<_> = earlier.iter().map(|frame| player.play(frame)).collect();
+        let book = player.book().to_vec();
+        lines.extend(later.iter().map(|frame| player.play(frame)));
         Cases {
-            lines: frames.iter().map(|frame| player.play(frame)).collect(),
+            lines,
             frames,
+            editions,
+            book,
             settle_inputs: settle_inputs(),
             runs: runs(),
         }
@@ -57,14 +71,12 @@ impl Cases {
         files
     }
 
-    /// The outputs that a variant can change: not those of `replay`, if it is
-    /// one of `settle`, and no others, if it is one of the calendar or of the
-    /// profile check.
+    /// The outputs that a variant can change.
     pub fn variant_outputs(&self, context: Context) -> Vec<Stored> {
         let variant = context.variant;
         if WRONG_SETTLES.contains(&variant) {
             self.settle_outputs(context)
-        } else if WRONG_CALENDARS.contains(&variant) || WRONG_PROFILES.contains(&variant) {
+        } else if is_shown_by_replay_alone(variant) {
             self.replay_outputs(context)
         } else {
             self.outputs(context)
@@ -83,12 +95,19 @@ impl Cases {
     }
 
     /// What the test program `replay` prints. Only profiles are played by a
-    /// wrong profile check, as it changes no other line.
+    /// wrong profile check, and only the editions' frames by what is wrong in them
+    /// alone, as no other line changes.
     fn replay(&self, context: Context) -> Vec<u8> {
         let profiles_alone = WRONG_PROFILES.contains(&context.variant);
-        let mut player = Player::new(context);
-        let lines = self.frames.iter().zip(&self.lines);
-        let lines = lines.filter_map(|(frame, right)| match frame {
+        let (first, mut player) = if is_of_editions_alone(context.variant) {
+            let player = Player::with_book(context, self.book.clone());
+            (self.editions, player)
+        } else {
+            (0, Player::new(context))
+        };
+        let lines = self.frames.iter().zip(&self.lines).enumerate();
+        let lines = lines.filter_map(|(at, (frame, right))| match frame {
+            _ if at < first => right.clone(),
             Frame::Profile { .. } => player.play(frame),
             _ if profiles_alone => right.clone(),
             _ => player.play(frame),
@@ -121,6 +140,34 @@ impl Cases {
         }
         output
     }
+}
+
+/// Whether `settle`, which opens with X = 0, has no use for what is wrong.
+pub fn is_shown_by_replay_alone(variant: Variant) -> bool {
+    let unused: [&[Variant]; 7] = [
+        &WRONG_EDITIONS,
+        &WRONG_CHANGE_DAYS,
+        &WRONG_WORDS,
+        &WRONG_SHARES,
+        &WRONG_SHARE_CALLS,
+        &WRONG_CALENDARS,
+        &WRONG_PROFILES,
+    ];
+    unused.iter().any(|wrong| wrong.contains(&variant))
+        && !WRONG_WITHOUT_CHANGE_DAY.contains(&variant)
+}
+
+/// Whether frames of X = 0 and of the first edition have no use for what is wrong.
+fn is_of_editions_alone(variant: Variant) -> bool {
+    let of_editions: [&[Variant]; 4] = [
+        &WRONG_EDITIONS,
+        &WRONG_CHANGE_DAYS,
+        &WRONG_SHARES,
+        &WRONG_SHARE_CALLS,
+    ];
+    of_editions.iter().any(|wrong| wrong.contains(&variant))
+        && !WRONG_WITHOUT_CHANGE_DAY.contains(&variant)
+        && variant != Variant::FirstCallIsSecond
 }
 
 fn stored(path: &str, contents: Vec<u8>) -> Stored {

@@ -1,12 +1,13 @@
 //! Submission files: judged whole, then stored.
 
-use crate::book::{judge, Header, MOST_SLOTS};
+use crate::book::{judge_in, Header, MOST_SLOTS};
 use crate::layout::Layout;
 use crate::numbers::{
     Answer, DAY_NOT_OPEN, NOT_WELL_FORMED, NOT_WHOLE, OUT_OF_RANGE, ROW_REPEATED, TRAILING_BYTES,
 };
 use crate::units::{IEQ, INTERVALS, MOST_FACILITIES, MOST_TRANCHES, NCC_LOAD, PRICE, QUANTITY};
 use crate::variant::{Context, Variant};
+use crate::wrong_edition::submit_context;
 use std::ops::{Range, RangeInclusive};
 
 /// Submits a file to a book.
@@ -15,7 +16,7 @@ pub fn submit(book: &mut [i64], file: &[u8]) -> Answer {
 }
 
 pub fn submit_in(context: Context, book: &mut [i64], file: &[u8]) -> Answer {
-    let Some(header) = judge(book) else {
+    let Some(header) = judge_in(submit_context(context), book) else {
         return Answer::at(NOT_WELL_FORMED, 0);
     };
     if context.is(Variant::RefusesEverything) {

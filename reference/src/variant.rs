@@ -1,5 +1,5 @@
-//! Wrong ways to keep the book, to reckon the calendar, to check a profile and to
-//! run `settle`. The stored cases must show each of them.
+//! Wrong ways to keep the book and its editions, to share, to reckon the calendar,
+//! to check a profile and to run `settle`. The stored cases must show each of them.
 
 #[derive(Clone, Copy, Debug, Default, PartialEq, Eq)]
 pub enum Variant {
@@ -28,6 +28,142 @@ pub enum Variant {
     /// Writes the first day's statement only: lent again, it stands for all days.
     OneStatementForAllDays,
     RefusesEverything,
+
+    // The editions: that of a close.
+    /// Takes the closing day for the residual day.
+    EditionByClosingDay,
+    /// A book has one edition, that of its first day.
+    EditionByFirstDay,
+    /// X itself still has the first edition.
+    SecondAfterChangeDay,
+    /// The day before X has the second edition.
+    SecondFromDayBefore,
+    SecondOnChangeDayAlone,
+    /// Exchanges the editions.
+    FirstFromChangeDay,
+    FirstIfChangedBeforeFirstDay,
+    FirstIfChangedUpToFirstDay,
+    /// Compares with an X of 0.
+    NeverIsAlways,
+    SecondNeverUsed,
+    SecondAlwaysUsed,
+    StatementInFirstEdition,
+    BalancesInFirstEdition,
+    /// Clears word 7.
+    CloseForgetsChangeDay,
+
+    // The editions: X at the opening.
+    OpensChangeDay1,
+    OpensChangeDay9496,
+    OpensChangeDay36525,
+    /// Judges X from above only.
+    OpensEarlyChangeDays,
+    /// Judges X from below only.
+    OpensLateChangeDays,
+    OpensAnyChangeDay,
+    ReadsChangeDayOf32Bits,
+    /// Refuses an X of 0.
+    RefusesNever,
+    RefusesChangeDay9497,
+    RefusesChangeDay36524,
+    RefusesChangeBeforeFirstDay,
+    RefusesChangeUpToFirstDay,
+    /// Refuses an X that no close's residual day reaches.
+    RefusesUnreachedChangeDay,
+    /// Gives 2 before the 1 of an X.
+    SizeBeforeChangeDay,
+    /// Leaves word 7 zero.
+    ChangeDayNotWritten,
+    /// Writes F for an X before it.
+    WritesFirstDayForEarlier,
+    /// Writes 0 for an X that no close's residual day reaches.
+    WritesNeverForUnreached,
+
+    // The editions: X in word 7 of a lent book.
+    WordMustBeZero,
+    WordUnjudged,
+    /// Takes words below 9,497, negative ones too.
+    WordJudgedFromAbove,
+    /// Takes words above 36,524.
+    WordJudgedFromBelow,
+    TakesWord1,
+    TakesWord9496,
+    TakesWord36525,
+    RefusesWord0,
+    RefusesWord9497,
+    RefusesWord36524,
+    RefusesWordBeforeFirstDay,
+    /// Refuses an X before the next day to close.
+    RefusesPassedWord,
+    SubmitLeavesWordUnjudged,
+    CloseLeavesWordUnjudged,
+    /// A close gives 9 and 10 before the 3 of an X.
+    WordJudgedAfterStatement,
+    /// Takes the word after X for one that may be anything.
+    Word8Unjudged,
+
+    // The second edition of the share: its sums.
+    SumsFromLastAccount,
+    /// An account's sums are those of the account before it.
+    SumsWithoutAccount,
+    /// A close's sums go on from one interval to the next.
+    SumsOfEarlierIntervals,
+    /// R × UEGQ / S of the load and the spare generation that are left.
+    SharesWhatIsLeft,
+
+    // The second edition of the share: its roundings.
+    RoundsSumsUp,
+    RoundsSumsToNearest,
+    RoundsSumWithUp,
+    RoundsSumBeforeUp,
+    RoundsDifferenceUp,
+    RoundsDifferenceToNearest,
+    /// R × (running sum / S rounded down).
+    DividesSumsFirst,
+    DividesInDoubles,
+
+    // The second edition of the share: shares rounded down, and then the odd kWh.
+    LeftoverToFirst,
+    LeftoverToLast,
+    LeftoverToLargest,
+    LeftoverOneEachFromFirst,
+    LeftoverOneEachFromLast,
+    /// One each to the largest remainders, the first of equal ones.
+    LargestRemaindersFirst,
+    /// One each to the largest remainders, the last of equal ones.
+    LargestRemaindersLast,
+
+    // The second edition of the share: the cases without a division.
+    DividesWhereAllIsTaken,
+    DividesNegativeLoad,
+    TakesMagnitudeOfLoad,
+    /// Shares R alike where S is 0.
+    SharesWithoutSpare,
+
+    // The share calls.
+    FirstCallIsSecond,
+    SecondCallIsFirst,
+    RefusesWithoutSpare,
+    LoadUnjudged,
+    LoadFromMinusOneBillion,
+    RefusesNegativeLoad,
+    TakesNoAccounts,
+    Refuses32Accounts,
+    Takes33Accounts,
+    UegqsUnjudged,
+    TakesNegativeUegqs,
+    TakesLargeUegqs,
+    /// Leaves UEGQ unjudged where no account has a share.
+    UegqsUnjudgedWithoutLoad,
+    LastUegqUnjudged,
+    /// Gives 10 before 1.
+    OutputBeforeRanges,
+    /// Gives 10 where the output is longer than the list of UEGQ.
+    NeedsExactOutput,
+    /// Writes the shares that have room, then gives 10.
+    WritesBeforeTooShort,
+    ClearsRefusedOutput,
+    ClearsWordsBeyond,
 
     // The calendar.
     /// The day of a date of year −2026 is that of 2026.
@@ -133,6 +269,8 @@ pub enum Variant {
     /// Takes the opening's missing bytes for zeros.
     FillsCutOpening,
     SilentOnEmptyInput,
+    /// Opens with X = F.
+    ChangesOnFirstDay,
 
     // `settle`: its items.
     EndsAfterFirstItem,
@@ -225,6 +363,123 @@ pub const WRONG_BOOKS: [Variant; 11] = [
     Variant::RefusesEverything,
 ];
 
+/// The wrong editions of a close.
+pub const WRONG_EDITIONS: [Variant; 14] = [
+    Variant::EditionByClosingDay,
+    Variant::EditionByFirstDay,
+    Variant::SecondAfterChangeDay,
+    Variant::SecondFromDayBefore,
+    Variant::SecondOnChangeDayAlone,
+    Variant::FirstFromChangeDay,
+    Variant::FirstIfChangedBeforeFirstDay,
+    Variant::FirstIfChangedUpToFirstDay,
+    Variant::NeverIsAlways,
+    Variant::SecondNeverUsed,
+    Variant::SecondAlwaysUsed,
+    Variant::StatementInFirstEdition,
+    Variant::BalancesInFirstEdition,
+    Variant::CloseForgetsChangeDay,
+];
+
+/// The wrong openings with a change day.
+pub const WRONG_CHANGE_DAYS: [Variant; 17] = [
+    Variant::OpensChangeDay1,
+    Variant::OpensChangeDay9496,
+    Variant::OpensChangeDay36525,
+    Variant::OpensEarlyChangeDays,
+    Variant::OpensLateChangeDays,
+    Variant::OpensAnyChangeDay,
+    Variant::ReadsChangeDayOf32Bits,
+    Variant::RefusesNever,
+    Variant::RefusesChangeDay9497,
+    Variant::RefusesChangeDay36524,
+    Variant::RefusesChangeBeforeFirstDay,
+    Variant::RefusesChangeUpToFirstDay,
+    Variant::RefusesUnreachedChangeDay,
+    Variant::SizeBeforeChangeDay,
+    Variant::ChangeDayNotWritten,
+    Variant::WritesFirstDayForEarlier,
+    Variant::WritesNeverForUnreached,
+];
+
+/// The wrong judges of word 7.
+pub const WRONG_WORDS: [Variant; 16] = [
+    Variant::WordMustBeZero,
+    Variant::WordUnjudged,
+    Variant::WordJudgedFromAbove,
+    Variant::WordJudgedFromBelow,
+    Variant::TakesWord1,
+    Variant::TakesWord9496,
+    Variant::TakesWord36525,
+    Variant::RefusesWord0,
+    Variant::RefusesWord9497,
+    Variant::RefusesWord36524,
+    Variant::RefusesWordBeforeFirstDay,
+    Variant::RefusesPassedWord,
+    Variant::SubmitLeavesWordUnjudged,
+    Variant::CloseLeavesWordUnjudged,
+    Variant::WordJudgedAfterStatement,
+    Variant::Word8Unjudged,
+];
+
+/// Those of the three lists above that change a book of X = 0, and so `settle`.
+pub const WRONG_WITHOUT_CHANGE_DAY: [Variant; 4] = [
+    Variant::NeverIsAlways,
+    Variant::SecondAlwaysUsed,
+    Variant::RefusesNever,
+    Variant::RefusesWord0,
+];
+
+/// The wrong shares of the second edition, in its call and in the close.
+pub const WRONG_SHARES: [Variant; 23] = [
+    Variant::SumsFromLastAccount,
+    Variant::SumsWithoutAccount,
+    Variant::SumsOfEarlierIntervals,
+    Variant::SharesWhatIsLeft,
+    Variant::RoundsSumsUp,
+    Variant::RoundsSumsToNearest,
+    Variant::RoundsSumWithUp,
+    Variant::RoundsSumBeforeUp,
+    Variant::RoundsDifferenceUp,
+    Variant::RoundsDifferenceToNearest,
+    Variant::DividesSumsFirst,
+    Variant::DividesInDoubles,
+    Variant::LeftoverToFirst,
+    Variant::LeftoverToLast,
+    Variant::LeftoverToLargest,
+    Variant::LeftoverOneEachFromFirst,
+    Variant::LeftoverOneEachFromLast,
+    Variant::LargestRemaindersFirst,
+    Variant::LargestRemaindersLast,
+    Variant::DividesWhereAllIsTaken,
+    Variant::DividesNegativeLoad,
+    Variant::TakesMagnitudeOfLoad,
+    Variant::SharesWithoutSpare,
+];
+
+/// The wrong share calls, of which the book knows nothing.
+pub const WRONG_SHARE_CALLS: [Variant; 19] = [
+    Variant::FirstCallIsSecond,
+    Variant::SecondCallIsFirst,
+    Variant::RefusesWithoutSpare,
+    Variant::LoadUnjudged,
+    Variant::LoadFromMinusOneBillion,
+    Variant::RefusesNegativeLoad,
+    Variant::TakesNoAccounts,
+    Variant::Refuses32Accounts,
+    Variant::Takes33Accounts,
+    Variant::UegqsUnjudged,
+    Variant::TakesNegativeUegqs,
+    Variant::TakesLargeUegqs,
+    Variant::UegqsUnjudgedWithoutLoad,
+    Variant::LastUegqUnjudged,
+    Variant::OutputBeforeRanges,
+    Variant::NeedsExactOutput,
+    Variant::WritesBeforeTooShort,
+    Variant::ClearsRefusedOutput,
+    Variant::ClearsWordsBeyond,
+];
+
 /// The wrong calendars, of which the book and `settle` know nothing.
 pub const WRONG_CALENDARS: [Variant; 4] = [
     Variant::TakesMagnitudeOfYear,
@@ -284,7 +539,7 @@ pub const WRONG_PROFILES: [Variant; 46] = [
 ];
 
 /// The wrong programs `settle`, which keep the right book.
-pub const WRONG_SETTLES: [Variant; 64] = [
+pub const WRONG_SETTLES: [Variant; 65] = [
     Variant::ExchangesLagAndHorizon,
     Variant::ExchangesAccountsAndLag,
     Variant::ReadsFirstDayBigEndian,
@@ -297,6 +552,7 @@ pub const WRONG_SETTLES: [Variant; 64] = [
     Variant::SaysBadAtRefusedOpening,
     Variant::FillsCutOpening,
     Variant::SilentOnEmptyInput,
+    Variant::ChangesOnFirstDay,
     Variant::EndsAfterFirstItem,
     Variant::EndsAtRefusedSubmission,
     Variant::EndsAtRefusedClose,
@@ -355,6 +611,11 @@ pub const WRONG_SETTLES: [Variant; 64] = [
 pub fn wrong() -> impl Iterator<Item = Variant> {
     WRONG_BOOKS
         .into_iter()
+        .chain(WRONG_EDITIONS)
+        .chain(WRONG_CHANGE_DAYS)
+        .chain(WRONG_WORDS)
+        .chain(WRONG_SHARES)
+        .chain(WRONG_SHARE_CALLS)
         .chain(WRONG_CALENDARS)
         .chain(WRONG_PROFILES)
         .chain(WRONG_SETTLES)

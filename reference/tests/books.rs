@@ -41,18 +41,19 @@ fn judge_every_word(rng: &mut Rng, mut book: Vec<i64>) -> (usize, usize) {
 fn a_single_word_off() {
     let mut rng = Rng::new(0xB00C);
     let (mut off, mut fine) = (0, 0);
-    for (accounts, lag, horizon, first_day, closes) in [
-        (1, 1, 1, 9_497, 0),
-        (2, 1, 1, 9_497, 1),
-        (1, 1, 2, 9_500, 3),
-        (1, 2, 1, 36_521, 4),
-        (1, 2, 2, 36_522, 2),
-        (2, 2, 1, 36_524, 0),
+    for (accounts, lag, horizon, first_day, change_day, closes) in [
+        (1, 1, 1, 9_497, 0, 0),
+        (2, 1, 1, 9_497, 9_497, 1),
+        (1, 1, 2, 9_500, 9_498, 3),
+        (1, 2, 1, 36_521, 36_524, 4),
+        (1, 2, 2, 36_522, 0, 2),
+        (2, 2, 1, 36_524, 20_000, 0),
     ] {
         let opening = Opening {
             accounts,
             lag,
             horizon,
+            change_day,
             ..Opening::smallest(first_day)
         };
         let (book, _) = kept_book(&mut rng, opening, closes, closes % 2 == 1);
@@ -70,6 +71,7 @@ fn large_books_a_word_off() {
         accounts: 32,
         lag: 2,
         horizon: 2,
+        change_day: 30_002,
         ..Opening::smallest(30_000)
     };
     let (mut book, _) = kept_book(&mut rng, opening, 5, true);
@@ -85,6 +87,41 @@ fn large_books_a_word_off() {
         }
         book[index] = kept;
     }
+}
+
+/// Word 7 of any value, near-legal ones more often.
+#[test]
+fn random_words_7() {
+    let mut rng = Rng::new(0x77);
+    let (mut good, mut bad) = (0, 0);
+    for _ in 0..40 {
+        let first_day = rng.between(9_497, 36_520) as u64;
+        let opening = Opening {
+            accounts: 2,
+            change_day: rng.pick(&[0, 9_497, first_day, first_day + 1, 36_524]),
+            ..Opening::smallest(first_day)
+        };
+        let closes = rng.below(3);
+        let (mut book, _) = kept_book(&mut rng, opening, closes, true);
+        for _ in 0..100 {
+            let word = match rng.below(4) {
+                0 => rng.word(),
+                1 => rng.between(-2, 2) + rng.pick(&[0, 9_497, 36_524]),
+                2 => -rng.between(9_497, 36_524),
+                _ => rng.between(9_000, 40_000),
+            };
+            book[7] = word;
+            let fits = word == 0 || (9_497..=36_524).contains(&word);
+            assert_eq!(well_formed(&book), fits, "{word}");
+            let expected = Answer::at(if fits { 0 } else { 3 }, 0);
+            assert_eq!(submit(&mut book, &[0; 8]), expected);
+            let expected = Answer::at(if fits { 10 } else { 3 }, 0);
+            assert_eq!(close(&mut book, &mut [0; 2]), expected);
+            good += u32::from(fits);
+            bad += u32::from(!fits);
+        }
+    }
+    assert!(good > 500 && bad > 500, "{good} {bad}");
 }
 
 #[test]
@@ -129,6 +166,8 @@ fn any_words_are_answered() {
             rng.between(0, 93),
             9_497,
             9_498,
+            0,
+            rng.pick(&[0, 1, 9_496, 9_497, 20_000, 36_524, 36_525, -9_497]),
         ];
         for (word, value) in book.iter_mut().zip(header) {
             if rng.percent(90) {
@@ -155,19 +194,27 @@ fn any_opening_is_answered() {
         };
         let (accounts, lag, horizon) = (parameter(1, 3), parameter(1, 2), parameter(1, 2));
         let first_day = parameter(36_500, 36_523);
+        let change_day = match parameter(0, 4) {
+            0..=1 => 0,
+            2 => 9_497,
+            3 => parameter(9_497, 9_497),
+            _ => parameter(36_524, 36_524),
+        };
         let length = rng.below(20_000);
         let mut book = vec![-9; length];
         let opening = Opening {
             accounts,
             lag,
             horizon,
-            ..Opening::smallest(first_day)
+            first_day,
+            change_day,
         };
         let answer = open(&mut book, opening);
         let fits = (1..=32).contains(&accounts)
             && (1..=75).contains(&lag)
             && (1..=92).contains(&horizon)
-            && (9_497..=36_524).contains(&first_day);
+            && (9_497..=36_524).contains(&first_day)
+            && (change_day == 0 || (9_497..=36_524).contains(&change_day));
         // The paper's size, not the layout's.
         let needed = fits.then(|| 64 + 8 * accounts + 48 * (lag + horizon) * (4 + 24 * accounts));
         let number = match needed {
@@ -180,6 +227,7 @@ fn any_opening_is_answered() {
         if number == 0 {
             assert!(well_formed(&book));
             let words = needed.unwrap() as usize;
+            assert_eq!(book[7], change_day as i64);
             assert!(book[words..].iter().all(|&word| word == -9));
             accepted += 1;
         } else {

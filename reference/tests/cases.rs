@@ -1,5 +1,6 @@
 //! The cases of the test program `replay` show what they are for.
 
+use reference::edition::Edition;
 use reference::frames::{
     Frame, BOOK_WORDS, LIST_WORDS, LONGEST_FILE, MOST_HOLIDAYS, PROFILE_WORDS,
 };
@@ -29,12 +30,13 @@ fn every_call_gives_every_number_it_can() {
             .or_default()
             .insert(position);
     }
-    let expected: [(&str, &[u8]); 14] = [
+    let expected: [(&str, &[u8]); 15] = [
         ("open", &[0, 1, 2]),
         ("submit", &[0, 3, 4, 5, 6, 7, 8]),
         ("close", &[0, 3, 9, 10, 11]),
         ("price", &[0, 1]),
         ("share", &[0, 1, 10]),
+        ("second-share", &[0, 1, 10]),
         ("tranche", &[0, 1]),
         ("profile", &[0, 1, 15]),
         ("date", &[0, 12]),
@@ -107,14 +109,116 @@ fn profiles() -> Vec<(Vec<i64>, i64, i64)> {
         .collect()
 }
 
+/// The cases of later requests come after all earlier ones, whose lines stay.
 #[test]
-fn profiles_come_last() {
+fn later_cases_come_last() {
     let frames = cases();
     let is_profile = |frame: &Frame| matches!(frame, Frame::Profile { .. });
     let first = frames.iter().position(is_profile).unwrap();
-    assert!(frames[first..].iter().all(is_profile));
-    let count = frames.len() - first;
+    let count = frames[first..].iter().take_while(|frame| is_profile(frame));
+    let count = count.count();
     assert!((300..=600).contains(&count), "{count}");
+
+    let (before, after) = frames.split_at(first + count);
+    assert!(!after.iter().any(is_profile));
+    assert!(!before.iter().any(Frame::has_edition));
+    assert!(after[0].has_edition());
+    let lines = |frames: &[Frame]| {
+        let is_poke = |frame: &&Frame| matches!(frame, Frame::Poke { .. });
+        frames.len() - frames.iter().filter(is_poke).count()
+    };
+    assert_eq!(lines(before), 10_704);
+    let count = lines(after);
+    assert!((500..=1_000).contains(&count), "{count}");
+    let mut bytes = Vec::new();
+    after.iter().for_each(|frame| frame.write(&mut bytes));
+    assert!(bytes.len() < 1_000_000, "{}", bytes.len());
+}
+
+/// The share calls of the second edition: R and UEGQ.
+fn second_shares() -> Vec<(i64, Vec<i64>)> {
+    let shares = cases().into_iter().filter_map(|frame| match frame {
+        Frame::Share {
+            edition: Edition::Second,
+            remaining,
+            uegqs,
+            ..
+        } => Some((remaining, uegqs)),
+        _ => None,
+    });
+    shares.collect()
+}
+
+#[test]
+fn second_shares_are_at_every_end() {
+    let shares = second_shares();
+    let has = |what: fn(i64, i64, &[i64]) -> bool| {
+        let mut shares = shares.iter();
+        assert!(shares.any(|(remaining, uegqs)| what(*remaining, uegqs.iter().sum(), uegqs)));
+    };
+    has(|remaining, spare, _| remaining == 1 && spare > 1);
+    has(|remaining, spare, _| remaining == spare - 1 && spare > 2);
+    has(|remaining, spare, _| remaining == spare && spare > 2);
+    has(|remaining, spare, _| remaining == spare + 1 && spare > 2);
+    has(|remaining, spare, _| remaining > 0 && spare == 0);
+    has(|remaining, _, _| remaining == -1_280_000_000);
+    has(|remaining, _, _| remaining == 1_000_000_000);
+    has(|remaining, spare, uegqs| remaining == spare - 1 && uegqs == [10_000_000; 32]);
+    let divided = |zero_at: fn(&[i64]) -> bool| {
+        let mut shares = shares.iter();
+        assert!(shares.any(|(remaining, uegqs)| {
+            zero_at(uegqs) && (1..uegqs.iter().sum()).contains(remaining)
+        }));
+    };
+    divided(|uegqs| uegqs.first() == Some(&0));
+    divided(|uegqs| uegqs.last() == Some(&0));
+    divided(|uegqs| uegqs.len() > 2 && uegqs[1] == 0 && uegqs[0] > 0 && uegqs[2] > 0);
+}
+
+/// Closes with a residual day before X, on it and after it, those before it past
+/// X themselves or not.
+#[test]
+fn residual_days_stand_everywhere_to_the_change_day() {
+    let mut player = Player::new(Context::RIGHT);
+    let mut seen = BTreeSet::new();
+    let mut opening = None;
+    for frame in cases() {
+        let line = player.play(&frame);
+        match frame {
+            Frame::Open { opening: of, .. } => opening = Some(of),
+            Frame::Close { .. } => {
+                let figures: Vec<i64> = line
+                    .iter()
+                    .flat_map(|line| line.split(' ').skip(1))
+                    .map(|figure| figure.parse().unwrap())
+                    .collect();
+                let Some(of) = opening.filter(|of| of.change_day != 0 && figures[3] > 0) else {
+                    continue;
+                };
+                let (day, change_day) = (figures[2], of.change_day as i64);
+                let residual_day = day - of.lag as i64;
+                seen.insert((
+                    residual_day.cmp(&change_day),
+                    day.cmp(&change_day),
+                    (of.first_day as i64).cmp(&change_day),
+                ));
+            }
+            _ => {}
+        }
+    }
+    use std::cmp::Ordering::{Equal, Greater, Less};
+    for place in [
+        (Less, Less, Less),
+        (Less, Equal, Less),
+        (Less, Greater, Less),
+        (Equal, Greater, Less),
+        (Greater, Greater, Less),
+        (Equal, Greater, Equal),
+        (Greater, Greater, Equal),
+        (Greater, Greater, Greater),
+    ] {
+        assert!(seen.contains(&place), "{place:?}");
+    }
 }
 
 #[test]

@@ -215,6 +215,10 @@ fn number_1() {
         let bad = Opening { first_day, ..TWO };
         assert_eq!(open(&mut book, bad), Answer::at(1, 0));
     }
+    for change_day in [1, 9_496, 36_525, u64::MAX] {
+        let bad = Opening { change_day, ..TWO };
+        assert_eq!(open(&mut book, bad), Answer::at(1, 0));
+    }
     // 1 comes before 2.
     assert_eq!(
         open(&mut [], Opening { accounts: 0, ..TWO }),

@@ -4,7 +4,9 @@
 use reference::book::{size, Opening};
 use reference::generate::files::{even_row, Draft};
 use reference::history::{History, METER, NCC, RESIDUAL, VESTING};
-use reference::layout::{Layout, ENTRY_WORDS, HEADER_WORDS, MSSL_BALANCE, NCC_WORDS, NEXT_DAY};
+use reference::layout::{
+    Layout, CHANGE_DAY, ENTRY_WORDS, HEADER_WORDS, MSSL_BALANCE, NCC_WORDS, NEXT_DAY,
+};
 use reference::numbers::ACCEPTED;
 
 /// N = 2, L = H = 1, told by hand.
@@ -17,7 +19,8 @@ fn the_book_of_5072_words() {
     let layout = Layout::of(opening).unwrap();
     assert_eq!((layout.accounts(), layout.slots()), (2, 2));
     assert_eq!(layout.size(), 5_072);
-    assert_eq!((HEADER_WORDS, NEXT_DAY, MSSL_BALANCE), (64, 5, 6));
+    assert_eq!((HEADER_WORDS, NEXT_DAY), (64, 5));
+    assert_eq!((MSSL_BALANCE, CHANGE_DAY), (6, 7));
     assert_eq!((layout.balance_at(0), layout.balance_at(1)), (64, 72));
     assert_eq!(layout.first_interval_at(), 80);
     assert_eq!((NCC_WORDS, ENTRY_WORDS), (4, 24));

@@ -9,8 +9,8 @@ use reference::variant::Context;
 #[test]
 fn random_lists_hold() {
     let mut rng = Rng::new(395);
-    let (mut lists, mut residual_closes, mut finished, mut positive, mut negative) =
-        (0, 0, 0, 0, 0);
+    let (mut lists, mut residual_closes, mut second_closes, mut crossed) = (0, 0, 0, 0);
+    let (mut finished, mut positive, mut negative) = (0, 0, 0);
     let mut numbers = [0; 15];
     for _ in 0..4_000 {
         let list = list(&mut rng);
@@ -22,6 +22,9 @@ fn random_lists_hold() {
         );
         lists += 1;
         residual_closes += report.residual_closes;
+        second_closes += report.second_closes;
+        let crosses = 0 < report.second_closes && report.second_closes < report.residual_closes;
+        crossed += u64::from(crosses);
         finished += u64::from(report.finished);
         positive += report.ties.positive;
         negative += report.ties.negative;
@@ -32,6 +35,10 @@ fn random_lists_hold() {
     assert!(lists >= 1_000, "{lists}");
     // The lists reach what they are made for.
     assert!(residual_closes > 1_000, "{residual_closes}");
+    let first_closes = residual_closes - second_closes;
+    assert!(first_closes > 1_000, "{first_closes}");
+    assert!(second_closes > 1_000, "{second_closes}");
+    assert!(crossed > 200, "{crossed}");
     assert!(finished > 50, "{finished}");
     assert!(positive > 100 && negative > 100, "{positive} {negative}");
     for number in [0, 4, 5, 6, 7, 8, 9, 10, 11] {
@@ -42,16 +49,22 @@ fn random_lists_hold() {
 #[test]
 fn a_lag_of_75_is_passed() {
     let mut rng = Rng::new(75);
-    for (accounts, horizon, first_day) in [(1, 1, 9_497), (2, 3, 36_440)] {
+    for (accounts, horizon, first_day, change_day, second_closes) in [
+        (1, 1, 9_497, 0, 0),
+        (2, 3, 36_440, 36_444, 6),
+        (3, 1, 20_000, 20_080, 0),
+    ] {
         let opening = Opening {
             accounts,
             lag: 75,
             horizon,
+            change_day,
             ..Opening::smallest(first_day)
         };
         let report = run(Context::RIGHT, &long_list(&mut rng, opening, 85));
         assert!(report.breaches.is_empty(), "{:?}", report.breaches);
         assert_eq!(report.residual_closes, 10);
+        assert_eq!(report.second_closes, second_closes);
         assert_eq!(report.finished, first_day == 36_440);
     }
 }
@@ -64,11 +77,13 @@ fn many_accounts_hold() {
             accounts,
             lag,
             horizon,
+            change_day: 36_517,
             ..Opening::smallest(36_515)
         };
         let report = run(Context::RIGHT, &long_list(&mut rng, opening, 6));
         assert!(report.breaches.is_empty(), "{:?}", report.breaches);
         assert_eq!(report.residual_closes, 6 - lag);
+        assert_eq!(report.second_closes, 4 - lag);
         let report = run(Context::RIGHT, &list_on(&mut rng, opening, 20));
         assert!(report.breaches.is_empty(), "{:?}", report.breaches);
     }

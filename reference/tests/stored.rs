@@ -1,7 +1,10 @@
 //! The stored files are the generated ones, and show every wrong variant.
 
-use reference::stored::{Cases, Stored};
-use reference::variant::{wrong, Context, Variant, WRONG_BOOKS, WRONG_CALENDARS, WRONG_PROFILES};
+use reference::stored::{is_shown_by_replay_alone, Cases, Stored};
+use reference::variant::{
+    wrong, Context, Variant, WRONG_BOOKS, WRONG_CHANGE_DAYS, WRONG_EDITIONS, WRONG_SHARES,
+    WRONG_SHARE_CALLS, WRONG_WITHOUT_CHANGE_DAY, WRONG_WORDS,
+};
 use std::collections::BTreeSet;
 use std::fs;
 use std::path::PathBuf;
@@ -58,6 +61,24 @@ fn changed(right: &[Stored], wrong: &[Stored]) -> BTreeSet<&'static str> {
     changed
 }
 
+/// How many lines of `replay` came before those of the editions.
+const EARLIER_LINES: usize = 10_704;
+
+/// The lines of `replay` from the editions on.
+fn later_lines(files: &[Stored]) -> Vec<&[u8]> {
+    let replay = files.iter().find(|file| file.path == "replay/stdout");
+    let lines = replay.unwrap().contents.split(|&byte| byte == b'\n');
+    lines.skip(EARLIER_LINES).collect()
+}
+
+fn is_of_editions(variant: Variant) -> bool {
+    WRONG_EDITIONS.contains(&variant)
+        || WRONG_CHANGE_DAYS.contains(&variant)
+        || WRONG_WORDS.contains(&variant)
+        || WRONG_SHARES.contains(&variant)
+        || WRONG_SHARE_CALLS.contains(&variant)
+}
+
 #[test]
 fn every_wrong_variant_is_shown() {
     let cases = Cases::generate();
@@ -68,12 +89,19 @@ fn every_wrong_variant_is_shown() {
         let expected: &[&str] = match variant {
             // A frame's input is too short for these.
             Variant::ReadsOnly65536Bytes | Variant::PositionsOf16Bits => &["settle/runs/"],
-            _ if WRONG_BOOKS.contains(&variant) => &["replay/", "replay_settle/", "settle/runs/"],
-            _ if WRONG_CALENDARS.contains(&variant) => &["replay/"],
-            _ if WRONG_PROFILES.contains(&variant) => &["replay/"],
+            // No run leaves an odd kWh to two accounts.
+            Variant::ChangesOnFirstDay => &["replay_settle/"],
+            Variant::NeverIsAlways | Variant::SecondAlwaysUsed => &["replay/", "replay_settle/"],
+            _ if WRONG_BOOKS.contains(&variant) || WRONG_WITHOUT_CHANGE_DAY.contains(&variant) => {
+                &["replay/", "replay_settle/", "settle/runs/"]
+            }
+            _ if is_shown_by_replay_alone(variant) => &["replay/"],
             _ => &["replay_settle/", "settle/runs/"],
         };
         assert!(changed.iter().eq(expected), "{variant:?}: {changed:?}");
+        if is_of_editions(variant) {
+            assert!(later_lines(&wrong) != later_lines(&right), "{variant:?}");
+        }
     }
 }
 

@@ -2,16 +2,19 @@
 
 use reference::book::Opening;
 use reference::generate::books::{kept_book, word_case};
+use reference::generate::lists::change_day;
 use reference::generate::Rng;
 use reference::history::History;
 
 /// A well-formed book of a small size, with rows of open and closed days.
 pub fn small_book(rng: &mut Rng) -> (Vec<i64>, History) {
+    let first_day = first_day(rng);
     let opening = Opening {
         accounts: rng.pick(&[1, 1, 2, 2, 3, 5, 32]),
         lag: rng.pick(&[1, 1, 1, 2, 2, 3, 4]),
         horizon: rng.pick(&[1, 1, 2, 2, 3]),
-        first_day: first_day(rng),
+        first_day,
+        change_day: change_day(rng, first_day as i64),
     };
     let opening = match opening.accounts {
         32 => Opening {
@@ -46,7 +49,7 @@ impl Change {
     pub fn random(rng: &mut Rng, book: &[i64]) -> Change {
         let accounts = book[1] as usize;
         let index = match rng.below(10) {
-            0 => rng.below(8),
+            0 => rng.below(9),
             1 => rng.below(64 + 8 * accounts),
             2 | 3 => flag(rng, accounts, book.len()),
             _ => rng.below(book.len()),

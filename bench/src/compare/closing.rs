@@ -141,12 +141,13 @@ fn forget(rng: &mut Rng, book: &mut [i64]) {
 
 /// The opening that a book's header tells.
 fn opening_of(book: &[i64]) -> Opening {
-    let [accounts, lag, horizon, first_day] =
-        [book[1], book[2], book[3], book[4]].map(|term| term as u64);
+    let [accounts, lag, horizon, first_day, change_day] =
+        [book[1], book[2], book[3], book[4], book[7]].map(|term| term as u64);
     Opening {
         accounts,
         lag,
         horizon,
         first_day,
+        change_day,
     }
 }

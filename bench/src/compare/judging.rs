@@ -80,18 +80,20 @@ pub fn open(rng: &mut Rng, cases: usize, tally: &mut Tally) -> Result<(), String
             rng.between(1, 3),
             rng.between(1, 3),
             rng.pick(&[9_497, 9_498, 20_000, 36_523, 36_524]),
+            rng.pick(&[0, 0, 9_497, 9_498, 20_000, 36_523, 36_524]),
         ];
         if rng.percent(50) {
             let bound = rng.pick(&[0, 1, 32, 33, 75, 76, 92, 93, 9_496, 36_525]);
             let other = rng.word();
-            terms[rng.below(4)] = rng.pick(&[bound, bound, other]);
+            terms[rng.below(5)] = rng.pick(&[bound, bound, other]);
         }
-        let [accounts, lag, horizon, first] = terms.map(|term| term as u64);
+        let [accounts, lag, horizon, first, change] = terms.map(|term| term as u64);
         let opening = Opening {
             accounts,
             lag,
             horizon,
             first_day: first,
+            change_day: change,
         };
         let needed = size(opening).unwrap_or(100) as usize;
         let length = match rng.below(4) {
@@ -108,6 +110,7 @@ pub fn open(rng: &mut Rng, cases: usize, tally: &mut Tally) -> Result<(), String
             lag: lag as usize,
             horizon: horizon as usize,
             first: first as usize,
+            change: change as usize,
         };
         let told = robijan::open(&mut ours, lent);
         let answer = reference_open(&mut theirs, opening);

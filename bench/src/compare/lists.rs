@@ -4,7 +4,7 @@ use super::tally::Tally;
 use super::{both_close, same, same_words, told_by};
 use crate::robijan::{self, Terms};
 use reference::book::{open, size, Opening};
-use reference::generate::lists::{list, list_on, long_list, Call, List};
+use reference::generate::lists::{change_day, list, list_on, long_list, Call, List};
 use reference::generate::Rng;
 use reference::submission::submit;
 
@@ -48,14 +48,16 @@ pub fn random_list(rng: &mut Rng) -> List {
 }
 
 fn opening(rng: &mut Rng, accounts: &[u64], lags: &[u64], horizons: &[u64]) -> Opening {
+    let first_day = match rng.below(4) {
+        0 => 36_524 - rng.below(40) as i64,
+        _ => rng.between(9_497, 36_400),
+    };
     Opening {
         accounts: rng.pick(accounts),
         lag: rng.pick(lags),
         horizon: rng.pick(horizons),
-        first_day: match rng.below(4) {
-            0 => 36_524 - rng.below(40) as u64,
-            _ => rng.between(9_497, 36_400) as u64,
-        },
+        first_day: first_day as u64,
+        change_day: change_day(rng, first_day),
     }
 }
 
@@ -72,6 +74,7 @@ pub fn run(
         lag,
         horizon,
         first_day,
+        change_day,
     } = list.opening;
     let words = size(list.opening).unwrap_or(0) as usize + list.spare_words;
     let mut ours = rng.words(words);
@@ -83,6 +86,7 @@ pub fn run(
         lag: lag as usize,
         horizon: horizon as usize,
         first: first_day as usize,
+        change: change_day as usize,
     };
     let told = robijan::open(&mut ours, terms);
     let answer = open(&mut theirs, list.opening);
@@ -105,9 +109,11 @@ pub fn run(
                 let statement = rng.words(*statement_words);
                 let described = || of_list(&format!("call {at}, close"));
                 let told = both_close(&mut ours, &mut theirs, &statement, described)?;
-                let kind = match (told.number, told.count) {
-                    (0, 0) => "close without residuals",
-                    (0, _) => "close with residuals",
+                let second = change_day != 0 && told.day >= change_day + lag;
+                let kind = match (told.number, told.count, second) {
+                    (0, 0, _) => "close without residuals",
+                    (0, _, false) => "close with residuals, first edition",
+                    (0, _, true) => "close with residuals, second edition",
                     _ => "close",
                 };
                 tally.add(kind, told.number, told.position);

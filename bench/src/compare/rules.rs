@@ -49,6 +49,23 @@ pub fn price(rng: &mut Rng, cases: usize, tally: &mut Tally) -> Result<(), Strin
     Ok(())
 }
 
+/// A share call, and that of the second implementation.
+type Share = fn(i64, &[i64], &mut [i64]) -> u64;
+type ReferenceShare = fn(i64, &[i64], &mut [i64]) -> u8;
+
+const EDITIONS: [(&str, Share, ReferenceShare); 2] = [
+    (
+        "shares, first edition",
+        robijan::share,
+        reference::share::share,
+    ),
+    (
+        "shares, second edition",
+        robijan::second_share,
+        reference::share::second_share,
+    ),
+];
+
 pub fn share(rng: &mut Rng, cases: usize, tally: &mut Tally) -> Result<(), String> {
     for case in 0..cases {
         let count = rng.pick(&[0, 1, 2, 3, 4, 8, 31, 32, 32, 33]);
@@ -66,11 +83,14 @@ pub fn share(rng: &mut Rng, cases: usize, tally: &mut Tally) -> Result<(), Strin
         let mut ours = rng.words(length);
         let mut theirs = ours.clone();
         let described = || format!("case {case}: R {residual}, UEGQ {uegq:?}, {length} words");
-        let number = robijan::share(residual, &uegq, &mut ours);
-        let answer = reference::share::share(residual, &uegq, &mut theirs);
-        same(number, answer.into(), described)?;
-        same_words(&ours, &theirs, described)?;
-        tally.add("shares", number, 0);
+        for (edition, share, reference) in EDITIONS {
+            let number = share(residual, &uegq, &mut ours);
+            let answer = reference(residual, &uegq, &mut theirs);
+            let described = || format!("{}, {edition}", described());
+            same(number, answer.into(), described)?;
+            same_words(&ours, &theirs, described)?;
+            tally.add(edition, number, 0);
+        }
     }
     Ok(())
 }

@@ -13,7 +13,7 @@
 //! ```
 //! use robijan::{book_words, close, day, numbers, open, submit, Terms};
 //!
-//! let terms = Terms { accounts: 1, lag: 1, horizon: 1, first: day(2026, 1, 1)? as usize };
+//! let terms = Terms { accounts: 1, lag: 1, horizon: 1, first: day(2026, 1, 1)? as usize, change: 0 };
 //! let mut book = vec![0; book_words(terms)?];
 //! open(&mut book, terms)?;
 //!
@@ -90,7 +90,7 @@ pub struct Date {
 /// ```
 /// use robijan::Terms;
 ///
-/// let terms = Terms { accounts: 2, lag: 1, horizon: 1, first: 9_497 };
+/// let terms = Terms { accounts: 2, lag: 1, horizon: 1, first: 9_497, change: 0 };
 /// assert_eq!(robijan::book_words(terms), Ok(5_072));
 /// let refusal = robijan::book_words(Terms { accounts: 0, ..terms }).unwrap_err();
 /// assert_eq!(refusal.number, robijan::numbers::OUTSIDE_RANGE);
@@ -105,10 +105,10 @@ pub fn book_words(terms: Terms) -> Result<usize, Refusal> {
 /// ```
 /// use robijan::Terms;
 ///
-/// let terms = Terms { accounts: 2, lag: 1, horizon: 1, first: 9_497 };
+/// let terms = Terms { accounts: 2, lag: 1, horizon: 1, first: 9_497, change: 9_587 };
 /// let mut words = vec![-1; 5_073];
 /// robijan::open(&mut words, terms)?;
-/// assert_eq!(words[..6], [395, 2, 1, 1, 9_497, 9_497]);
+/// assert_eq!(words[..9], [395, 2, 1, 1, 9_497, 9_497, 0, 9_587, 0]);
 /// assert_eq!(words[5_072], -1);
 ///
 /// let refusal = robijan::open(&mut words[..5_071], terms).unwrap_err();
@@ -126,7 +126,7 @@ pub fn open(book: &mut [i64], terms: Terms) -> Result<(), Refusal> {
 /// use robijan::Terms;
 ///
 /// let mut book = vec![0; 5_072];
-/// robijan::open(&mut book, Terms { accounts: 2, lag: 1, horizon: 1, first: 9_497 })?;
+/// robijan::open(&mut book, Terms { accounts: 2, lag: 1, horizon: 1, first: 9_497, change: 0 })?;
 /// robijan::submit(&mut book, &[0; 8])?;
 ///
 /// // One vesting row, of account 2, which the book does not have.
@@ -145,7 +145,7 @@ pub fn submit(book: &mut [i64], file: &[u8]) -> Result<(), Refusal> {
 /// use robijan::Terms;
 ///
 /// let mut book = vec![0; 5_072];
-/// robijan::open(&mut book, Terms { accounts: 2, lag: 1, horizon: 1, first: 9_497 })?;
+/// robijan::open(&mut book, Terms { accounts: 2, lag: 1, horizon: 1, first: 9_497, change: 0 })?;
 /// let refusal = robijan::close(&mut book, &mut [0; 3]).unwrap_err();
 /// assert_eq!(refusal.to_string(), "11: datum absent, at word 84");
 /// let refusal = robijan::close(&mut book, &mut [0; 2]).unwrap_err();
@@ -168,7 +168,7 @@ pub fn close(book: &mut [i64], statement: &mut [i64]) -> Result<Closed, Refusal>
 ///
 /// let mut book = vec![0; 5_072];
 /// assert_eq!(robijan::judge(&book).unwrap_err().number, robijan::numbers::NOT_WELL_FORMED);
-/// robijan::open(&mut book, Terms { accounts: 2, lag: 1, horizon: 1, first: 9_497 })?;
+/// robijan::open(&mut book, Terms { accounts: 2, lag: 1, horizon: 1, first: 9_497, change: 0 })?;
 /// robijan::judge(&book)?;
 /// # Ok::<(), robijan::Refusal>(())
 /// ```
@@ -182,12 +182,26 @@ pub fn judge(book: &[i64]) -> Result<(), Refusal> {
 /// use robijan::Terms;
 ///
 /// let mut book = vec![0; 5_072];
-/// robijan::open(&mut book, Terms { accounts: 2, lag: 1, horizon: 1, first: 9_497 })?;
+/// robijan::open(&mut book, Terms { accounts: 2, lag: 1, horizon: 1, first: 9_497, change: 0 })?;
 /// assert_eq!(robijan::next_day(&book), Some(9_497));
 /// # Ok::<(), robijan::Refusal>(())
 /// ```
 pub fn next_day(book: &[i64]) -> Option<i64> {
     book.get(5).copied()
+}
+
+/// The change day of an opened book; 0 for never.
+///
+/// ```
+/// use robijan::Terms;
+///
+/// let mut book = vec![0; 5_072];
+/// robijan::open(&mut book, Terms { accounts: 2, lag: 1, horizon: 1, first: 9_497, change: 9_587 })?;
+/// assert_eq!(robijan::change_day(&book), Some(9_587));
+/// # Ok::<(), robijan::Refusal>(())
+/// ```
+pub fn change_day(book: &[i64]) -> Option<i64> {
+    book.get(7).copied()
 }
 
 /// The MSSL's balance in an opened book, in cents.
@@ -196,7 +210,7 @@ pub fn next_day(book: &[i64]) -> Option<i64> {
 /// use robijan::Terms;
 ///
 /// let mut book = vec![0; 5_072];
-/// robijan::open(&mut book, Terms { accounts: 2, lag: 1, horizon: 1, first: 9_497 })?;
+/// robijan::open(&mut book, Terms { accounts: 2, lag: 1, horizon: 1, first: 9_497, change: 0 })?;
 /// assert_eq!(robijan::mssl_balance(&book), Some(0));
 /// # Ok::<(), robijan::Refusal>(())
 /// ```
@@ -210,7 +224,7 @@ pub fn mssl_balance(book: &[i64]) -> Option<i64> {
 /// use robijan::Terms;
 ///
 /// let mut book = vec![0; 5_072];
-/// robijan::open(&mut book, Terms { accounts: 2, lag: 1, horizon: 1, first: 9_497 })?;
+/// robijan::open(&mut book, Terms { accounts: 2, lag: 1, horizon: 1, first: 9_497, change: 0 })?;
 /// assert_eq!(robijan::balance(&book, 1), Some(0));
 /// assert_eq!(robijan::balance(&book, 2), None);
 /// # Ok::<(), robijan::Refusal>(())
@@ -261,7 +275,7 @@ impl Missing {
 /// use robijan::{Missing, Terms};
 ///
 /// let mut book = vec![0; 5_072];
-/// robijan::open(&mut book, Terms { accounts: 2, lag: 1, horizon: 1, first: 9_497 })?;
+/// robijan::open(&mut book, Terms { accounts: 2, lag: 1, horizon: 1, first: 9_497, change: 0 })?;
 /// let refusal = robijan::close(&mut book, &mut [0; 3]).unwrap_err();
 /// let missing = robijan::missing(&book, refusal.position);
 /// assert_eq!(missing, Some(Missing::Vesting { account: 0, day: 9_497 }));
@@ -307,7 +321,7 @@ pub fn price(mep: &[i64], ieq: &[i64]) -> Result<i64, Refusal> {
     told(answer.number, 0, answer.price)
 }
 
-/// Writes each account's share of the residual load, in kWh; words beyond are kept.
+/// Writes each account's share of the residual load, in kWh, by the first edition: rounded down; words beyond are kept.
 ///
 /// ```
 /// let mut shares = [-1; 4];
@@ -317,6 +331,20 @@ pub fn price(mep: &[i64], ieq: &[i64]) -> Result<i64, Refusal> {
 /// ```
 pub fn share(residual: i64, uegq: &[i64], output: &mut [i64]) -> Result<(), Refusal> {
     told(raw::share(residual, uegq, output), 0, ())
+}
+
+/// The same by the second edition, whose shares use every kWh.
+///
+/// ```
+/// let mut shares = [-1; 4];
+/// robijan::second_share(2, &[1, 1, 1], &mut shares)?;
+/// assert_eq!(shares, [0, 1, 1, -1]);
+/// robijan::share(2, &[1, 1, 1], &mut shares)?;
+/// assert_eq!(shares, [0, 0, 0, -1]);
+/// # Ok::<(), robijan::Refusal>(())
+/// ```
+pub fn second_share(residual: i64, uegq: &[i64], output: &mut [i64]) -> Result<(), Refusal> {
+    told(raw::second_share(residual, uegq, output), 0, ())
 }
 
 /// Both parts of a share.

@@ -14,6 +14,8 @@ pub struct Terms {
     pub horizon: usize,
     /// 9,497 (1 January 2026) to 36,524: the first day to close.
     pub first: usize,
+    /// 0, for never, or 9,497 to 36,524: from which day on the uncovered load of a day is shared by the second edition.
+    pub change: usize,
 }
 
 /// Of open, submit and close; day and count are a close's.
@@ -119,6 +121,13 @@ mod library {
             output: *mut i64,
             output_words: usize,
         ) -> u64;
+        pub fn robijan_second_share(
+            residual: i64,
+            uegq: *const i64,
+            uegqs: usize,
+            output: *mut i64,
+            output_words: usize,
+        ) -> u64;
         pub fn robijan_tranche(rvq: i64, bvq: i64, mq: i64) -> Tranches;
         pub fn robijan_profile(
             profile: *const i64,
@@ -175,6 +184,18 @@ pub fn price(mep: &[i64], ieq: &[i64]) -> ReferencePrice {
 pub fn share(residual: i64, uegq: &[i64], output: &mut [i64]) -> u64 {
     unsafe {
         library::robijan_share(
+            residual,
+            uegq.as_ptr(),
+            uegq.len(),
+            output.as_mut_ptr(),
+            output.len(),
+        )
+    }
+}
+
+pub fn second_share(residual: i64, uegq: &[i64], output: &mut [i64]) -> u64 {
+    unsafe {
+        library::robijan_second_share(
             residual,
             uegq.as_ptr(),
             uegq.len(),

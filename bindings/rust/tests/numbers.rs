@@ -14,6 +14,7 @@ fn terms(accounts: usize, first: usize) -> Terms {
         lag: 1,
         horizon: 1,
         first,
+        change: 0,
     }
 }
 
@@ -44,6 +45,63 @@ fn opening() {
     assert_eq!(numbers::OUTSIDE_RANGE, 1);
     assert_eq!(refused(open(&mut words[1..], terms(2, 9_497))), (2, 0));
     assert_eq!(numbers::WORDS_TOO_FEW, 2);
+}
+
+#[test]
+fn change_days() {
+    let mut words = vec![-1; 5_072];
+    let changing = |change| Terms {
+        change,
+        ..terms(2, 20_000)
+    };
+    for change in [0, 9_497, 20_001, 36_524] {
+        open(&mut words, changing(change)).unwrap();
+        assert_eq!(change_day(&words), Some(change as i64));
+        judge(&words).unwrap();
+    }
+    // No word is cut on its way.
+    for change in [1, 9_496, 36_525, 9_497 + (1 << 32), usize::MAX] {
+        assert_eq!(refused(open(&mut words, changing(change))), (1, 0));
+        assert_eq!(refused(book_words(changing(change))), (1, 0));
+        assert_eq!(change_day(&words), Some(36_524));
+    }
+    // 1 comes before 2; a bad day in a lent book is 3.
+    assert_eq!(refused(open(&mut words[1..], changing(1))), (1, 0));
+    for change in [1, 9_496, 36_525, -1, i64::MIN] {
+        words[7] = change;
+        assert_eq!(refused(judge(&words)), (3, 0));
+        assert_eq!(refused(submit(&mut words, &[0; 8])), (3, 0));
+        assert_eq!(refused(close(&mut words, &mut [0; 3])), (3, 0));
+    }
+}
+
+#[test]
+fn second_shares() {
+    let mut shares = [-1; 4];
+    second_share(2, &[1, 1, 1], &mut shares).unwrap();
+    assert_eq!(shares, [0, 1, 1, -1]);
+    share(2, &[1, 1, 1], &mut shares).unwrap();
+    assert_eq!(shares, [0, 0, 0, -1]);
+    second_share(1_000_000_000, &[10_000_000, 0], &mut shares).unwrap();
+    assert_eq!(shares, [10_000_000, 0, 0, -1]);
+    // Refused as the first edition's call is, the output kept.
+    let wide = 1 << 32;
+    for residual in [1_000_000_001, -1_280_000_001, 2 + wide] {
+        assert_eq!(
+            refused(second_share(residual, &[1, 1, 1], &mut shares[..2])),
+            (1, 0)
+        );
+    }
+    for uegq in [-1, 10_000_001, 1 + wide] {
+        assert_eq!(refused(second_share(2, &[1, uegq], &mut shares)), (1, 0));
+    }
+    assert_eq!(refused(second_share(2, &[], &mut shares)), (1, 0));
+    assert_eq!(refused(second_share(2, &[1; 33], &mut [0; 33])), (1, 0));
+    assert_eq!(
+        refused(second_share(2, &[1, 1, 1], &mut shares[..2])),
+        (10, 0)
+    );
+    assert_eq!(shares, [10_000_000, 0, 0, -1]);
 }
 
 #[test]

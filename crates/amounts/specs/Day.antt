@@ -2,12 +2,13 @@
 use mathlib.Core.Path.{_≡_}
 use mathlib.Core.Bool.{Bool, true, cond}
 use mathlib.Core.List.{List}
-use Prim.Native.Nat.{ℕ, _≤_, _<_}
+use Prim.Native.Nat.{ℕ, zero, suc, _+_, _*_, _≤_, _<_}
 use lib.IntN.{ℤ, pos, natAbs, _+ℤ_}
 use lib.ListN.{length, getD, replicate}
 use Rattle.integer.specs.Below.{sumℤ, tabulate}
 use Rattle.integer.specs.Words.{word}
-use Rattle.rulebook.specs.Shares.{leastResidual, shareOf}
+use Rattle.rulebook.specs.declared.Edition.{Edition}
+use Rattle.rulebook.specs.Shares.{leastResidual, shareBy}
 use Rattle.rulebook.specs.Units.{intervals, mostQuantity}
 use Rattle.rulebook.specs.DayAmount.{referencePriceOf, vestingAmount, shareAmount, inCents}
 use Rattle.rulebook.specs.Layout.{slotLength, intervalOf, cellOf}
@@ -51,25 +52,38 @@ LoadsRanged rs = (i : ℕ) → i < intervals → natAbs (word (rs .loads) i) ≤
 
 -- ---- An account's shares
 
--- a cell's share of R and S
-abbrev pub cellShare : List ℤ → ResidualAndSpare → ℕ
-cellShare c r = shareOf (r .load) (r .spare) (cellData c .uegq)
+-- account a's UEGQ at interval i of a slot
+abbrev pub uegqIn : ℕ → List ℤ → ℕ → ℕ → ℕ
+uegqIn n x a i = cellData (cellAt n x a i) .uegq
 
--- account a's at interval i of a slot
-abbrev pub shareIn : ℕ → List ℤ → Residuals → ℕ → ℕ → ℕ
-shareIn n x rs a i = cellShare (cellAt n x a i) (residualIn rs i)
+-- the running sum up to an account at interval i
+abbrev pub sumIn : DayShares → ℕ → ℕ
+sumIn shares i = getD (shares .sums) i 0
+
+-- account a's share there, by edition, after those of the account before it
+abbrev pub shareIn : Edition → ℕ → List ℤ → Residuals → DayShares → ℕ → ℕ → ℕ
+shareIn e n x rs before a i = shareBy e (residualIn rs i .load) (residualIn rs i .spare) (sumIn before i) (uegqIn n x a i)
 
 -- at each interval
-unfoldable pub sharesOf : ℕ → List ℤ → Residuals → ℕ → DayShares
-sharesOf n x rs a = record { kwh = tabulate intervals (shareIn n x rs a) }
+unfoldable pub sharesOf : Edition → ℕ → List ℤ → Residuals → DayShares → ℕ → DayShares
+sharesOf e n x rs before a = record { kwh = tabulate intervals (shareIn e n x rs before a); sums = tabulate intervals (λ i. sumIn before i + uegqIn n x a i) }
 
--- none, where no residual is due
+-- none: before the first account, and where no residual is due
 abbrev pub noShares : DayShares
-noShares = record { kwh = replicate intervals 0 }
+noShares = record { kwh = replicate intervals 0; sums = replicate intervals 0 }
 
 -- those of a slot, or none
-abbrev pub sharesIf : Bool → ℕ → List ℤ → Residuals → ℕ → DayShares
-sharesIf due n x rs a = cond due (sharesOf n x rs a) noShares
+abbrev pub sharesIf : Bool → Edition → ℕ → List ℤ → Residuals → DayShares → ℕ → DayShares
+sharesIf due e n x rs before a = cond due (sharesOf e n x rs before a) noShares
+
+-- after the first a accounts, one after another: those of the last of them
+unfoldable pub sharesAfter : Bool → Edition → ℕ → List ℤ → Residuals → ℕ → DayShares
+sharesAfter due e n x rs zero = noShares
+sharesAfter due e n x rs (suc a) = sharesIf due e n x rs (sharesAfter due e n x rs a) a
+
+-- no running sum is above what a accounts can have
+abbrev pub SumsRanged : ℕ → DayShares → Type 0
+SumsRanged a shares = (i : ℕ) → i < intervals → sumIn shares i ≤ a * mostQuantity
 
 -- no share is above what a quantity can be
 abbrev pub SharesRanged : DayShares → Type 0
@@ -103,6 +117,6 @@ totalTo n today then due shares a k = record { thousandths = sumℤ k (slotAmoun
 unfoldable pub sharesPosted : ℕ → List ℤ → List ℤ → Bool → DayShares → ℕ → ℤ
 sharesPosted n today then due shares a = inCents (totalTo n today then due shares a intervals .thousandths)
 
--- and of R and S
-unfoldable pub slotPosted : ℕ → List ℤ → List ℤ → Bool → Residuals → ℕ → ℤ
-slotPosted n today then due rs a = sharesPosted n today then due (sharesIf due n then rs a) a
+-- and of R and S, by edition
+unfoldable pub slotPosted : Edition → ℕ → List ℤ → List ℤ → Bool → Residuals → ℕ → ℤ
+slotPosted e n today then due rs a = sharesPosted n today then due (sharesAfter due e n then rs (suc a)) a

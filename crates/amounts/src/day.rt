@@ -9,20 +9,21 @@ use crate::total::DayTotal;
 use crate::total::absorb;
 use integer::add;
 use integer::nearest_to;
+use rulebook::Edition;
 use rulebook::layout::ACCOUNT_WORDS;
 use rulebook::layout::cell_place;
 use rulebook::layout::interval_length;
 use rulebook::units::INTERVALS;
 use rulebook::units::THOUSANDTHS_PER_CENT;
-use rules::share::share_of;
+use rules::share::share_by;
 ghost use mathlib.Core.Path.{_≡_};
 ghost use mathlib.Core.Bool.{true};
-ghost use Prim.Native.Nat.{_≤_, _<_};
+ghost use Prim.Native.Nat.{_+_, _≤_, _<_};
 ghost use lib.ListN.{getD};
 ghost use Rattle.rulebook.specs.Units.{intervals, mostQuantity};
-ghost use Rattle.rulebook.specs.Shares.{mostAccounts};
-ghost use Rattle.amounts.specs.Cell.{cellData, RangedCell};
-ghost use Rattle.amounts.specs.Day.{cellAt, SlotRanged, DaysRanged, LoadsRanged, SharesRanged, residualsOf, noResiduals, residualsIf, residualIn, shareIn, sharesOf, noShares, sharesIf, amountAt, slotAmount, totalTo, sharesPosted};
+ghost use Rattle.rulebook.specs.Shares.{mostAccounts, mostSpare, shareBy};
+ghost use Rattle.amounts.specs.Cell.{RangedCell};
+ghost use Rattle.amounts.specs.Day.{SlotRanged, DaysRanged, LoadsRanged, SumsRanged, SharesRanged, residualsOf, noResiduals, residualsIf, residualIn, sumIn, uegqIn, sharesOf, noShares, sharesIf, amountAt, slotAmount, totalTo, sharesPosted};
 
 // R and S of a day's 48 intervals.
 pub struct Residuals {
@@ -84,58 +85,90 @@ fn residual_in(residuals: Residuals, h: usize) -> ResidualAndSpare
     ResidualAndSpare { load, spare }
 }
 
-// The shares of one account in a day's 48 intervals, in kWh.
+// The shares of one account in a day's 48 intervals, in kWh, and the running sums of UEGQ up to it.
 pub struct DayShares {
     pub kwh: [u64; INTERVALS],
+    pub sums: [u64; INTERVALS],
+}
+
+// The running sum at interval h.
+fn sum_at(shares: DayShares, h: usize) -> u64
+    requires { ⌜ h < intervals ⌝ }
+    ensures { λ s. ⌜ s ≡ sumIn shares h ⌝ }
+{
+    shares.sums[h]
 }
 
 // The account's UEGQ at interval h.
 fn uegq_at(slot: &[i64], n: usize, a: usize, h: usize) -> u64
     requires { ⌜ SlotRanged n (now slot) × (n ≤ mostAccounts) × (a < n) × (h < intervals) ⌝ }
-    ensures { λ u. ⌜ (u ≡ cellData (cellAt n (now (slot .entry)) a h) .uegq) × (u ≤ mostQuantity) ⌝ }
+    ensures { λ u. ⌜ (u ≡ uegqIn n (now (slot .entry)) a h) × (u ≤ mostQuantity) ⌝ }
 {
     let i = h * interval_length(n) + cell_place(a);
     let e = i + ACCOUNT_WORDS;
     uegq_of(&slot[i..e])
 }
 
-// Its share there.
-fn share_in(slot: &[i64], residuals: Residuals, n: usize, a: usize, h: usize) -> u64
-    requires { ⌜ SlotRanged n (now slot) × LoadsRanged residuals × (n ≤ mostAccounts) × (a < n) × (h < intervals) ⌝ }
-    ensures { λ q. ⌜ q ≡ shareIn n (now (slot .entry)) residuals a h ⌝ }
+// The share of UEGQ u at interval h, where the accounts before have `sum`.
+fn share_in(edition: Edition, residuals: Residuals, h: usize, sum: u64, u: u64) -> u64
+    requires { ⌜ LoadsRanged residuals × (h < intervals) × (sum + u ≤ mostSpare) ⌝ }
+    ensures { λ q. ⌜ q ≡ shareBy edition (residualIn residuals h .load) (residualIn residuals h .spare) sum u ⌝ }
 {
     let r = residual_in(residuals, h);
-    share_of(r.load, r.spare, uegq_at(slot, n, a, h))
+    share_by(edition, r.load, r.spare, sum, u)
 }
 
-// Its shares of the day.
-fn shares_of(slot: &[i64], residuals: Residuals, n: usize, a: usize) -> DayShares
-    requires { ⌜ SlotRanged n (now slot) × LoadsRanged residuals × (n ≤ mostAccounts) × (a < n) ⌝ }
-    ensures { λ r. ⌜ r ≡ sharesOf n (now (slot .entry)) residuals a ⌝ }
+// The account's shares of the day, after those of the account before it.
+fn shares_of(
+    slot: &[i64],
+    edition: Edition,
+    residuals: Residuals,
+    before: DayShares,
+    n: usize,
+    a: usize,
+) -> DayShares
+    requires { ⌜ SlotRanged n (now slot) × LoadsRanged residuals × SumsRanged a before × (n ≤ mostAccounts) × (a < n) ⌝ }
+    ensures { λ r. ⌜ r ≡ sharesOf edition n (now (slot .entry)) residuals before a ⌝ }
 {
     let mut kwh = [0; INTERVALS];
+    let mut sums = [0; INTERVALS];
     for h in 0..INTERVALS {
-        kwh[h] = share_in(slot, residuals, n, a, h);
+        let u = uegq_at(slot, n, a, h);
+        let sum = sum_at(before, h);
+        kwh[h] = share_in(edition, residuals, h, sum, u);
+        sums[h] = sum + u;
     }
-    DayShares { kwh: kwh }
+    DayShares {
+        kwh: kwh,
+        sums: sums,
+    }
 }
 
-// None, where no residual is due.
-fn no_shares() -> DayShares
+// None: before the first account, and where no residual is due.
+pub fn no_shares() -> DayShares
     ensures { λ r. ⌜ r ≡ noShares ⌝ }
 {
     DayShares {
         kwh: [0; INTERVALS],
+        sums: [0; INTERVALS],
     }
 }
 
-// Its shares of then's slot, where a residual is due.
-pub fn shares_due(then: &[i64], due: bool, residuals: Residuals, n: usize, a: usize) -> DayShares
-    requires { ⌜ (due ≡ true → SlotRanged n (now then)) × LoadsRanged residuals × (n ≤ mostAccounts) × (a < n) ⌝ }
-    ensures { λ r. ⌜ r ≡ sharesIf due n (now (then .entry)) residuals a ⌝ }
+// The account's shares of then's slot, where a residual is due.
+pub fn shares_due(
+    then: &[i64],
+    due: bool,
+    edition: Edition,
+    residuals: Residuals,
+    before: DayShares,
+    n: usize,
+    a: usize,
+) -> DayShares
+    requires { ⌜ (due ≡ true → SlotRanged n (now then)) × LoadsRanged residuals × SumsRanged a before × (n ≤ mostAccounts) × (a < n) ⌝ }
+    ensures { λ r. ⌜ r ≡ sharesIf due edition n (now (then .entry)) residuals before a ⌝ }
 {
     if due {
-        shares_of(then, residuals, n, a)
+        shares_of(then, edition, residuals, before, n, a)
     } else {
         no_shares()
     }

@@ -8,17 +8,18 @@ use rulebook::layout::balance_word;
 use rulebook::layout::interval_length;
 use rulebook::units;
 ghost use mathlib.Core.Path.{_≡_};
-ghost use mathlib.Core.Bool.{true};
+ghost use mathlib.Core.Bool.{true, _||_};
 ghost use Prim.Native.Nat.{_+_, _≤_, _<_};
+ghost use lib.IntN.{pos};
 ghost use lib.ListN.{length};
 ghost use Rattle.integer.specs.Integer.{positive, negative};
 ghost use Rattle.integer.specs.Words.{word};
-ghost use Rattle.rulebook.specs.Units.{lastDay};
+ghost use Rattle.rulebook.specs.Units.{lastDay, between};
 ghost use Rattle.rulebook.specs.Shares.{mostAccounts};
-ghost use Rattle.rulebook.specs.Terms.{termsFit, InTerms};
-ghost use Rattle.rulebook.specs.Layout.{size, headerWords, balanceWords, balanceWord, msslWord};
+ghost use Rattle.rulebook.specs.Terms.{earliestFirstDay, InTerms};
+ghost use Rattle.rulebook.specs.Layout.{size, headerWords, balanceWords, balanceWord, msslWord, changeDayWord};
 ghost use Rattle.rulebook.specs.BookData.{termsOf, nextDay};
-ghost use Rattle.rulebook.specs.WellFormed.{nextDayFits, headerFits, balanceFits, balanceWordsFit, balancesFit};
+ghost use Rattle.rulebook.specs.WellFormed.{isZero, termsWordsFit, nextDayFits, headerFits, balanceFits, balanceWordsFit, balancesFit};
 
 // Limits, as words.
 const BOOK_MARK: i64 = layout::BOOK_MARK as i64;
@@ -35,15 +36,25 @@ const LAST_DAY: i64 = units::LAST_DAY as i64;
 
 const FINISHED: i64 = LAST_DAY + 1;
 
-// N, L, H, F, word by word.
+// X is 0 or 9,497 to 36,524.
+fn change_word_fits(book: &[i64]) -> bool
+    requires { ⌜ headerWords ≤ length (now book) ⌝ }
+    ensures { λ r. ⌜ r ≡ (isZero (word (now (book .entry)) changeDayWord) || between (pos earliestFirstDay) (pos lastDay) (word (now (book .entry)) changeDayWord)) ⌝ }
+{
+    between_at(book, layout::CHANGE_DAY, 0, 0)
+        | between_at(book, layout::CHANGE_DAY, EARLIEST_FIRST_DAY, LAST_DAY)
+}
+
+// N, L, H, F, X, word by word.
 fn terms_words_fit(book: &[i64]) -> bool
     requires { ⌜ headerWords ≤ length (now book) ⌝ }
-    ensures { λ r. ⌜ r ≡ termsFit (termsOf (now (book .entry))) ⌝ }
+    ensures { λ r. ⌜ r ≡ termsWordsFit (now (book .entry)) ⌝ }
 {
     between_at(book, layout::ACCOUNTS, 1, MOST_ACCOUNTS)
         & between_at(book, layout::LAG, 1, MOST_LAG)
         & between_at(book, layout::HORIZON, 1, MOST_HORIZON)
         & between_at(book, layout::FIRST_DAY, EARLIEST_FIRST_DAY, LAST_DAY)
+        & change_word_fits(book)
 }
 
 // C is F to 36,525.
@@ -75,7 +86,7 @@ fn unsigned_at(book: &[i64], i: usize) -> usize
     book[i] as usize
 }
 
-// "The book": N, L, H and F of a header that fits.
+// "The book": N, L, H, F and X of a header that fits.
 pub fn terms_of(book: &[i64]) -> Terms
     requires { ⌜ (headerWords ≤ length (now book)) × (headerFits (now book) ≡ true) ⌝ }
     ensures { λ r. ⌜ r ≡ termsOf (now (book .entry)) ⌝ }
@@ -84,11 +95,13 @@ pub fn terms_of(book: &[i64]) -> Terms
     let lag = unsigned_at(book, layout::LAG);
     let horizon = unsigned_at(book, layout::HORIZON);
     let first = unsigned_at(book, layout::FIRST_DAY);
+    let change = unsigned_at(book, layout::CHANGE_DAY);
     Terms {
         accounts: accounts,
         lag: lag,
         horizon: horizon,
         first: first,
+        change: change,
     }
 }
 

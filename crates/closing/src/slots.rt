@@ -1,8 +1,9 @@
 // Document 01, "Close": the slots of the closing day D and of r = D − L.
+use rulebook::Edition;
 use rulebook::Terms;
 ghost use mathlib.Core.Path.{_≡_};
 ghost use Rattle.rulebook.specs.Terms.{InTerms};
-ghost use Rattle.rulebook.specs.DayAmount.{settlesResidual};
+ghost use Rattle.rulebook.specs.DayAmount.{settlesResidual, editionOf};
 ghost use Rattle.closing.specs.Slots.{thenDay};
 
 // A residual is due: r is not before F.
@@ -22,5 +23,16 @@ pub fn then_day(terms: Terms, day: usize) -> usize
         day - terms.lag
     } else {
         day
+    }
+}
+
+// The edition of a residual day: the second from X on, and never if X is 0.
+pub fn edition_of(terms: Terms, settled: usize) -> Edition
+    ensures { λ r. ⌜ r ≡ editionOf terms settled ⌝ }
+{
+    if (terms.change != 0) & (terms.change <= settled) {
+        Edition::Second
+    } else {
+        Edition::First
     }
 }

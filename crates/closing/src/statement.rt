@@ -1,10 +1,12 @@
 // Document 01, "Close": the statement, N amounts and then the MSSL's, in cents.
 use amounts::day::Residuals;
+use amounts::day::no_shares;
 use amounts::day::posted_amount;
 use amounts::day::shares_due;
 use integer::add;
 use integer::put_word;
 use integer::word_at;
+use rulebook::Edition;
 ghost use mathlib.Core.Path.{_≡_};
 ghost use Prim.Native.Nat.{_≤_, _<_};
 ghost use lib.ListN.{length};
@@ -15,20 +17,22 @@ ghost use Rattle.rulebook.specs.DayAmount.{minusSum};
 ghost use Rattle.amounts.specs.Day.{DaysRanged, LoadsRanged, slotPosted};
 ghost use Rattle.closing.specs.Written.{Small, withMssl};
 
-// Posts the accounts' amounts, of the slots of today and of then.
+// Posts the accounts' amounts, of the slots of today and of then, by then's edition.
 pub fn post_amounts(
     statement: &mut [i64],
     today: &[i64],
     then: &[i64],
     due: bool,
+    edition: Edition,
     residuals: Residuals,
     n: usize,
 )
     requires { ⌜ DaysRanged n (now today) (now then) due × LoadsRanged residuals × (n ≤ mostAccounts) × (n ≤ length (now statement)) ⌝ }
-    ensures { λ _. ⌜ now (statement .exit) ≡ filled n (slotPosted n (now (today .entry)) (now (then .entry)) due residuals) (now (statement .entry)) ⌝ }
+    ensures { λ _. ⌜ now (statement .exit) ≡ filled n (slotPosted edition n (now (today .entry)) (now (then .entry)) due residuals) (now (statement .entry)) ⌝ }
 {
+    let mut shares = no_shares();
     for a in 0..n {
-        let shares = shares_due(then, due, residuals, n, a);
+        shares = shares_due(then, due, edition, residuals, shares, n, a);
         put_word(statement, a, posted_amount(today, then, due, shares, n, a));
     }
 }

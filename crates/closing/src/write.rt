@@ -1,6 +1,7 @@
 // Document 01, "Close": what an accepted close writes.
 use crate::ledger::grow;
 use crate::ledger::grow_balances;
+use crate::slots::edition_of;
 use crate::slots::is_due;
 use crate::slots::then_day;
 use crate::statement::post_amounts;
@@ -32,10 +33,20 @@ pub fn write_statement(statement: &mut [i64], book: &[i64], terms: Terms, day: u
     let due = is_due(terms, day);
     let a = slot_start(terms, day);
     let e = a + words;
-    let i = slot_start(terms, then_day(terms, day));
+    let settled = then_day(terms, day);
+    let i = slot_start(terms, settled);
     let j = i + words;
     let residuals = residuals_due(&book[i..j], due, n);
-    post_amounts(statement, &book[a..e], &book[i..j], due, residuals, n);
+    let edition = edition_of(terms, settled);
+    post_amounts(
+        statement,
+        &book[a..e],
+        &book[i..j],
+        due,
+        edition,
+        residuals,
+        n,
+    );
     post_mssl(statement, n);
 }
 

@@ -9,13 +9,13 @@ use Rattle.rulebook.specs.File.{num}
 use Rattle.console.specs.declared.input.Item.{Item}
 use Rattle.console.specs.declared.input.Item.the-variants.{Close, Submit, Bad, End}
 
--- ---- The opening: N, L, H, two bytes of F
+-- ---- The opening: N, L, H, two bytes of F; X is 0 (document 02, P2)
 
 abbrev pub openingBytes : ℕ
 openingBytes = 5
 
 abbrev pub openingTerms : List ℕ → Terms
-openingTerms s = record { accounts = getD s 0 0; lag = getD s 1 0; horizon = getD s 2 0; first = num 2 s 3 }
+openingTerms s = record { accounts = getD s 0 0; lag = getD s 1 0; horizon = getD s 2 0; first = num 2 s 3; change = 0 }
 
 -- ---- The commands
 

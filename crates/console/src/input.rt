@@ -36,6 +36,7 @@ pub fn opening_terms(s: &[u8]) -> Terms
         lag: byte(s[1]),
         horizon: byte(s[2]),
         first: number(s, 3, 2),
+        change: 0,
     }
 }
 

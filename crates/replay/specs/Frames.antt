@@ -8,6 +8,7 @@ use Prim.Native.Nat.{ℕ, _≤_}
 use lib.IntN.{ℤ}
 use lib.ListN.{length, set, take, drop}
 use Rattle.rulebook.specs.declared.Terms.{Terms}
+use Rattle.rulebook.specs.declared.Edition.{Edition}
 use Rattle.rulebook.specs.Opening.{opened}
 use Rattle.rulebook.specs.Submit.{submitted}
 use Rattle.rulebook.specs.Close.{closed}
@@ -84,12 +85,12 @@ pub record ClosedWith (book space bookAfter spaceAfter : List ℤ) : Type 0 wher
   pub statement-words : take count spaceAfter ≡ closed book (take count space) .statement
   pub beyond : drop count spaceAfter ≡ drop count space
 
--- shares of the UEGQ that were read to the start of one space, in the first words of another
-pub record SharedFrom (r : ℤ) (uegqs space uegqsAfter spaceAfter : List ℤ) : Type 0 where
+-- shares, of an edition, of the UEGQ that were read to the start of one space, in the first words of another
+pub record SharedFrom (e : Edition) (r : ℤ) (uegqs space uegqsAfter spaceAfter : List ℤ) : Type 0 where
   pub listed : ℕ
   pub listed-within : listed ≤ length uegqsAfter
   pub listed-beyond : drop listed uegqsAfter ≡ drop listed uegqs
   pub count : ℕ
   pub within : count ≤ length space
-  pub words : take count spaceAfter ≡ shareCall r (take listed uegqsAfter) (take count space) .output
+  pub words : take count spaceAfter ≡ shareCall e r (take listed uegqsAfter) (take count space) .output
   pub beyond : drop count spaceAfter ≡ drop count space

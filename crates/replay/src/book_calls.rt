@@ -43,6 +43,7 @@ fn open_lent(lent: &mut [i64])
         lag: input::long(),
         horizon: input::long(),
         first: input::long(),
+        change: input::long(),
     };
     let answer = robijan_open(lent, terms);
     output::name(b"open");

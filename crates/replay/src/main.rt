@@ -1,15 +1,16 @@
 // A test program: calls of the library `robijan` framed on standard input, a line for what each answers, and a digest or the words of all
 // that was lent to it. Its files stdin and stdout are what the second implementation, reference/, generated.
 //
-// A frame is a byte and its fields, little-endian: counts of 4 bytes; N, L, H, F and words of 8; a list after its count, a file after its
+// A frame is a byte and its fields, little-endian: counts of 4 bytes; N, L, H, F, X and words of 8; a list after its count, a file after its
 // length. `lent` counts the words lent of the book, which stays from frame to frame; `fill` is each word of a statement or output before.
 //
 //     P index, word               the book's word is written      V MEP, IEQ                  price
-//     O lent, N, L, H, F          open                            R R, fill, UEGQ, count      share
-//     S lent, file                submit                          T RVQ, BVQ, MQ              tranche
-//     C lent, fill, count         close                           d, w, s: day                date, weekday, statement day
+//     O lent, N, L, H, F, X       open                            R R, fill, UEGQ, count      share
+//     S lent, file                submit                          E R, fill, UEGQ, count      share of the second edition
+//     C lent, fill, count         close                           T RVQ, BVQ, MQ              tranche
+//     Q T, D, quantities          profile                         d, w, s: day                date, weekday, statement day
 //     y year, month, day          day                             b, f: day, holidays         business day, final statement
-//     Q T, D, quantities          profile                         m year, month, holidays     residual due day
+//                                                                 m year, month, holidays     residual due day
 //
 // A line has the call's name, number and figures, then what was lent: the digest of the book, a file or a list, the words of a statement or
 // an output.
@@ -24,6 +25,7 @@ use book_calls::open;
 use book_calls::poke;
 use book_calls::submit;
 use calendar_calls::calendar_call;
+use rulebook::Edition;
 use rules_calls::price;
 use rules_calls::profile;
 use rules_calls::share;
@@ -42,7 +44,8 @@ fn call_without_book(command: u8) -> bool
 {
     match command {
         b'V' => price(),
-        b'R' => share(),
+        b'R' => share(Edition::First),
+        b'E' => share(Edition::Second),
         b'T' => tranche(),
         b'Q' => profile(),
         _ => return calendar_call(command),

@@ -3,8 +3,10 @@ use crate::input;
 use crate::output;
 use robijan::rules_calls::robijan_price;
 use robijan::rules_calls::robijan_profile;
+use robijan::rules_calls::robijan_second_share;
 use robijan::rules_calls::robijan_share;
 use robijan::rules_calls::robijan_tranche;
+use rulebook::Edition;
 ghost use mathlib.Core.Path.{_≡_};
 ghost use Rattle.rulebook.specs.Calls.{shareCall};
 ghost use Rattle.replay.specs.Frames.{SharedFrom};
@@ -35,31 +37,46 @@ pub fn price() {
     price_from(&mut meps, &mut ieqs);
 }
 
-fn share_to(r: i64, uegq: &[i64], lent: &mut [i64])
-    ensures { λ _. ⌜ now (lent .exit) ≡ shareCall r (now (uegq .entry)) (now (lent .entry)) .output ⌝ }
+// The share call of an edition, after its name.
+fn share_called(edition: Edition, r: i64, uegq: &[i64], lent: &mut [i64]) -> u64
+    ensures { λ number. ⌜ record { number = number; output = now (lent .exit) } ≡ shareCall edition r (now (uegq .entry)) (now (lent .entry)) ⌝ }
 {
-    let number = robijan_share(r, uegq, lent);
-    output::name(b"share");
+    match edition {
+        Edition::First => {
+            output::name(b"share");
+            robijan_share(r, uegq, lent)
+        }
+        Edition::Second => {
+            output::name(b"second-share");
+            robijan_second_share(r, uegq, lent)
+        }
+    }
+}
+
+fn share_to(edition: Edition, r: i64, uegq: &[i64], lent: &mut [i64])
+    ensures { λ _. ⌜ now (lent .exit) ≡ shareCall edition r (now (uegq .entry)) (now (lent .entry)) .output ⌝ }
+{
+    let number = share_called(edition, r, uegq, lent);
     output::figure(number);
     output::digest(uegq);
     output::words(lent);
     output::end();
 }
 
-fn share_from(r: i64, uegqs: &mut [i64], space: &mut [i64])
-    ensures { λ _. ⌜ SharedFrom r (now (uegqs .entry)) (now (space .entry)) (now (uegqs .exit)) (now (space .exit)) ⌝ }
+fn share_from(edition: Edition, r: i64, uegqs: &mut [i64], space: &mut [i64])
+    ensures { λ _. ⌜ SharedFrom edition r (now (uegqs .entry)) (now (space .entry)) (now (uegqs .exit)) (now (space .exit)) ⌝ }
 {
     let m = input::list(uegqs);
     let n = input::count(space);
-    share_to(r, &uegqs[..m], &mut space[..n]);
+    share_to(edition, r, &uegqs[..m], &mut space[..n]);
 }
 
-pub fn share() {
+pub fn share(edition: Edition) {
     let r = input::word();
     let z = input::word();
     let mut uegqs = [0i64; LIST_WORDS];
     let mut space = [z; LIST_WORDS];
-    share_from(r, &mut uegqs, &mut space);
+    share_from(edition, r, &mut uegqs, &mut space);
 }
 
 pub fn tranche() {

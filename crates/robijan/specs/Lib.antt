@@ -1,1 +1,3 @@
 pub mod Returned
+-- a list of calls that crosses X
+pub mod examples

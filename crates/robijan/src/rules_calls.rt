@@ -1,4 +1,5 @@
 // The calls that hold no book: reference price, shares, tranches, profiles.
+use rulebook::Edition;
 use rulebook::PriceAnswer;
 use rulebook::PriceReturned;
 use rulebook::ProfileAnswer;
@@ -10,6 +11,7 @@ use rules::profile::check_profile;
 use rules::share::shares;
 use rules::tranche::tranches;
 ghost use mathlib.Core.Path.{_≡_};
+ghost use Rattle.rulebook.specs.declared.Edition.the-variants.{First, Second};
 ghost use Rattle.rulebook.specs.Numbers.{priceReturned, trancheReturned, profileRefused, profileReturned};
 ghost use Rattle.rulebook.specs.Calls.{priceCall, shareCall, trancheCall, profileCall};
 
@@ -75,12 +77,20 @@ pub extern "C" fn robijan_price(mep: &[i64], ieq: &[i64]) -> PriceReturned
     of_price(reference_price(mep, ieq))
 }
 
-// Writes each account's share of the residual load R.
+// Writes each account's share of the residual load R, by the first edition.
 #[no_mangle]
 pub extern "C" fn robijan_share(residual: i64, uegq: &[i64], output: &mut [i64]) -> u64
-    ensures { λ r. ⌜ record { number = r; output = now (output .exit) } ≡ shareCall residual (now (uegq .entry)) (now (output .entry)) ⌝ }
+    ensures { λ r. ⌜ record { number = r; output = now (output .exit) } ≡ shareCall First residual (now (uegq .entry)) (now (output .entry)) ⌝ }
 {
-    answers::share_number(shares(residual, uegq, output))
+    answers::share_number(shares(Edition::First, residual, uegq, output))
+}
+
+// The same by the second edition, whose shares use every kWh.
+#[no_mangle]
+pub extern "C" fn robijan_second_share(residual: i64, uegq: &[i64], output: &mut [i64]) -> u64
+    ensures { λ r. ⌜ record { number = r; output = now (output .exit) } ≡ shareCall Second residual (now (uegq .entry)) (now (output .entry)) ⌝ }
+{
+    answers::share_number(shares(Edition::Second, residual, uegq, output))
 }
 
 // Both tranches of a share.

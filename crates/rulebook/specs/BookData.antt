@@ -9,10 +9,10 @@ use Rattle.rulebook.specs.declared.Terms.{Terms}
 use Rattle.rulebook.specs.Units.{positive}
 use Rattle.rulebook.specs.DayAmount.{AccountData, SettlementData}
 use Rattle.rulebook.specs.Sections.{Figure, figureSection, accountBy, loadBy}
-use Rattle.rulebook.specs.Layout.{accountsWord, lagWord, horizonWord, firstDayWord, nextDayWord, flagIndex, figureIndex, rowWord}
+use Rattle.rulebook.specs.Layout.{accountsWord, lagWord, horizonWord, firstDayWord, nextDayWord, changeDayWord, flagIndex, figureIndex, rowWord}
 
 abbrev pub termsOf : List ℤ → Terms
-termsOf w = record { accounts = positive (word w accountsWord); lag = positive (word w lagWord); horizon = positive (word w horizonWord); first = positive (word w firstDayWord) }
+termsOf w = record { accounts = positive (word w accountsWord); lag = positive (word w lagWord); horizon = positive (word w horizonWord); first = positive (word w firstDayWord); change = positive (word w changeDayWord) }
 
 -- C, the next day to close
 abbrev pub nextDay : List ℤ → ℕ

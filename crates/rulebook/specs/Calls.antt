@@ -11,9 +11,10 @@ use Rattle.integer.specs.Below.{all}
 use Rattle.integer.specs.Words.{word, filled}
 use Rattle.rulebook.specs.declared.Kind.the-variants.{Quantity, Injection, Price}
 use Rattle.rulebook.specs.declared.Kind.{Kind}
+use Rattle.rulebook.specs.declared.Edition.{Edition}
 use Rattle.rulebook.specs.Units.{inRange, between, asQuantity, intervals, positive}
 use Rattle.rulebook.specs.ReferencePrice.{mostFacilities, referencePrice}
-use Rattle.rulebook.specs.Shares.{mostAccounts, leastResidual, mostResidual, share, spareOf}
+use Rattle.rulebook.specs.Shares.{mostAccounts, leastResidual, mostResidual, editionShare, spareOf}
 use Rattle.rulebook.specs.Tranches.{tranche1, tranche2}
 use Rattle.rulebook.specs.Profile.{mostDayKwh, mostContracted, keepsLimits, totalPossible}
 use Rattle.rulebook.specs.declared.PriceReturned.{PriceReturned}
@@ -63,14 +64,15 @@ pub record SharesIn (r : ℤ) (uegq : List ℤ) : Type 0 where
 abbrev pub spareIn : List ℤ → ℕ
 spareIn uegq = spareOf (length uegq) (quantitiesIn uegq)
 
--- one word an account
-unfoldable pub shareWord : ℤ → List ℤ → ℕ → ℤ
-shareWord r uegq a = pos (share r (length uegq) (quantitiesIn uegq) a)
+-- one word an account, by edition
+unfoldable pub shareWord : Edition → ℤ → List ℤ → ℕ → ℤ
+shareWord e r uegq a = pos (editionShare e r (length uegq) (quantitiesIn uegq) a)
 
-unfoldable pub shareCall : ℤ → List ℤ → List ℤ → ShareReturned
-shareCall r uegq output =
+-- both editions are callable, alike but for that word
+unfoldable pub shareCall : Edition → ℤ → List ℤ → List ℤ → ShareReturned
+shareCall e r uegq output =
     cond (shareInput r uegq)
-    (cond (leb (length uegq) (length output)) (record { number = accepted; output = filled (length uegq) (shareWord r uegq) output })
+    (cond (leb (length uegq) (length output)) (record { number = accepted; output = filled (length uegq) (shareWord e r uegq) output })
     (record { number = outputTooShort; output = output }))
     (record { number = outsideRange; output = output })
 

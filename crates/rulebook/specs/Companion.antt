@@ -64,7 +64,7 @@ pub record KeptFrom (n : ℕ) (before after : List ℤ) : Type 0 where
   pub long : length after ≡ length before
   pub words : (m : ℕ) → n ≤ m → word after m ≡ word before m
 
--- an opening: 0 exactly if each parameter is in its range and the words suffice, and then 395, N, L, H, F, F and zeros to the size;
+-- an opening: 0 exactly if each parameter is in its range and the words suffice, and then 395, N, L, H, F, F, 0, X and zeros to the size;
 -- 1 exactly if a parameter is out of range, else 2; every other figure is 0
 pub record OpenTells (o : Terms) (before : List ℤ) (answer : Answer) (after : List ℤ) : Type 0 where
   pub taken : (answer ≡ numbered accepted 0) ↔ (InTerms o × (size o ≤ length before))

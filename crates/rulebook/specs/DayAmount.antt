@@ -1,13 +1,17 @@
--- Document 01, "Day amount": the data by name, and the formula over them. Assumes nothing.
-use mathlib.Core.Bool.{Bool, cond}
-use Prim.Native.Nat.{ℕ, _+_, _-_}
-use lib.Dec.{leb}
+-- Document 01, "Day amount": the data by name, and the formula over them; document 02, P2: the edition of a residual day. Assumes nothing.
+use mathlib.Core.Path.{_≡_}
+use mathlib.Core.Bool.{Bool, cond, not, _&&_}
+use mathlib.Core.Logic.{_≢_, _⊎_}
+use Prim.Native.Nat.{ℕ, _+_, _-_, _≤_, _<_, min}
+use lib.Dec.{leb, eqb}
 use lib.IntN.{ℤ, pos, negℤ, _+ℤ_, _-ℤ_, _*ℤ_}
 use Rattle.integer.specs.Below.{sumℕ, sumℤ}
 use Rattle.rulebook.specs.declared.Terms.{Terms}
-use Rattle.rulebook.specs.Units.{intervals, nearest, thousandthsPerCent}
+use Rattle.rulebook.specs.declared.Edition.{Edition}
+use Rattle.rulebook.specs.declared.Edition.the-variants.{First, Second}
+use Rattle.rulebook.specs.Units.{intervals, positive, nearest, thousandthsPerCent}
 use Rattle.rulebook.specs.ReferencePrice.{referencePrice}
-use Rattle.rulebook.specs.Shares.{share, ShareTotal, spareOf}
+use Rattle.rulebook.specs.Shares.{share, secondShare, editionShare, ShareTotal, spareOf}
 use Rattle.rulebook.specs.Tranches.{tranche1, tranche2}
 
 -- ---- Data
@@ -79,17 +83,17 @@ module _ (load n : ℕ) (x : ℕ → AccountData) where
   unfoldable pub residualLoad : ℤ
   residualLoad = pos load -ℤ pos (hedgeTotal n x)
 
-  -- account a's share of R
-  unfoldable pub rvq : ℕ → ℕ
-  rvq a = share residualLoad n (λ b. x b .uegq) a
+  -- account a's share of R, by edition
+  unfoldable pub rvq : Edition → ℕ → ℕ
+  rvq e a = editionShare e residualLoad n (λ b. x b .uegq) a
 
   -- (RVP1 − V) × tranche 1 + (RVP2 − V) × tranche 2 of the share
-  unfoldable pub residualAmount : ℕ → ℤ
-  residualAmount a = shareAmount (x a) (referencePriceOf (x a)) (rvq a)
+  unfoldable pub residualAmount : Edition → ℕ → ℤ
+  residualAmount e a = shareAmount (x a) (referencePriceOf (x a)) (rvq e a)
 
 -- what these shares total
-abbrev pub IntervalShares : ℕ → ℕ → (ℕ → AccountData) → Type 0
-IntervalShares load n x = ShareTotal (rvq load n x) (residualLoad load n x) n (λ b. x b .uegq)
+abbrev pub IntervalShares : ℕ → ℕ → (ℕ → AccountData) → Edition → Type 0
+IntervalShares load n x e = ShareTotal (rvq load n x e) (residualLoad load n x) n (λ b. x b .uegq)
 
 -- ---- The day
 
@@ -110,12 +114,16 @@ module _ (o : Terms) where
   abbrev pub residualDay : ℕ → ℕ
   residualDay D = D - o .lag
 
+  -- the edition of residual day r: the second from X on, and never if X is 0
+  unfoldable pub editionOf : ℕ → Edition
+  editionOf r = cond (not (eqb (o .change) 0) && leb (o .change) r) Second First
+
   module _ (x : SettlementData) (a D : ℕ) where
     -- account a's amount for closing day D at interval i, in thousandths of a cent: vesting of D, residual of r with V of r
     unfoldable pub intervalAmount : ℕ → ℤ
     intervalAmount i =
         vestingAmount (x .account a D i)
-        +ℤ cond (settlesResidual D) (residualAmount (x .load (residualDay D) i) (o .accounts) (λ b. x .account b (residualDay D) i) a) (pos 0)
+        +ℤ cond (settlesResidual D) (residualAmount (x .load (residualDay D) i) (o .accounts) (λ b. x .account b (residualDay D) i) (editionOf (residualDay D)) a) (pos 0)
 
     unfoldable pub exactAmount : ℤ
     exactAmount = sumℤ intervals intervalAmount
@@ -131,3 +139,23 @@ module _ (o : Terms) where
   -- its exact amount, to which that is near: minus the sum of the exact amounts
   unfoldable pub msslExact : SettlementData → ℕ → ℤ
   msslExact x D = minusSum (o .accounts) (λ a. exactAmount x a D)
+
+  -- the shares of a residual day at an interval
+  module _ (x : SettlementData) (r i : ℕ) where
+    -- R, each UEGQ and each share
+    abbrev pub loadAt : ℤ
+    loadAt = residualLoad (x .load r i) (o .accounts) (λ b. x .account b r i)
+
+    abbrev pub uegqAt : ℕ → ℕ
+    uegqAt b = x .account b r i .uegq
+
+    abbrev pub shareAt : ℕ → ℕ
+    shareAt = rvq (x .load r i) (o .accounts) (λ b. x .account b r i) (editionOf r)
+
+    -- days before X keep the first edition, whose shares total at most the smaller of S and max(R, 0) and fall short of it by fewer kWh than there are
+    -- accounts; days from X on have the second, whose shares total exactly the smaller
+    pub record ResidualDayShares : Type 0 where
+      pub keptShares : (o .change ≡ 0) ⊎ (r < o .change) → (a : ℕ) → shareAt a ≡ share loadAt (o .accounts) uegqAt a
+      pub keptTotal : (o .change ≡ 0) ⊎ (r < o .change) → ShareTotal shareAt loadAt (o .accounts) uegqAt
+      pub changedShares : o .change ≢ 0 → o .change ≤ r → (a : ℕ) → shareAt a ≡ secondShare loadAt (o .accounts) uegqAt a
+      pub changedTotal : o .change ≢ 0 → o .change ≤ r → sumℕ (o .accounts) shareAt ≡ min (spareOf (o .accounts) uegqAt) (positive loadAt)

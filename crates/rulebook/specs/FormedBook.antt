@@ -1,4 +1,4 @@
--- Document 01, "The book": well formed, said in its own figures; FormedBookLaws joins it with the test. Assumes nothing.
+-- Document 01, "The book": well formed, said in its own figures (document 02, P2: word 7); FormedBookLaws joins it with the test. Assumes nothing.
 use mathlib.Core.Path.{_≡_}
 use mathlib.Core.Logic.{_≢_}
 use mathlib.Core.List.{List}
@@ -98,7 +98,8 @@ pub record FormedBook (o : Terms) (C : ℕ) (w : List ℤ) : Type 0 where
   pub first : word w 4 ≡ pos (o .first)
   pub next : word w 5 ≡ pos C
   pub mssl : natAbs (word w 6) ≤ o .accounts * ((C - o .first) * 4800000000000)
-  pub headerZeros : (n : ℕ) → 7 ≤ n → n < 64 → word w n ≡ pos 0
+  pub change : word w 7 ≡ pos (o .change)
+  pub headerZeros : (n : ℕ) → 8 ≤ n → n < 64 → word w n ≡ pos 0
   pub balances : (a : ℕ) → a < o .accounts → natAbs (word w (64 + 8 * a)) ≤ (C - o .first) * 4800000000000
   pub balanceZeros : (a j : ℕ) → a < o .accounts → 1 ≤ j → j < 8 → word w (64 + 8 * a + j) ≡ pos 0
   pub terms : InTerms o

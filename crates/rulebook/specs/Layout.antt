@@ -46,16 +46,20 @@ nextDayWord = 5
 abbrev pub msslWord : ℕ
 msslWord = 6
 
+-- X (document 02, P2)
+abbrev pub changeDayWord : ℕ
+changeDayWord = 7
+
 -- word 0 of every book
 abbrev pub bookMark : ℕ
 bookMark = 395
 
 -- the header's zeros, to word 63
 abbrev pub headerPaddingWords : ℕ
-headerPaddingWords = 57
+headerPaddingWords = 56
 
 abbrev pub headerPadding : ℕ → ℕ
-headerPadding n = 7 + n
+headerPadding n = 8 + n
 
 -- ---- Accounts
 

@@ -19,7 +19,7 @@ use Rattle.rulebook.specs.declared.Terms.{Terms}
 use Rattle.rulebook.specs.Units.{lastDay, intervals}
 use Rattle.rulebook.specs.DayAmount.{minusSum}
 use Rattle.rulebook.specs.Sections.{accountsOf, leastCount, mostCount, perInterval, valueInRange}
-use Rattle.rulebook.specs.Layout.{width, intervalSize, ring, size, InWindow, intervalWord, rowWord, padding, isPadding, intervalTable, accountTable, accountPlace, intervalWords, accountWords, bookMark, markWord, accountsWord, lagWord, horizonWord, firstDayWord, nextDayWord, msslWord, balanceWord, balancePadding, headerPadding, headerPaddingWords, balancePaddingWords}
+use Rattle.rulebook.specs.Layout.{width, intervalSize, ring, size, InWindow, intervalWord, rowWord, padding, isPadding, intervalTable, accountTable, accountPlace, intervalWords, accountWords, bookMark, markWord, accountsWord, lagWord, horizonWord, firstDayWord, nextDayWord, msslWord, changeDayWord, balanceWord, balancePadding, headerPadding, headerPaddingWords, balancePaddingWords}
 use Rattle.rulebook.specs.BookData.{Entries, termsOf, nextDay, entriesOf}
 use Rattle.rulebook.specs.WellFormed.{dayBound}
 use Rattle.rulebook.specs.WindowWalk.{windowSlot}
@@ -87,6 +87,7 @@ pub record HoldsLedger (o : Terms) (b : Ledger) (w : List ℤ) : Type 0 where
   pub first : word w firstDayWord ≡ pos (o .first)
   pub next : word w nextDayWord ≡ pos (o .first + b .closed)
   pub mssl : word w msslWord ≡ b .mssl
+  pub change : word w changeDayWord ≡ pos (o .change)
   pub headerZeros : (n : ℕ) → n < headerPaddingWords → word w (headerPadding n) ≡ pos 0
   -- the accounts
   pub balances : (a : ℕ) → a < o .accounts → word w (balanceWord a) ≡ b .balance a

@@ -11,9 +11,9 @@ use Rattle.rulebook.specs.declared.OpenAnswer.the-variants.{Opened, BadT
 use Rattle.rulebook.specs.Terms.{termsFit}
 use Rattle.rulebook.specs.Layout.{bookMark, size, stored}
 
--- 395, N, L, H, F, C = F
+-- 395, N, L, H, F, C = F, the MSSL's balance, X
 abbrev pub header : Terms → List ℤ
-header o = pos bookMark ∷ pos (o .accounts) ∷ pos (o .lag) ∷ pos (o .horizon) ∷ pos (o .first) ∷ pos (o .first) ∷ []
+header o = pos bookMark ∷ pos (o .accounts) ∷ pos (o .lag) ∷ pos (o .horizon) ∷ pos (o .first) ∷ pos (o .first) ∷ pos 0 ∷ pos (o .change) ∷ []
 
 -- every word of the size is written: the header's, and zeros
 unfoldable pub newBook : Terms → List ℤ → List ℤ

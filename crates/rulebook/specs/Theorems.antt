@@ -11,12 +11,13 @@ use Rattle.integer.specs.Words.{word}
 use Rattle.integer.specs.Nearest.{IsNearest}
 use Rattle.integer.specs.laws.NearestLaws.{nearest-is}
 use Rattle.rulebook.specs.declared.Terms.{Terms}
+use Rattle.rulebook.specs.declared.Edition.{Edition}
 use Rattle.rulebook.specs.declared.Section.{Section}
 use Rattle.rulebook.specs.declared.Verdict.the-variants.{Accepted}
 use Rattle.rulebook.specs.Units.{lastDay, intervals, nearest}
-use Rattle.rulebook.specs.Shares.{shareOf, share, ShareTotal, RuleShare}
+use Rattle.rulebook.specs.Shares.{shareOf, share, secondShare, ShareTotal, RuleShare, EveryKwh}
 use Rattle.rulebook.specs.Tranches.{TrancheSplit}
-use Rattle.rulebook.specs.DayAmount.{AccountData, SettlementData, exactAmount, postedAmount, msslAmount, IntervalShares, msslExact}
+use Rattle.rulebook.specs.DayAmount.{AccountData, SettlementData, exactAmount, postedAmount, msslAmount, IntervalShares, ResidualDayShares, msslExact}
 use Rattle.rulebook.specs.Terms.{InTerms}
 use Rattle.rulebook.specs.Sections.{accountsOf}
 use Rattle.rulebook.specs.Layout.{ring, slot, size, width, rowWord, InWindow}
@@ -55,10 +56,11 @@ use Rattle.rulebook.specs.examples.ProfileExamples.{ProfilesTold, profil
 use Rattle.rulebook.specs.examples.CallExamples.{Openings, openings, LentBooks, lent-books}
 use Rattle.rulebook.specs.examples.SubmitExamples.{StoredRows, stored-rows, OverNines, over-nines, SubmittedFile, submitted-file}
 use Rattle.rulebook.specs.examples.HistoryExamples.{Closes, closes-told, NewBooks, new-books}
+use Rattle.rulebook.specs.examples.EditionExamples.{SecondShares, second-shares, Editions, editions}
 use Rattle.rulebook.specs.examples.SearchExamples.{SearchedFlags, searched-flags}
-use Rattle.rulebook.specs.laws.SharesLaws.{share-total, share-rule}
+use Rattle.rulebook.specs.laws.SharesLaws.{share-total, share-rule, every-kwh}
 use Rattle.rulebook.specs.laws.TranchesLaws.{tranche-split}
-use Rattle.rulebook.specs.laws.DayAmountLaws.{interval-shares, posted-within, mssl-within}
+use Rattle.rulebook.specs.laws.DayAmountLaws.{interval-shares, residual-day-shares, posted-within, mssl-within}
 use Rattle.rulebook.specs.laws.WalkLaws.{days-are-places}
 use Rattle.rulebook.specs.laws.WindowLaws.{window-days-apart, slot-day}
 use Rattle.rulebook.specs.laws.FormedBookLaws.{formed-book, book-formed}
@@ -144,7 +146,11 @@ pub record Theorems : Type 0 where
   pub nearestIs : (z : ℤ) (d : ℕ) → 0 < d → IsNearest z d (nearest z d)
   pub shareRule : (r : ℤ) (s u : ℕ) → 0 < s → RuleShare r s u (shareOf r s u)
   pub shareTotal : (r : ℤ) (n : ℕ) (uegq : ℕ → ℕ) → ShareTotal (share r n uegq) r n uegq
-  pub intervalShares : (load n : ℕ) (x : ℕ → AccountData) → IntervalShares load n x
+  -- the second edition's use every kWh
+  pub everyKwh : (r : ℤ) (n : ℕ) (uegq : ℕ → ℕ) → EveryKwh (secondShare r n uegq) r n uegq
+  -- an interval's, of either edition; and of each residual day by its own
+  pub intervalShares : (load n : ℕ) (x : ℕ → AccountData) (e : Edition) → IntervalShares load n x e
+  pub residualDayShares : (o : Terms) (x : SettlementData) (r i : ℕ) → ResidualDayShares o x r i
   pub tranches : (rvq bvq mq : ℕ) → TrancheSplit rvq bvq mq
   -- posted cents are within 500 thousandths of the exact amount, the MSSL's within N × 500
   pub postedWithin : (o : Terms) (x : SettlementData) (D a : ℕ) → natAbs (pos 1000 *ℤ postedAmount o x a D -ℤ exactAmount o x a D) ≤ 500
@@ -158,6 +164,9 @@ pub record Theorems : Type 0 where
   -- R of three accounts; the residual day two days back
   pub residualOfThree : ResidualOfThree
   pub lagOfTwo : LagOfTwo
+  -- shares of the second edition, residual days on each side of X
+  pub secondShares : SecondShares
+  pub editions : Editions
   -- ranges, rows, headers, every word's index, the window, figures by name
   pub ranges : Ranges
   pub rows : RowExamples
@@ -226,7 +235,9 @@ theorems = record {
   nearestIs = nearest-is;
   shareRule = share-rule;
   shareTotal = share-total;
+  everyKwh = every-kwh;
   intervalShares = interval-shares;
+  residualDayShares = residual-day-shares;
   tranches = tranche-split;
   postedWithin = posted-within;
   msslWithin = mssl-within;
@@ -235,6 +246,8 @@ theorems = record {
   boundReached = bound-reached;
   residualOfThree = residual-of-three;
   lagOfTwo = lag-of-two;
+  secondShares = second-shares;
+  editions = editions;
   ranges = ranges;
   rows = row-examples;
   headers = headers;

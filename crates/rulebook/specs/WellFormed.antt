@@ -4,6 +4,7 @@ use mathlib.Core.List.{List}
 use Prim.Native.Nat.{ℕ, suc, _+_, _-_, _*_}
 use lib.IntN.{ℤ, pos, natAbs}
 use lib.Dec.{leb, ltb, eqb}
+use lib.Signed.{leZ}
 use lib.ListN.{length, getD}
 use Rattle.integer.specs.Below.{all, any}
 use Rattle.integer.specs.Words.{word}
@@ -13,7 +14,7 @@ use Rattle.rulebook.specs.declared.Terms.{Terms}
 use Rattle.rulebook.specs.Units.{lastDay, intervals, between}
 use Rattle.rulebook.specs.Terms.{termsFit}
 use Rattle.rulebook.specs.Sections.{valueInRange, perInterval, leastCount, mostCount, figurePlace}
-use Rattle.rulebook.specs.Layout.{bookMark, markWord, firstDayWord, nextDayWord, msslWord, balanceWord, headerPaddingWords, headerPadding, balancePaddingWords, balancePadding, Word, flag, figure, padding, isPadding, intervalTable, accountTable, accountPlace, present, width, wordName, tablePlace, flagAt, intervalLength, ring, size, intervalWord, slot, windowFrom, windowDays}
+use Rattle.rulebook.specs.Layout.{bookMark, markWord, firstDayWord, nextDayWord, msslWord, changeDayWord, balanceWord, headerPaddingWords, headerPadding, balancePaddingWords, balancePadding, Word, flag, figure, padding, isPadding, intervalTable, accountTable, accountPlace, present, width, wordName, tablePlace, flagAt, intervalLength, ring, size, intervalWord, slot, windowFrom, windowDays}
 use Rattle.rulebook.specs.BookData.{termsOf, nextDay}
 
 -- a day's amount is at most so many cents, either way, and can be (`BoundReached`)
@@ -122,9 +123,13 @@ balancesFit w k n = all n (balanceWordsFit w k)
 abbrev pub nextDayFits : List ℤ → Bool
 nextDayFits w = between (word w firstDayWord) (pos (suc lastDay)) (word w nextDayWord)
 
--- 395; N, L, H, F in an opening's ranges, of which none has 0, as `termsOf` reads a word below zero; C; zeros to word 63
+-- N, L, H, F, X in an opening's ranges; `termsOf` reads a word below zero as 0, which only X may be
+unfoldable pub termsWordsFit : List ℤ → Bool
+termsWordsFit w = termsFit (termsOf w) && leZ (pos 0) (word w changeDayWord)
+
+-- 395; the terms; C; zeros to word 63
 unfoldable pub headerFits : List ℤ → Bool
-headerFits w = between (pos bookMark) (pos bookMark) (word w markWord) && termsFit (termsOf w) && nextDayFits w && all headerPaddingWords (λ n. isZero (word w (headerPadding n)))
+headerFits w = between (pos bookMark) (pos bookMark) (word w markWord) && termsWordsFit w && nextDayFits w && all headerPaddingWords (λ n. isZero (word w (headerPadding n)))
 
 -- ---- The book
 

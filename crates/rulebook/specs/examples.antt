@@ -13,6 +13,7 @@ pub mod ProfileExamples
 pub mod CallExamples
 pub mod SubmitExamples
 pub mod HistoryExamples
+pub mod EditionExamples
 pub mod SearchExamples
 pub mod EncodingExamples
 pub mod JudgingExamples

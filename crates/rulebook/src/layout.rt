@@ -20,7 +20,9 @@ pub const NEXT_DAY: usize = 5;
 
 pub const MSSL: usize = 6;
 
-pub const HEADER_SPARES: usize = 7;
+pub const CHANGE_DAY: usize = 7;
+
+pub const HEADER_SPARES: usize = 8;
 
 pub const HEADER_WORDS: usize = 64;
 

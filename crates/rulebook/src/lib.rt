@@ -12,13 +12,20 @@ pub enum Kind {
     Price,
 }
 
-// An opening's arguments: N accounts, lag L, horizon H, first day F. Programs in other languages pass it, hence C's layout.
+// An opening's arguments: N accounts, lag L, horizon H, first day F, change day X. Programs in other languages pass it, hence C's layout.
 #[repr(C)]
 pub struct Terms {
     pub accounts: usize,
     pub lag: usize,
     pub horizon: usize,
     pub first: usize,
+    pub change: usize,
+}
+
+// Document 02, P2: how an interval's residual load is shared. The first edition drops the odd kWh, the second shares every one.
+pub enum Edition {
+    First,
+    Second,
 }
 
 // The four sections of a submission file.

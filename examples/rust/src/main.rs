@@ -154,6 +154,7 @@ fn main() -> Result<(), Box<dyn Error>> {
         lag: LAG as usize,
         horizon: HORIZON,
         first: first as usize,
+        change: 0,
     };
 
     // The words are ours: the library says how many a book takes.

@@ -6,11 +6,12 @@ use crate::book::{open, read_header, size, Opening};
 use crate::close::close;
 use crate::history::{History, Key};
 use crate::layout::{
-    ACCOUNT_WORDS, ENTRY_WORDS, ENTRY_ZERO, HEADER_WORDS, METER_FLAG, MSSL_BALANCE, NCC_FLAG,
-    NCC_VALUE, NCC_WORDS, NEXT_DAY, RESIDUAL_FLAG, VESTING_FLAG,
+    ACCOUNT_WORDS, CHANGE_DAY, ENTRY_WORDS, ENTRY_ZERO, HEADER_WORDS, METER_FLAG, MSSL_BALANCE,
+    NCC_FLAG, NCC_VALUE, NCC_WORDS, NEXT_DAY, RESIDUAL_FLAG, VESTING_FLAG,
 };
 use crate::submission::submit;
 use crate::units::{IEQ, NCC_LOAD, PRICE, QUANTITY};
+use crate::variant::Context;
 use std::ops::RangeInclusive;
 
 pub const DAY_BOUND: i64 = 4_800_000_000_000;
@@ -72,7 +73,7 @@ pub struct WordCase {
 
 /// What one word of a well-formed book may and may not be.
 pub fn word_case(book: &[i64], index: usize) -> WordCase {
-    let Some(header) = read_header(book) else {
+    let Some(header) = read_header(Context::RIGHT, book) else {
         return off(&[]);
     };
     let layout = header.layout();
@@ -88,6 +89,7 @@ pub fn word_case(book: &[i64], index: usize) -> WordCase {
             4 => off(&[9_496, 36_525, next_day + 1, 0, i64::MIN, i64::MAX]),
             NEXT_DAY => off(&[first_day - 1, 36_526, 0, i64::MIN, i64::MAX]),
             MSSL_BALANCE => within(-mssl_bound..=mssl_bound),
+            CHANGE_DAY => change_day_case(),
             _ => zero(),
         };
     }
@@ -171,7 +173,25 @@ fn group_case(
     case
 }
 
-fn off(values: &[i64]) -> WordCase {
+/// X in word 7, of any book.
+pub fn change_day_case() -> WordCase {
+    WordCase {
+        off: vec![
+            1,
+            -1,
+            9_496,
+            36_525,
+            -9_497,
+            65_536 + 9_497,
+            (1 << 32) + 9_497,
+            i64::MIN,
+            i64::MAX,
+        ],
+        fine: vec![0, 9_497, 9_498, 20_000, 36_523, 36_524],
+    }
+}
+
+pub(crate) fn off(values: &[i64]) -> WordCase {
     WordCase {
         off: values.to_vec(),
         fine: vec![],

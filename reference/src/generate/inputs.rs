@@ -25,6 +25,7 @@ pub fn opening_bytes(opening: Opening) -> Vec<u8> {
         lag,
         horizon,
         first_day,
+        change_day: _,
     } = opening;
     let [low, high] = (first_day as u16).to_le_bytes();
     vec![accounts as u8, lag as u8, horizon as u8, low, high]

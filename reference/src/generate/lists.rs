@@ -3,8 +3,10 @@
 use super::files::{damaged, Draft, Style, STYLES};
 use super::Rng;
 use crate::book::Opening;
+use crate::edition::NEVER;
 use crate::history::{History, Key};
 use crate::numbers::{Answer, ACCEPTED, NOT_WHOLE, OUT_OF_RANGE};
+use crate::units::LAST_DAY;
 
 pub enum Call {
     Submit { file: Vec<u8>, expected: Answer },
@@ -61,11 +63,25 @@ fn small_opening(rng: &mut Rng) -> Opening {
         _ => rng.between(9_497, 36_524),
     };
     Opening {
-        accounts: rng.pick(&[1, 1, 1, 2, 2, 3]),
+        accounts: rng.pick(&[1, 1, 2, 2, 3, 3]),
         lag: rng.pick(&[1, 1, 1, 2, 2, 3]),
         horizon: rng.pick(&[1, 1, 2, 2, 3]),
+        change_day: change_day(rng, first_day),
         ..Opening::smallest(first_day as u64)
     }
+}
+
+/// X of a book with this first day: never, before it, among the first residual
+/// days, on any later day.
+pub fn change_day(rng: &mut Rng, first_day: i64) -> u64 {
+    let day = match rng.below(10) {
+        0..=1 => return NEVER,
+        2 => rng.between(9_497, first_day),
+        3 => (first_day - 1).max(9_497),
+        4..=8 => (first_day + rng.between(0, 4)).min(LAST_DAY),
+        _ => rng.between(first_day, LAST_DAY),
+    };
+    day as u64
 }
 
 /// Writes a list, knowing what each call does to the history.

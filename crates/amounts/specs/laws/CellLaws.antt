@@ -2,14 +2,10 @@
 use mathlib.Core.Path.{_≡_}
 use Prim.Native.Nat.{ℕ}
 use lib.IntN.{ℤ, pos, _+ℤ_, _-ℤ_, _*ℤ_}
-use Rattle.rulebook.specs.Shares.{shareOf}
 use Rattle.rulebook.specs.Tranches.{tranche1}
 
 pub priced-cong : (price : ℤ) {v v′ : ℤ} {q q′ : ℕ} → v ≡ v′ → q ≡ q′ → (price -ℤ v) *ℤ pos q ≡ (price -ℤ v′) *ℤ pos q′
 priced-cong price e f = cc
-
-pub shareOf-cong : {r r′ : ℤ} (s : ℕ) {u u′ : ℕ} → r ≡ r′ → u ≡ u′ → shareOf r s u ≡ shareOf r′ s u′
-shareOf-cong s e f = cc
 
 pub tranche-cong : {q q′ b b′ m m′ : ℕ} → q ≡ q′ → b ≡ b′ → m ≡ m′ → tranche1 q b m ≡ tranche1 q′ b′ m′
 tranche-cong e f g = cc

@@ -1,20 +1,22 @@
 -- Sizes of what an account has at an interval, and of the running total of two slots. Assumes nothing.
-use mathlib.Core.Path.{_≡_, refl, sym, _∙_}
+use mathlib.Core.Path.{_≡_, refl, sym, ap, _∙_}
 use mathlib.Core.Bool.{Bool, true, false}
 use mathlib.Core.List.{List}
-use Prim.Native.Nat.{ℕ, _+_, _-_, _*_, _≤_, _<_}
+use Prim.Native.Nat.{ℕ, zero, suc, _+_, _-_, _*_, _≤_, _<_}
 use native.Mathlib.Omega.{arith}
 use lib.IntN.{ℤ, pos, natAbs, _+ℤ_}
 use lib.ListN.{length, getD, getD-replicate, take, drop}
 use mir.Syntax.{w64}
 use mir.Val.{SFits}
 use Rattle.integer.specs.Bits.{fits-add}
-use Rattle.integer.specs.Below.{fold, sumℤ}
+use Rattle.integer.specs.Below.{fold, sumℕ, sumℤ}
 use Rattle.integer.specs.Words.{part}
-use Rattle.integer.specs.laws.BelowLaws.{fold-suc, abs-sumℤ, getD-tabulate}
+use Rattle.integer.specs.laws.BelowLaws.{fold-suc, sumℕ-le, abs-sumℤ, getD-tabulate}
 use Rattle.integer.specs.laws.WordsLaws.{row-fits, lent, part-part}
 use Rattle.rulebook.specs.Units.{intervals, mostQuantity}
-use Rattle.rulebook.specs.laws.SharesLaws.{share-cap}
+use Rattle.rulebook.specs.declared.Edition.{Edition}
+use Rattle.rulebook.specs.Shares.{shareBy}
+use Rattle.rulebook.specs.laws.SharesLaws.{share-by-cap}
 use Rattle.rulebook.specs.Layout.{cellPlace, accountWords, intervalLength, intervalOf}
 use Rattle.rulebook.specs.DayAmount.{referencePriceOf, vestingAmount}
 use Rattle.rulebook.specs.laws.TestLaws.{T-path}
@@ -24,7 +26,7 @@ use Rattle.amounts.specs.declared.day.Residuals.{Residuals}
 use Rattle.amounts.specs.declared.day.DayShares.{DayShares}
 use Rattle.amounts.specs.Interval.{residualAt}
 use Rattle.amounts.specs.Total.{absorbed}
-use Rattle.amounts.specs.Day.{cellAt, SlotRanged, DaysRanged, SharesRanged, residualsOf, residualIn, shareIn, sharesOf, sharesIf, cellResidual, amountAt, slotAmount, totalTo}
+use Rattle.amounts.specs.Day.{cellAt, SlotRanged, DaysRanged, SumsRanged, SharesRanged, residualsOf, residualIn, uegqIn, sumIn, shareIn, sharesOf, sharesAfter, cellResidual, amountAt, slotAmount, totalTo}
 
 pub cell-residual-le : (c : List ℤ) → RangedCell c → (share : ℕ) → share ≤ mostQuantity → natAbs (cellResidual c share) ≤ 20000000000000
 cell-residual-le c h share l = let x = h .sized in share-amount-size (cellData c) x (referencePriceOf (cellData c)) (price-sized (cellData c) x) share l
@@ -59,18 +61,53 @@ cell-fits n x r a i h k = omega (arith, r .whole, row-fits i intervals (interval
 
 -- ---- Shares
 
-module _ (n : ℕ) (x : List ℤ) (rs : Residuals) (a : ℕ) where
-  -- account a's share of interval i, read back
-  pub share-in : (i : ℕ) → i < intervals → getD (sharesOf n x rs a .kwh) i 0 ≡ shareIn n x rs a i
+module _ (e : Edition) (n : ℕ) (x : List ℤ) (rs : Residuals) where
+  -- those of account a, one interval's, read back
+  pub shares-read : (before : DayShares) (a i : ℕ) → i < intervals
+      → (getD (sharesOf e n x rs before a .kwh) i 0 ≡ shareIn e n x rs before a i) × (sumIn (sharesOf e n x rs before a) i ≡ sumIn before i + uegqIn n x a i)
   unfolding sharesOf
-  share-in i h = getD-tabulate intervals (shareIn n x rs a) i 0 h
+  shares-read before a i h = (getD-tabulate intervals (shareIn e n x rs before a) i 0 h, getD-tabulate intervals (λ i. sumIn before i + uegqIn n x a i) i 0 h)
 
-  -- no share is above what a quantity can be
-  pub shares-ranged : (due : Bool) → (due ≡ true → SlotRanged n x) → a < n → SharesRanged (sharesIf due n x rs a)
-  shares-ranged true r l i h =
-      let c = cellAt n x a i in
-      omega (arith, share-in i h, share-cap (residualIn rs i .load) (residualIn rs i .spare) (cellData c .uegq), r refl .each i h .cells a l .sized .uegq)
-  shares-ranged false r l i h = omega (arith, getD-replicate {A = ℕ} intervals i 0 0 h)
+  -- where none is due there are none
+  none-after : (a i : ℕ) → i < intervals → sumIn (sharesAfter false e n x rs a) i ≡ 0
+  unfolding sharesAfter
+  none-after zero i h = getD-replicate {A = ℕ} intervals i 0 0 h
+  none-after (suc a) i h = getD-replicate {A = ℕ} intervals i 0 0 h
+
+  -- where a residual is due, the running sums are sums of UEGQ
+  sums-are : (a i : ℕ) → i < intervals → sumIn (sharesAfter true e n x rs a) i ≡ sumℕ a (λ b. uegqIn n x b i)
+  unfolding sharesAfter fold
+  sums-are zero i h = getD-replicate {A = ℕ} intervals i 0 0 h
+  sums-are (suc a) i h = shares-read (sharesAfter true e n x rs a) a i h .1 ∙ ap (λ (s : ℕ). s + uegqIn n x a i) (sums-are a i h)
+
+  -- and a share is the rule's
+  pub share-after : (a i : ℕ) → i < intervals
+      → getD (sharesAfter true e n x rs (suc a) .kwh) i 0 ≡ shareBy e (residualIn rs i .load) (residualIn rs i .spare) (sumℕ a (λ b. uegqIn n x b i)) (uegqIn n x a i)
+  unfolding sharesAfter
+  share-after a i h = shares-read (sharesAfter true e n x rs a) a i h .0
+      ∙ ap (λ (s : ℕ). shareBy e (residualIn rs i .load) (residualIn rs i .spare) s (uegqIn n x a i)) (sums-are a i h)
+
+  module _ (due : Bool) (r : due ≡ true → SlotRanged n x) where
+    -- the sums have room
+    pub sums-ranged : (a : ℕ) → a ≤ n → SumsRanged a (sharesAfter due e n x rs a)
+    sums-ranged a l i h = go due r
+      where
+        go : (b : Bool) → (b ≡ true → SlotRanged n x) → sumIn (sharesAfter b e n x rs a) i ≤ a * mostQuantity
+        go true r = omega (arith, sums-are a i h, sumℕ-le a mostQuantity (λ b. uegqIn n x b i) (λ b k. r refl .each i h .cells b (omega arith) .sized .uegq))
+        go false r = omega (arith, none-after a i h)
+
+    -- no share is above what a quantity can be
+    pub shares-ranged : (a : ℕ) → a < n → SharesRanged (sharesAfter due e n x rs (suc a))
+    shares-ranged a l i h = go due r
+      where
+        go : (b : Bool) → (b ≡ true → SlotRanged n x) → getD (sharesAfter b e n x rs (suc a) .kwh) i 0 ≤ mostQuantity
+        go true r = omega (
+          arith,
+          share-after a i h,
+          share-by-cap e (residualIn rs i .load) (residualIn rs i .spare) (sumℕ a (λ b. uegqIn n x b i)) (uegqIn n x a i),
+          r refl .each i h .cells a l .sized .uegq,
+        )
+        go false r = unfold sharesAfter in omega (arith, getD-replicate {A = ℕ} intervals i 0 0 h)
 
 -- ---- Amounts
 

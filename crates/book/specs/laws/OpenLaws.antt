@@ -28,16 +28,16 @@ unfolding stored
 stored-more w m zero f g e = rw add-zero
 stored-more w m (suc n) f g e = rw (add-suc, stored-more w m n f g e, zero-add, e n)
 
--- the header's six words, then the part from there to the size cleared
-pub header-then-zeros : (o : Terms) (w : List ℤ) → size o ≤ length w → onPart 6 (size o) (λ p. tabulate (length p) (λ k. pos 0)) (stored w 0 6 (word (header o))) ≡ newBook o w
+-- the header's eight words, then the part from there to the size cleared
+pub header-then-zeros : (o : Terms) (w : List ℤ) → size o ≤ length w → onPart 8 (size o) (λ p. tabulate (length p) (λ k. pos 0)) (stored w 0 8 (word (header o))) ≡ newBook o w
 unfolding newBook
 header-then-zeros o w l =
-    let v = stored w 0 6 (word (header o)) in
-    let e : 6 + (size o - 6) ≡ size o = omega (arith, header-inside o) in
-    let m = length-stored w 0 6 (word (header o)) in
-    let p = stored-part v 6 (size o - 6) (λ k. pos 0) (omega arith) in
+    let v = stored w 0 8 (word (header o)) in
+    let e : 8 + (size o - 8) ≡ size o = omega (arith, header-inside o) in
+    let m = length-stored w 0 8 (word (header o)) in
+    let p = stored-part v 8 (size o - 8) (λ k. pos 0) (omega arith) in
     sym (rw e at p)
-    ∙ stored-more w 6 (size o - 6) (word (header o)) (λ k. pos 0) (λ j. sym (List·getD-eq-default (header o) (pos 0) {n = 6 + j} (omega arith)))
+    ∙ stored-more w 8 (size o - 8) (word (header o)) (λ k. pos 0) (λ j. sym (List·getD-eq-default (header o) (pos 0) {n = 8 + j} (omega arith)))
     ∙ ap (λ (n : ℕ). stored w 0 n (word (header o))) e
 
 module _ (o : Terms) (w : List ℤ) where

@@ -16,7 +16,7 @@ use Rattle.integer.specs.Words.{word, filled, onPart}
 use Rattle.rulebook.specs.declared.Terms.{Terms}
 use Rattle.rulebook.specs.Units.{lastDay}
 use Rattle.rulebook.specs.Terms.{InTerms}
-use Rattle.rulebook.specs.DayAmount.{settlesResidual, residualDay, postedAmount, msslAmount}
+use Rattle.rulebook.specs.DayAmount.{settlesResidual, residualDay, editionOf, postedAmount, msslAmount}
 use Rattle.rulebook.specs.Layout.{stored, size, base, msslWord, nextDayWord, balanceWord, slotLength, slotStart}
 use Rattle.rulebook.specs.BookData.{bookData, termsOf, nextDay}
 use Rattle.rulebook.specs.WellFormed.{wellFormed, dayBound}
@@ -66,9 +66,9 @@ module _ (w : List ℤ) (o : Terms) (D : ℕ) (s : Settling w o D) where
   settling-loads = at (λ (o : Terms) (D : ℕ). LoadsRanged (residualsDue o w D)) (loads-ranged w formed left)
 
   -- the amounts posted are the rule book's
-  pub settling-posted : (a : ℕ) → a < o .accounts → slotPosted (o .accounts) (slotWords o w D) (slotWords o w (thenDay o D)) (settlesResidual o D) (residualsDue o w D) a ≡ posted o w D a
+  pub settling-posted : (a : ℕ) → a < o .accounts → slotPosted (editionOf o (thenDay o D)) (o .accounts) (slotWords o w D) (slotWords o w (thenDay o D)) (settlesResidual o D) (residualsDue o w D) a ≡ posted o w D a
   settling-posted =
-      at (λ (o : Terms) (D : ℕ). (a : ℕ) → a < o .accounts → slotPosted (o .accounts) (slotWords o w D) (slotWords o w (thenDay o D)) (settlesResidual o D) (residualsDue o w D) a ≡ posted o w D a)
+      at (λ (o : Terms) (D : ℕ). (a : ℕ) → a < o .accounts → slotPosted (editionOf o (thenDay o D)) (o .accounts) (slotWords o w D) (slotWords o w (thenDay o D)) (settlesResidual o D) (residualsDue o w D) a ≡ posted o w D a)
       (slot-posted-same w formed left)
 
   sized : (a : ℕ) → a < o .accounts → natAbs (posted o w D a) ≤ dayBound
@@ -80,7 +80,7 @@ module _ (w : List ℤ) (o : Terms) (D : ℕ) (s : Settling w o D) where
   module _ (st : List ℤ) (room : o .accounts + 1 ≤ length st) where
     -- the amounts written
     abbrev amounts : List ℤ
-    amounts = filled (o .accounts) (slotPosted (o .accounts) (slotWords o w D) (slotWords o w (thenDay o D)) (settlesResidual o D) (residualsDue o w D)) st
+    amounts = filled (o .accounts) (slotPosted (editionOf o (thenDay o D)) (o .accounts) (slotWords o w D) (slotWords o w (thenDay o D)) (settlesResidual o D) (residualsDue o w D)) st
 
     amounts-same : amounts ≡ stored st 0 (o .accounts) (posted o w D)
     amounts-same = ap (λ (xs : List ℤ). xs ++ drop (o .accounts) st) (tabulate-cong (o .accounts) _ _ settling-posted) ∙ sym (stored-filled st (o .accounts) (posted o w D) (omega arith))

@@ -13,7 +13,7 @@ submission low high n = 0x53 ∷ low ∷ high ∷ replicate n 0
 
 pub record Inputs : Type 0 where
   -- N, L, H and F, its lower byte first
-  pub opening : openingTerms (0x02 ∷ 0x4B ∷ 0x5C ∷ 0x19 ∷ 0x25 ∷ []) ≡ record { accounts = 2; lag = 75; horizon = 92; first = 9497 }
+  pub opening : openingTerms (0x02 ∷ 0x4B ∷ 0x5C ∷ 0x19 ∷ 0x25 ∷ []) ≡ record { accounts = 2; lag = 75; horizon = 92; first = 9497; change = 0 }
   -- commands
   pub none : itemOf [] ≡ End
   pub close : itemOf (0x43 ∷ 0x53 ∷ []) ≡ Close

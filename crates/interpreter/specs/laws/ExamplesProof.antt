@@ -13,8 +13,8 @@ use Rattle.integer.specs.Integer.{twosComplement, minus, withSign}
 use Rattle.rulebook.specs.declared.Terms.{Terms}
 use Rattle.rulebook.specs.Units.{nearest}
 use Rattle.rulebook.specs.ReferencePrice.{average, referencePrice}
-use Rattle.rulebook.specs.Shares.{share}
-use Rattle.rulebook.specs.DayAmount.{referencePriceOf, vestedQuantity, tenderAmount, vestingAmount, residualLoad, rvq, residualAmount, settlesResidual, intervalAmount, exactAmount, postedAmount}
+use Rattle.rulebook.specs.Shares.{share, editionShare}
+use Rattle.rulebook.specs.DayAmount.{referencePriceOf, vestedQuantity, tenderAmount, vestingAmount, residualLoad, rvq, residualAmount, settlesResidual, editionOf, intervalAmount, exactAmount, postedAmount}
 use Rattle.rulebook.specs.Terms.{termsFit}
 use Rattle.rulebook.specs.Layout.{base, ring, intervalSize, size, slot, intervalWord, rowWord}
 use Rattle.rulebook.specs.File.{num, valueAt, rowEnd, rowPos, sectionEnd, sectionRows, fileRows, numberOf, figureOf}
@@ -49,7 +49,7 @@ many = length-replicate 5072 (pos 0)
 -- terms that are in range: a book that fits, and one that is too large
 module _ (n l h : ℕ) (rest : List ℕ) where
   abbrev terms : Terms
-  terms = record { accounts = n; lag = l; horizon = h; first = 9497 }
+  terms = record { accounts = n; lag = l; horizon = h; first = 9497; change = 0 }
 
   abbrev bytes : List ℕ
   bytes = n ∷ l ∷ h ∷ 0x19 ∷ 0x25 ∷ rest
@@ -146,7 +146,7 @@ day-closed = refl
 
 -- the accounts' amounts, and the MSSL's
 day-amount : (formulaAmount two history 0 ≡ pos 2000) × (formulaAmount two history 1 ≡ minus 7)
-unfolding formulaAmount postedAmount exactAmount intervalAmount tenderAmount vestingAmount vestedQuantity residualLoad rvq share residualAmount settlesResidual referencePriceOf referencePrice average nearest withSign inForce latest lastFor acceptedRows closes fold fileRows sectionRows tabulate num rowEnd rowPos sectionEnd turns valueAt twosComplement numberOf figureOf
+unfolding formulaAmount postedAmount exactAmount intervalAmount tenderAmount vestingAmount vestedQuantity residualLoad rvq editionShare share residualAmount settlesResidual editionOf referencePriceOf referencePrice average nearest withSign inForce latest lastFor acceptedRows closes fold fileRows sectionRows tabulate num rowEnd rowPos sectionEnd turns valueAt twosComplement numberOf figureOf
 day-amount = (refl, refl)
 
 day-mssl : negℤ (sumℤ 2 (formulaAmount two history)) ≡ minus 1993

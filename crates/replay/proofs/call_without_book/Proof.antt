@@ -11,6 +11,9 @@ price-requires c κs = search needs
 share-requires : tie.Need-share-requires
 share-requires c κs = search needs
 
+share-requires-2 : tie.Need-share-requires-2
+share-requires-2 c κs = search needs
+
 tranche-requires : tie.Need-tranche-requires
 tranche-requires c κs = search needs
 
@@ -25,7 +28,7 @@ unfolding bookless
 returns c =
     let m = c .before .before .args .command in
     let n = c .before .match .rest in
-    rw (ne-eqb m 86 (n .0 .0 .0 .1), ne-eqb m 82 (n .0 .0 .1), ne-eqb m 84 (n .0 .1), ne-eqb m 81 (n .1)) (c .calendar-call .ensures)
+    rw (ne-eqb m 86 (n .0 .0 .0 .0 .1), ne-eqb m 82 (n .0 .0 .0 .1), ne-eqb m 69 (n .0 .0 .1), ne-eqb m 84 (n .0 .1), ne-eqb m 81 (n .1)) (c .calendar-call .ensures)
 
 returns-2 : tie.Need-returns-2
 unfolding bookless
@@ -43,12 +46,17 @@ returns-5 : tie.Need-returns-5
 unfolding bookless
 returns-5 c = rw (c .before .match .keys4)
 
+returns-6 : tie.Need-returns-6
+unfolding bookless
+returns-6 c = rw (c .before .match .keys5)
+
 pub call-without-book-spec : {M : Type 1} → statement M
 call-without-book-spec =
     tie.close
     (tie.spec
     price-requires
     share-requires
+    share-requires-2
     tranche-requires
     profile-requires
     calendar-call-requires
@@ -56,4 +64,5 @@ call-without-book-spec =
     returns-2
     returns-3
     returns-4
-    returns-5)
+    returns-5
+    returns-6)

@@ -6,6 +6,7 @@ use native.Mathlib.Omega.{arith}
 use lib.IntN.{ℤ}
 use lib.ListN.{length, take, drop, length-append, length-drop}
 use lib.Seq.{take-at, drop-at, length-take-le}
+use Rattle.rulebook.specs.declared.Edition.{Edition}
 use Rattle.rulebook.specs.Close.{closed}
 use Rattle.rulebook.specs.Calls.{shareCall}
 use Rattle.replay.specs.Fields.{wordsIn, ListRead}
@@ -43,17 +44,17 @@ module _ (n : ℕ) (xs ys : List ℤ) (within : n ≤ length xs) (same : length 
         beyond = beyond-back n xs ys within same;
       }
 
-  pub shared-of : {r s : ℤ} (m : ℕ) (uegqs uegqsAfter : List ℤ)
-      → r ≡ s → m ≤ length uegqsAfter → drop m uegqsAfter ≡ drop m uegqs → ys ≡ shareCall r (take m uegqsAfter) (take n xs) .output
-      → SharedFrom s uegqs xs uegqsAfter (ys ++ drop n xs)
-  shared-of m uegqs uegqsAfter e h b w =
+  pub shared-of : {k : Edition} {r s : ℤ} (m : ℕ) (uegqs uegqsAfter : List ℤ)
+      → r ≡ s → m ≤ length uegqsAfter → drop m uegqsAfter ≡ drop m uegqs → ys ≡ shareCall k r (take m uegqsAfter) (take n xs) .output
+      → SharedFrom k s uegqs xs uegqsAfter (ys ++ drop n xs)
+  shared-of {k} m uegqs uegqsAfter e h b w =
       record {
         listed = m;
         listed-within = h;
         listed-beyond = b;
         count = n;
         within = within;
-        words = first-back n xs ys within same ∙ w ∙ ap (λ x. shareCall x (take m uegqsAfter) (take n xs) .output) e;
+        words = first-back n xs ys within same ∙ w ∙ ap (λ x. shareCall k x (take m uegqsAfter) (take n xs) .output) e;
         beyond = beyond-back n xs ys within same;
       }
 

@@ -2,6 +2,7 @@
 use mathlib.Core.Path.{_≡_, refl, sym, ap, _∙_, subst}
 use mathlib.Core.Bool.{Bool, true, false}
 use mathlib.Core.List.{List, []}
+use mathlib.Core.Logic.{⊎-elim}
 use Prim.Native.Nat.{ℕ, _+_, _*_, _≤_, _<_}
 use native.Mathlib.Omega.{arith}
 use borrow.Author.Tests.{lt-ltb, le-ltb}
@@ -9,6 +10,7 @@ use lib.Dec.{T}
 use lib.IntN.{ℤ, pos, natAbs}
 use lib.ListN.{length, set}
 use lib.Seq.{getD-set-same, getD-set-other}
+use Rattle.integer.specs.Integer.{minus}
 use Rattle.integer.specs.Below.{fold, tabulate, turns}
 use Rattle.integer.specs.Words.{word}
 use Rattle.rulebook.specs.declared.Terms.{Terms}
@@ -32,8 +34,12 @@ use Rattle.rulebook.specs.laws.StartLaws.{new-state, opening-told}
 
 -- ---- Openings
 
+-- N, L, H, F, without a change day; X, of two accounts with L = H = 1 and F = 20,000
 abbrev terms : ℕ → ℕ → ℕ → ℕ → Terms
-terms n l h f = record { accounts = n; lag = l; horizon = h; first = f }
+terms n l h f = record { accounts = n; lag = l; horizon = h; first = f; change = 0 }
+
+abbrev changing : ℕ → Terms
+changing x = record { accounts = 2; lag = 1; horizon = 1; first = 20000; change = x }
 
 -- what an opening of any words returns
 abbrev opens : Terms → ℕ → Type 0
@@ -49,6 +55,11 @@ pub record Openings : Type 0 where
   pub earlyFirst : opens (terms 2 1 1 9496) 1
   pub lateFirst : opens (terms 2 1 1 36525) 1
   pub most : termsFit (terms 32 75 92 36524) ≡ true
+  -- X is 0 or from 9,497 to 36,524; 1 comes before 2
+  pub noChange : opens (changing 1) 1
+  pub earlyChange : opens (changing 9496) 1
+  pub lateChange : opens (changing 36525) 1
+  pub changes : (termsFit (changing 0) ≡ true) × (termsFit (changing 9497) ≡ true) × (termsFit (changing 36524) ≡ true)
   pub short : (w : List ℤ) → length w ≡ 5071 → ofOpen (opened two w .answer) ≡ numbered 2 0
   pub enough : (w : List ℤ) → 5072 ≤ length w → ofOpen (opened two w .answer) ≡ numbered 0 0
 
@@ -64,6 +75,10 @@ openings = record {
   earlyFirst = λ w. refl;
   lateFirst = λ w. refl;
   most = refl;
+  noChange = λ w. refl;
+  earlyChange = λ w. refl;
+  lateChange = λ w. refl;
+  changes = (refl, refl, refl);
   short = λ w e. opening-told two w (opened two w .words) (opened two w .answer) (record { answered = refl; bookAfter = refl }) .short .1 (in-two, omega (arith, places .sizeTwo));
   enough = λ w e. opening-told two w (opened two w .words) (opened two w .answer) (record { answered = refl; bookAfter = refl }) .taken .1 (in-two, omega (arith, places .sizeTwo));
 }
@@ -74,6 +89,10 @@ pub record LentBooks : Type 0 where
   -- word 0 is 394
   pub submitMark : (w : List ℤ) (file : List ℕ) → word w 0 ≡ pos 394 → ofSubmit (submitted w file .answer) ≡ numbered 3 0
   pub closeMark : (w statement : List ℤ) → word w 0 ≡ pos 394 → ofClose (closed w statement .answer) ≡ numbered 3 0
+  -- X in word 7 is no day from 9,497 to 36,524: 1, and below zero
+  pub submitChange : (w : List ℤ) (file : List ℕ) → word w 7 ≡ pos 1 → ofSubmit (submitted w file .answer) ≡ numbered 3 0
+  pub closeChange : (w statement : List ℤ) → word w 7 ≡ pos 1 → ofClose (closed w statement .answer) ≡ numbered 3 0
+  pub changeBelowZero : (w statement : List ℤ) → word w 7 ≡ minus 9500 → ofClose (closed w statement .answer) ≡ numbered 3 0
   -- an account's eighth word is 1: word 71 of any book, word 79 of two accounts, 319 of 32
   pub submitPadding : (w : List ℤ) (file : List ℕ) → word w 71 ≡ pos 1 → ofSubmit (submitted w file .answer) ≡ numbered 3 0
   pub closePadding : (w statement : List ℤ) → word w 71 ≡ pos 1 → ofClose (closed w statement .answer) ≡ numbered 3 0
@@ -92,6 +111,20 @@ pub record LentBooks : Type 0 where
 not-formed : (w : List ℤ) → word w 0 ≡ pos 394 → wellFormed w ≡ false
 unfolding wellFormed fits headerFits
 not-formed w e = rw e refl
+
+-- X has no such value
+no-change : (w : List ℤ) → (T (wellFormed w) → ⊥) → wellFormed w ≡ false
+no-change w h = go (wellFormed w) refl
+  where
+    go : (b : Bool) → wellFormed w ≡ b → b ≡ false
+    go true x = absurd (h (subst T (sym x) tt))
+    go false x = refl
+
+change-of-one : (w : List ℤ) → word w 7 ≡ pos 1 → T (wellFormed w) → ⊥
+change-of-one w e t = let x = ap natAbs (sym e ∙ formed-book w t .change) in ⊎-elim (λ h. omega (arith, x, h)) (λ h. omega (arith, x, h .0)) (formed-book w t .terms .change)
+
+change-below : (w : List ℤ) → word w 7 ≡ minus 9500 → T (wellFormed w) → ⊥
+change-below w e t = let x = ap positive (sym e ∙ formed-book w t .change) in let y = ap natAbs (sym e ∙ formed-book w t .change) in omega (arith, x, y)
 
 -- account a's eighth word is used: not well formed
 padding-used : (w : List ℤ) (a : ℕ) → (T (wellFormed w) → a < termsOf w .accounts) → word w (64 + 8 * a + 7) ≡ pos 1 → wellFormed w ≡ false
@@ -117,6 +150,9 @@ unfolding submitted closed
 lent-books = record {
   submitMark = λ w file e. rw (not-formed w e) refl;
   closeMark = λ w statement e. rw (not-formed w e) refl;
+  submitChange = λ w file e. rw (no-change w (change-of-one w e)) refl;
+  closeChange = λ w statement e. rw (no-change w (change-of-one w e)) refl;
+  changeBelowZero = λ w statement e. rw (no-change w (change-below w e)) refl;
   submitPadding = λ w file e. rw (padding-used w 0 (λ t. formed-book w t .terms .accountsFrom) e) refl;
   closePadding = λ w statement e. rw (padding-used w 0 (λ t. formed-book w t .terms .accountsFrom) e) refl;
   secondPadding = λ w statement n e. rw (padding-used w 1 (λ t. omega arith) e) refl;

@@ -40,7 +40,7 @@ pub record BookRead : Type 0 where
   -- the next interval, 52 words later
   pub nextInterval : quantities (bookData two counted .account 1 9497 1) ≡ 161 ∷ 163 ∷ 165 ∷ 167 ∷ 169 ∷ 179 ∷ 180 ∷ []
   pub loads : (bookData two counted .load 9497 0 ≡ 80) × (bookData two counted .load 9497 1 ≡ 132)
-  pub terms : termsOf counted ≡ record { accounts = 1; lag = 2; horizon = 3; first = 4 }
+  pub terms : termsOf counted ≡ record { accounts = 1; lag = 2; horizon = 3; first = 4; change = 7 }
   pub next : nextDay counted ≡ 5
 
 pub book-read : BookRead

@@ -2,7 +2,8 @@
 use mathlib.Core.Path.{_≡_, refl}
 use mathlib.Core.Bool.{Bool, true, false}
 use mathlib.Core.List.{List, [], _∷_, _++_}
-use Prim.Native.Nat.{ℕ, _+_}
+use mathlib.Core.Logic.{inl}
+use Prim.Native.Nat.{ℕ, _+_, _≤_}
 use native.Mathlib.Omega.{arith}
 use lib.IntN.{ℤ, pos, _+ℤ_, _-ℤ_}
 use lib.ListN.{replicate, getD}
@@ -14,7 +15,7 @@ use Rattle.rulebook.specs.declared.Terms.{Terms}
 use Rattle.rulebook.specs.Terms.{termsFit, InTerms}
 use Rattle.rulebook.specs.Sections.{valueInRange}
 use Rattle.rulebook.specs.Layout.{base, balanceWord}
-use Rattle.rulebook.specs.WellFormed.{rowFits, rowBlank, rowCounts, headerFits, balanceFits, balanceWordsFit}
+use Rattle.rulebook.specs.WellFormed.{rowFits, rowBlank, rowCounts, termsWordsFit, headerFits, balanceFits, balanceWordsFit}
 use Rattle.rulebook.specs.examples.Figures.{accounts}
 
 -- ---- Terms
@@ -26,15 +27,28 @@ two = accounts 2
 abbrev pub one : Terms
 one = accounts 1
 
+in-terms : (n : ℕ) → 1 ≤ n → n ≤ 32 → InTerms (accounts n)
+in-terms n h k = record {
+  accountsFrom = h;
+  accountsTo = k;
+  lagFrom = omega arith;
+  lagTo = omega arith;
+  horizonFrom = omega arith;
+  horizonTo = omega arith;
+  firstFrom = omega arith;
+  firstTo = omega arith;
+  change = inl refl;
+}
+
 pub in-two : InTerms two
-in-two = omega arith
+in-two = in-terms 2 (omega arith) (omega arith)
 
 pub in-one : InTerms one
-in-one = omega arith
+in-one = in-terms 1 (omega arith) (omega arith)
 
 -- N = 3, L = 2, H = 3
 abbrev pub three : Terms
-three = record { accounts = 3; lag = 2; horizon = 3; first = 9497 }
+three = record { accounts = 3; lag = 2; horizon = 3; first = 9497; change = 0 }
 
 abbrev pub zeros : ℕ → List ℕ
 zeros n = replicate n 0
@@ -109,9 +123,13 @@ row-examples = record {
   loadAbsent = refl;
 }
 
--- a header, N, L, H, F, C and the words after
+-- a header: 395, N, L, H, F, C and the words after, of which the first is the MSSL's balance, the second X
 abbrev headed : ℤ → ℤ → ℤ → ℤ → ℤ → ℤ → List ℤ → Bool
 headed m n l h f c more = headerFits (m ∷ n ∷ l ∷ h ∷ f ∷ c ∷ more)
+
+-- F = 20,000, and X
+abbrev changing : ℤ → Bool
+changing x = headed (pos 395) (pos 2) (pos 1) (pos 1) (pos 20000) (pos 20000) (pos 0 ∷ x ∷ [])
 
 pub record Headers : Type 0 where
   pub fine : headed (pos 395) (pos 32) (pos 75) (pos 92) (pos 9497) (pos 36525) (minus 7 ∷ []) ≡ true
@@ -124,13 +142,17 @@ pub record Headers : Type 0 where
   pub belowZero : headed (pos 395) (minus 2) (pos 1) (pos 1) (pos 9497) (pos 9497) [] ≡ false
   pub beforeFirst : headed (pos 395) (pos 2) (pos 1) (pos 1) (pos 9498) (pos 9497) [] ≡ false
   pub pastLast : headed (pos 395) (pos 2) (pos 1) (pos 1) (pos 9497) (pos 36526) [] ≡ false
+  -- X is 0 or from 9,497 to 36,524, before F or after it
+  pub changes : (changing (pos 9497) ≡ true) × (changing (pos 20000) ≡ true) × (changing (pos 36524) ≡ true)
+  pub noChanges : (changing (pos 1) ≡ false) × (changing (pos 9496) ≡ false) × (changing (pos 36525) ≡ false)
+  pub changeBelowZero : (changing (minus 1) ≡ false) × (changing (minus 20000) ≡ false)
   pub lastPaddingUsed : headed (pos 395) (pos 2) (pos 1) (pos 1) (pos 9497) (pos 9497) (replicate 57 (pos 0) ++ (pos 1 ∷ [])) ≡ false
   -- words 6 and 64 are balances
   pub balances : headed (pos 395) (pos 2) (pos 1) (pos 1) (pos 9497) (pos 9497) (pos 1 ∷ replicate 57 (pos 0) ++ (pos 1 ∷ [])) ≡ true
-  pub paddingUsed : headed (pos 395) (pos 2) (pos 1) (pos 1) (pos 9497) (pos 9497) (pos 0 ∷ pos 1 ∷ []) ≡ false
+  pub paddingUsed : headed (pos 395) (pos 2) (pos 1) (pos 1) (pos 9497) (pos 9497) (pos 0 ∷ pos 0 ∷ pos 1 ∷ []) ≡ false
 
 pub headers : Headers
-unfolding headerFits termsFit fold
+unfolding headerFits termsWordsFit termsFit fold
 headers = record {
   fine = refl;
   wrongMark = refl;
@@ -142,6 +164,9 @@ headers = record {
   belowZero = refl;
   beforeFirst = refl;
   pastLast = refl;
+  changes = (refl, refl, refl);
+  noChanges = (refl, refl, refl);
+  changeBelowZero = (refl, refl);
   lastPaddingUsed = refl;
   balances = refl;
   paddingUsed = refl;

@@ -1,4 +1,4 @@
--- Document 01, "Figures": the starred cases as one list, and the theorem that the definitions give each. Assumes nothing.
+-- Document 01, "Figures": the starred cases as one list, with document 02's figure of P2, and the theorem that the definitions give each. Assumes nothing.
 use mathlib.Core.Path.{_≡_, refl}
 use mathlib.Core.Bool.{cond}
 use mathlib.Core.List.{List, [], _∷_}
@@ -12,7 +12,7 @@ use Rattle.integer.specs.Words.{word}
 use Rattle.rulebook.specs.declared.Terms.{Terms}
 use Rattle.rulebook.specs.Units.{nearest, thousandthsPerCent}
 use Rattle.rulebook.specs.ReferencePrice.{average, referencePrice}
-use Rattle.rulebook.specs.Shares.{share, shareOf}
+use Rattle.rulebook.specs.Shares.{share, shareOf, secondShare, secondShareOf}
 use Rattle.rulebook.specs.Tranches.{tranche1, tranche2}
 use Rattle.rulebook.specs.DayAmount.{AccountData, referencePriceOf, tenderAmount, vestingAmount, settlesResidual, intervalAmount, exactAmount, postedAmount}
 
@@ -43,13 +43,14 @@ nothing = accountData 0 (pos 0) [] [] (pos 0 ∷ []) (pos 0 ∷ []) 0 0 (pos 0) 
 
 -- N accounts, L = H = 1, first day 9,497
 abbrev pub accounts : ℕ → Terms
-accounts n = record { accounts = n; lag = 1; horizon = 1; first = 9497 }
+accounts n = record { accounts = n; lag = 1; horizon = 1; first = 9497; change = 0 }
 
 -- ---- The starred cases
 
 pub data Case : Type 0 where
-  -- R, each UEGQ; each share
+  -- R, each UEGQ; each share, and by the second edition
   shares : ℤ → List ℕ → List ℕ → Case
+  secondShares : ℤ → List ℕ → List ℕ → Case
   -- RVQ, BVQ, MQ; tranche 1, tranche 2
   tranches : ℕ → ℕ → ℕ → ℕ → ℕ → Case
   -- each MEP, each IEQ; V
@@ -61,6 +62,7 @@ pub data Case : Type 0 where
 
 abbrev pub Right : Case → Type 0
 Right (shares r uegq q) = tabulate (length uegq) (share r (length uegq) (quantities uegq)) ≡ q
+Right (secondShares r uegq q) = tabulate (length uegq) (secondShare r (length uegq) (quantities uegq)) ≡ q
 Right (tranches rvq bvq mq t u) = (tranche1 rvq bvq mq ≡ t) × (tranche2 rvq bvq mq ≡ u)
 Right (price mep ieq v) = referencePrice (length mep) (word mep) (word ieq) ≡ v
 Right (posted bvp v bvq cents) =
@@ -72,6 +74,7 @@ abbrev pub starred : List Case
 starred =
     shares (pos 300) (100 ∷ 200 ∷ 300 ∷ []) (50 ∷ 100 ∷ 150 ∷ [])
     ∷ shares (pos 2) (1 ∷ 1 ∷ 1 ∷ []) (0 ∷ 0 ∷ 0 ∷ [])
+    ∷ secondShares (pos 2) (1 ∷ 1 ∷ 1 ∷ []) (0 ∷ 1 ∷ 1 ∷ [])
     ∷ shares (pos 10) (1 ∷ 2 ∷ 3 ∷ []) (1 ∷ 2 ∷ 3 ∷ [])
     ∷ shares (minus 5) (1 ∷ 2 ∷ 3 ∷ []) (0 ∷ 0 ∷ 0 ∷ [])
     ∷ shares (pos 300) (0 ∷ 0 ∷ 0 ∷ []) (0 ∷ 0 ∷ 0 ∷ [])
@@ -87,5 +90,5 @@ starred =
     ∷ []
 
 pub starred-right : Each Right starred
-unfolding fold tabulate share shareOf tranche1 tranche2 referencePrice average nearest withSign postedAmount exactAmount intervalAmount settlesResidual tenderAmount vestingAmount referencePriceOf
-starred-right = (refl, (refl, (refl, (refl, (refl, ((refl, refl), ((refl, refl), (refl, (refl, (refl, (refl, (refl, (refl, (refl, tt))))))))))))))
+unfolding fold tabulate share shareOf secondShare secondShareOf tranche1 tranche2 referencePrice average nearest withSign postedAmount exactAmount intervalAmount settlesResidual tenderAmount vestingAmount referencePriceOf
+starred-right = (refl, (refl, (refl, (refl, (refl, (refl, ((refl, refl), ((refl, refl), (refl, (refl, (refl, (refl, (refl, (refl, (refl, tt)))))))))))))))

@@ -29,10 +29,10 @@ use Rattle.rulebook.specs.laws.CompanionProof.{close-tells}
 -- ---- Files of zeros
 
 -- of account a, day 9,497 or 9,498: one vesting row, one meter row, both, one residual row; one NCC row
-abbrev vesting : ℕ → ℕ → List ℕ
+abbrev pub vesting : ℕ → ℕ → List ℕ
 vesting a day = a ∷ day ∷ 0x25 ∷ 0 ∷ zeros 384
 
-abbrev meter : ℕ → ℕ → List ℕ
+abbrev pub meter : ℕ → ℕ → List ℕ
 meter a day = a ∷ day ∷ 0x25 ∷ 1 ∷ zeros 384
 
 abbrev first : ℕ
@@ -58,17 +58,17 @@ abbrev nccFile : ℕ → List ℕ
 nccFile load = zeros 6 ++ (1 ∷ 0 ∷ first ∷ 0x25 ∷ load ∷ zeros 191)
 
 -- a statement of n words
-abbrev words : ℕ → List ℤ
+abbrev pub words : ℕ → List ℤ
 words n = replicate n (pos 7)
 
 -- events, told from their answers, whatever gave these
-abbrev taken : List ℕ → Event
+abbrev pub taken : List ℕ → Event
 taken file = record { call = submit file; answer = numbered 0 0 }
 
 abbrev refused : List ℕ → Event
 refused file = record { call = submit file; answer = numbered 8 0 }
 
-abbrev closedDay : ℕ → ℕ → Event
+abbrev pub closedDay : ℕ → ℕ → Event
 closedDay day count = record { call = close (words 3); answer = record { number = 0; position = 0; day = day; count = count } }
 
 -- two accounts: the first day closed, the second day's own rows, the load of the first
@@ -103,7 +103,7 @@ pub record Closes : Type 0 where
   -- the count alone, of a day before the lag is over and of the next
   pub counts : (residualCount two 9497 ≡ 0) × (residualCount two 9498 ≡ 96)
   -- the last day of all is closed, and no statement is asked for
-  pub finished : closeTold (record { accounts = 1; lag = 1; horizon = 1; first = 36524 }) (closedDay 36524 0 ∷ []) [] ≡ numbered 9 0
+  pub finished : closeTold (record { accounts = 1; lag = 1; horizon = 1; first = 36524; change = 0 }) (closedDay 36524 0 ∷ []) [] ≡ numbered 9 0
   -- the last row accepted is in force
   pub revised : figureIn (inForce (taken (nccFile 5) ∷ taken (nccFile 3) ∷ []) Ncc 0 9497) 0 NccLoad ≡ pos 5
   pub notRevised : figureIn (inForce (refused (nccFile 5) ∷ taken (nccFile 3) ∷ []) Ncc 0 9497) 0 NccLoad ≡ pos 3

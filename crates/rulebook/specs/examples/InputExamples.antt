@@ -7,11 +7,12 @@ use lib.ListN.{replicate}
 use Rattle.integer.specs.Integer.{minus, withSign}
 use Rattle.integer.specs.Below.{fold, tabulate}
 use Rattle.rulebook.specs.declared.PriceAnswer.the-variants.{Priced, PriceRefused}
+use Rattle.rulebook.specs.declared.Edition.the-variants.{First, Second}
 use Rattle.rulebook.specs.declared.ShareAnswer.the-variants.{Shared, ShareRefused, OutputTooShort}
 use Rattle.rulebook.specs.declared.TrancheAnswer.the-variants.{Split, TrancheRefused}
 use Rattle.rulebook.specs.Units.{nearest}
 use Rattle.rulebook.specs.ReferencePrice.{average, referencePrice}
-use Rattle.rulebook.specs.Shares.{share, shareOf}
+use Rattle.rulebook.specs.Shares.{share, shareOf, secondShare, secondShareOf, editionShare}
 use Rattle.rulebook.specs.Tranches.{tranche1, tranche2}
 use Rattle.rulebook.specs.Numbers.{priceReturned, shareNumber, trancheReturned}
 use Rattle.rulebook.specs.Calls.{allInRange, priceInput, priceCall, shareInput, shareWord, shareCall, trancheInput, trancheCall}
@@ -23,9 +24,10 @@ lent n = replicate n (pos 7)
 abbrev three : List ℤ
 three = pos 1 ∷ pos 2 ∷ pos 3 ∷ []
 
--- R, the UEGQ, the words of output; the number, the words after
+-- R, the UEGQ, the words of output; the number, the words after; here both editions are alike
 abbrev shares : ℤ → List ℤ → ℕ → ℕ → List ℤ → Type 0
-shares r uegq n number after = shareCall r uegq (lent n) ≡ record { number = number; output = after }
+shares r uegq n number after =
+    (shareCall First r uegq (lent n) ≡ record { number = number; output = after }) × (shareCall Second r uegq (lent n) ≡ record { number = number; output = after })
 
 -- MEP, IEQ; the number, V
 abbrev price : List ℤ → List ℤ → ℕ → ℤ → Type 0
@@ -86,27 +88,27 @@ pub record CallsTold : Type 0 where
   pub secondTranche : tranches (pos 150) (pos 500) (pos 400) 0 (pos 0) (pos 150)
 
 pub calls-told : CallsTold
-unfolding allInRange priceInput priceCall shareInput shareWord shareCall trancheInput trancheCall fold tabulate share shareOf tranche1 tranche2 referencePrice average nearest withSign
+unfolding allInRange priceInput priceCall shareInput shareWord shareCall trancheInput trancheCall fold tabulate share shareOf secondShare secondShareOf editionShare tranche1 tranche2 referencePrice average nearest withSign
 calls-told = record {
   shareNumbers = (refl, refl, refl);
   priced = λ v. refl;
   priceRefused = refl;
   split = λ t u. refl;
   trancheRefused = refl;
-  residualLeast = refl;
-  residualBelow = refl;
-  residualMost = refl;
-  residualAbove = refl;
-  noAccount = refl;
-  manyAccounts = refl;
-  tooManyAccounts = refl;
-  uegqEnds = refl;
-  uegqBelow = refl;
-  uegqAbove = refl;
-  noRoom = refl;
-  rangeFirst = refl;
-  uegqFirst = refl;
-  beyond = refl;
+  residualLeast = (refl, refl);
+  residualBelow = (refl, refl);
+  residualMost = (refl, refl);
+  residualAbove = (refl, refl);
+  noAccount = (refl, refl);
+  manyAccounts = (refl, refl);
+  tooManyAccounts = (refl, refl);
+  uegqEnds = (refl, refl);
+  uegqBelow = (refl, refl);
+  uegqAbove = (refl, refl);
+  noRoom = (refl, refl);
+  rangeFirst = (refl, refl);
+  uegqFirst = (refl, refl);
+  beyond = (refl, refl);
   noFacility = refl;
   fourFacilities = refl;
   fiveFacilities = refl;

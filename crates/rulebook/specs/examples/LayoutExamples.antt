@@ -81,19 +81,20 @@ places = record {
   dayAfter = refl;
 }
 
--- a new book's header: 395, N, L, H, F, C and zeros to word 63, then the first balance
+-- F near the end, and X before it
+abbrev late : Terms
+late = record { accounts = 3; lag = 2; horizon = 3; first = 36523; change = 9500 }
+
+-- a new book's header: 395, N, L, H, F, C, 0, X and zeros to word 63, then the first balance
 pub record NewHeader : Type 0 where
   pub words : tabulate 65 (word (header three)) ≡ pos 395 ∷ pos 3 ∷ pos 2 ∷ pos 3 ∷ pos 9497 ∷ pos 9497 ∷ replicate 59 (pos 0)
+  pub changing : tabulate 65 (word (header late)) ≡ pos 395 ∷ pos 3 ∷ pos 2 ∷ pos 3 ∷ pos 36523 ∷ pos 36523 ∷ pos 0 ∷ pos 9500 ∷ replicate 57 (pos 0)
 
 pub new-header : NewHeader
 unfolding tabulate
-new-header = record { words = refl }
+new-header = record { words = refl; changing = refl }
 
 -- ---- The window, and which slots have a day of it
-
--- F near the end
-abbrev late : Terms
-late = record { accounts = 3; lag = 2; horizon = 3; first = 36523 }
 
 pub record Windows : Type 0 where
   -- C = F: days 9,497 to 9,499

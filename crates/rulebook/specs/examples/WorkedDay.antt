@@ -28,11 +28,12 @@ use lib.Dec.{eqb}
 use lib.IntN.{pos, _+ℤ_}
 use Rattle.integer.specs.Integer.{minus, withSign}
 use Rattle.integer.specs.Below.{fold, sumℤ, tabulate}
+use Rattle.rulebook.specs.declared.Edition.the-variants.{First}
 use Rattle.rulebook.specs.Units.{nearest}
 use Rattle.rulebook.specs.ReferencePrice.{average, referencePrice}
-use Rattle.rulebook.specs.Shares.{share, shareOf}
+use Rattle.rulebook.specs.Shares.{share, shareOf, editionShare}
 use Rattle.rulebook.specs.Tranches.{tranche1, tranche2}
-use Rattle.rulebook.specs.DayAmount.{AccountData, SettlementData, referencePriceOf, vestedQuantity, tenderAmount, vestingAmount, shareAmount, hedgeTotal, spareGeneration, residualLoad, rvq, residualAmount, settlesResidual, intervalAmount, exactAmount, postedAmount, msslAmount}
+use Rattle.rulebook.specs.DayAmount.{AccountData, SettlementData, referencePriceOf, vestedQuantity, tenderAmount, vestingAmount, shareAmount, hedgeTotal, spareGeneration, residualLoad, rvq, residualAmount, settlesResidual, editionOf, intervalAmount, exactAmount, postedAmount, msslAmount}
 use Rattle.rulebook.specs.examples.Figures.{accountData, nothing, accounts}
 
 -- data at intervals 0, 20 and 47, none between
@@ -74,16 +75,16 @@ pub record WorkedDay : Type 0 where
   pub posted1 : postedAmount (accounts 2) worked 1 9498 ≡ minus 2
   pub mssl : msslAmount (accounts 2) worked 9498 ≡ minus 6922
   -- in interval 47 of r account 1's tender of 8 counts in R
-  pub tenderAlone : tabulate 2 (rvq 58 2 (λ b. residual b 47)) ≡ 15 ∷ 5 ∷ []
+  pub tenderAlone : tabulate 2 (rvq 58 2 (λ b. residual b 47) First) ≡ 15 ∷ 5 ∷ []
   -- account 0's vesting of D and residual of r in thousandths, and what they would come to if rounded apart
   pub vesting0 : sumℤ 48 (λ i. vestingAmount (closing 0 i)) ≡ pos 7158400
-  pub residual0 : sumℤ 48 (λ i. residualAmount (worked .load 9497 i) 2 (λ b. residual b i) 0) ≡ minus 234900
+  pub residual0 : sumℤ 48 (λ i. residualAmount (worked .load 9497 i) 2 (λ b. residual b i) First 0) ≡ minus 234900
   pub apart : nearest (pos 7158400) 1000 +ℤ nearest (minus 234900) 1000 ≡ pos 6923
   -- r is F: its own close settles no residual. Account 1: 4897 × 200 − 700 × 15 + 500 × 8 = 972,900
   pub firstDay : postedAmount (accounts 2) worked 1 9497 ≡ pos 973
 
 pub worked-day : WorkedDay
-unfolding fold tabulate share shareOf tranche1 tranche2 referencePrice average nearest withSign msslAmount postedAmount exactAmount intervalAmount settlesResidual tenderAmount vestingAmount vestedQuantity hedgeTotal spareGeneration residualLoad rvq shareAmount residualAmount referencePriceOf
+unfolding fold tabulate share shareOf editionShare tranche1 tranche2 referencePrice average nearest withSign msslAmount postedAmount exactAmount intervalAmount settlesResidual editionOf tenderAmount vestingAmount vestedQuantity hedgeTotal spareGeneration residualLoad rvq shareAmount residualAmount referencePriceOf
 worked-day = record {
   exact0 = refl;
   exact1 = refl;

@@ -7,11 +7,12 @@ use lib.IntN.{ℤ, pos, _+ℤ_, _-ℤ_, _*ℤ_}
 use lib.Dec.{T}
 use Rattle.integer.specs.laws.BelowLaws.{sumℤ-cong, sumℕ-cong}
 use Rattle.rulebook.specs.declared.Terms.{Terms}
+use Rattle.rulebook.specs.declared.Edition.{Edition}
 use Rattle.rulebook.specs.Units.{nearest}
 use Rattle.rulebook.specs.ReferencePrice.{referencePrice}
-use Rattle.rulebook.specs.Shares.{share}
-use Rattle.rulebook.specs.DayAmount.{AccountData, SettlementData, referencePriceOf, vestedQuantity, tenderAmount, vestingAmount, shareAmount, hedgeTotal, spareGeneration, residualLoad, rvq, residualAmount, settlesResidual, residualDay, intervalAmount, exactAmount, postedAmount}
+use Rattle.rulebook.specs.DayAmount.{AccountData, SettlementData, referencePriceOf, vestedQuantity, tenderAmount, vestingAmount, shareAmount, hedgeTotal, residualLoad, rvq, residualAmount, settlesResidual, residualDay, editionOf, intervalAmount, exactAmount, postedAmount}
 use Rattle.rulebook.specs.laws.ReferencePriceLaws.{price-cong}
+use Rattle.rulebook.specs.laws.SharesLaws.{edition-cong}
 
 -- ---- One interval
 
@@ -56,16 +57,12 @@ module _ (load n : ℕ) (f g : ℕ → AccountData) (e : (b : ℕ) → b < n →
   unfolding residualLoad hedgeTotal
   residual-load-same = rw (sumℕ-cong n (λ b. vestedQuantity (f b)) (λ b. vestedQuantity (g b)) (λ b hb. vested-same (f b) (g b) (e b hb)))
 
-  spare-same : spareGeneration n f ≡ spareGeneration n g
-  unfolding spareGeneration
-  spare-same = sumℕ-cong n (λ b. f b .uegq) (λ b. g b .uegq) (λ b hb. e b hb .uegq)
+  module _ (s : Edition) (a : ℕ) (ha : a < n) where
+    rvq-same : rvq load n f s a ≡ rvq load n g s a
+    unfolding rvq
+    rvq-same = rw residual-load-same (edition-cong s (residualLoad load n g) n (λ b. f b .uegq) (λ b. g b .uegq) (λ b hb. e b hb .uegq) a ha)
 
-  module _ (a : ℕ) (ha : a < n) where
-    rvq-same : rvq load n f a ≡ rvq load n g a
-    unfolding rvq share spareGeneration
-    rvq-same = rw (residual-load-same, spare-same, e a ha .uegq)
-
-    pub residual-same : residualAmount load n f a ≡ residualAmount load n g a
+    pub residual-same : residualAmount load n f s a ≡ residualAmount load n g s a
     unfolding residualAmount shareAmount
     residual-same = rw (rvq-same, price-same (f a) (g a) (e a ha), e a ha .bvq, e a ha .mq, e a ha .rvp1, e a ha .rvp2)
 
@@ -83,12 +80,12 @@ module _ (o : Terms) (g g′ : SettlementData) (D : ℕ) (now : Agree (o .accoun
       (λ i hi. rw (vesting-same (g .account a D i) (g′ .account a D i) (now .accounts a i ha hi)) (go i hi (settlesResidual o D) then)))
     where
       go : (i : ℕ) → i < 48 → (b : Bool) → (T b → Agree (o .accounts) g g′ (residualDay o D))
-          → vestingAmount (g′ .account a D i) +ℤ cond b (residualAmount (g .load (residualDay o D) i) (o .accounts) (λ b. g .account b (residualDay o D) i) a) (pos 0)
-          ≡ vestingAmount (g′ .account a D i) +ℤ cond b (residualAmount (g′ .load (residualDay o D) i) (o .accounts) (λ b. g′ .account b (residualDay o D) i) a) (pos 0)
+          → vestingAmount (g′ .account a D i) +ℤ cond b (residualAmount (g .load (residualDay o D) i) (o .accounts) (λ b. g .account b (residualDay o D) i) (editionOf o (residualDay o D)) a) (pos 0)
+          ≡ vestingAmount (g′ .account a D i) +ℤ cond b (residualAmount (g′ .load (residualDay o D) i) (o .accounts) (λ b. g′ .account b (residualDay o D) i) (editionOf o (residualDay o D)) a) (pos 0)
       go i hi true t =
           let x = residual-same (g .load (residualDay o D) i) (o .accounts) (λ b. g .account b (residualDay o D) i) (λ b. g′ .account b (residualDay o D) i)
-          (λ b hb. t tt .accounts b i hb hi) a ha in
+          (λ b hb. t tt .accounts b i hb hi) (editionOf o (residualDay o D)) a ha in
           let l = t tt .loads i hi in
           ap (λ (y : ℤ). vestingAmount (g′ .account a D i) +ℤ y)
-          (x ∙ ap (λ (y : ℕ). residualAmount y (o .accounts) (λ b. g′ .account b (residualDay o D) i) a) l)
+          (x ∙ ap (λ (y : ℕ). residualAmount y (o .accounts) (λ b. g′ .account b (residualDay o D) i) (editionOf o (residualDay o D)) a) l)
       go i hi false t = refl

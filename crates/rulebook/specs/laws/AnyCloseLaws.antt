@@ -75,6 +75,7 @@ module _ (w : List ℤ) (t : T (wellFormed w)) (k : ℕ) (day : termsOf w .first
     first = held .first;
     next = held .next;
     mssl = refl;
+    change = held .change;
     headerZeros = held .headerZeros;
     balances = λ a x. refl;
     balanceZeros = held .balanceZeros;

@@ -18,7 +18,7 @@ use Rattle.rulebook.specs.declared.Section.{Section}
 use Rattle.rulebook.specs.declared.Terms.{Terms}
 use Rattle.rulebook.specs.DayAmount.{settlesResidual}
 use Rattle.rulebook.specs.Sections.{accountsOf}
-use Rattle.rulebook.specs.Layout.{stored, width, place, intervalSize, slotLength, ring, base, size, slot, intervalWord, slotStart, rowWord, intervalWords, accountWords, markWord, accountsWord, lagWord, horizonWord, firstDayWord, nextDayWord, msslWord, balanceWord, balancePadding, headerPadding, InWindow}
+use Rattle.rulebook.specs.Layout.{stored, width, place, intervalSize, slotLength, ring, base, size, slot, intervalWord, slotStart, rowWord, intervalWords, accountWords, markWord, accountsWord, lagWord, horizonWord, firstDayWord, nextDayWord, msslWord, changeDayWord, balanceWord, balancePadding, headerPadding, InWindow}
 use Rattle.rulebook.specs.BookData.{Entries}
 use Rattle.rulebook.specs.WindowWalk.{windowSlot}
 use Rattle.rulebook.specs.Close.{posted, postedToMssl, balancesGrownBy, balancesGrown, slotBlanked, dayClosed}
@@ -243,6 +243,7 @@ module _ (o : Terms) (p : zero < ring o) (k : ℕ) (g : Entries) (balance : ℕ 
       first = front firstDayWord (omega arith) (omega arith) (omega arith) (omega arith) ∙ h .first;
       next = closed-front o w D nextDayWord (omega arith) ∙ counted-next o w D longer ∙ ap pos (sym (add-suc (o .first) k));
       mssl = closed-front o w D msslWord (omega arith) ∙ counted-mssl o w D longer ∙ ap (λ (x : ℤ). x +ℤ postedToMssl o w D) (h .mssl);
+      change = front changeDayWord (omega arith) (omega arith) (omega arith) (omega arith) ∙ h .change;
       headerZeros = λ n x. front (headerPadding n) (omega arith) (omega arith) (omega arith) (λ a y e. omega arith) ∙ h .headerZeros n x;
       balances = λ a x. closed-front o w D (balanceWord a) (omega arith) ∙ counted-balance o w D longer a x ∙ ap (λ (y : ℤ). y +ℤ posted o w D a) (h .balances a x);
       balanceZeros = λ a j x y. front (balancePadding a j) (omega arith) (omega arith) (omega arith)

@@ -1,8 +1,11 @@
 -- An interval's shares, and posting: posted cents times 1,000 are within 500 thousandths of the exact amount, and the MSSL's within N × 500. Assumes nothing.
-use mathlib.Core.Path.{_≡_}
+use mathlib.Core.Path.{_≡_, refl}
+use mathlib.Core.Bool.{Bool, true, false, cond, not, _&&_}
+use mathlib.Core.Logic.{_≢_, _⊎_, inl, inr}
 use Prim.Native.Nat.{ℕ, _*_, _≤_, _<_}
 use native.Mathlib.Omega.{arith}
-use lib.Dec.{lit<}
+use borrow.Author.Tests.{eq-eqb, ne-eqb, lt-leb, le-leb}
+use lib.Dec.{lit<, eqb}
 use lib.IntN.{ℤ, pos, negℤ, natAbs, _+ℤ_, _-ℤ_, _*ℤ_}
 use Rattle.integer.specs.laws.IntegerLaws.{abs-neg}
 use Rattle.integer.specs.Below.{sumℤ}
@@ -10,13 +13,41 @@ use Rattle.integer.specs.laws.BelowLaws.{abs-sumℤ, sumℤ-linear}
 use Rattle.integer.specs.Ring.{as-diff, diffs, ring}
 use Rattle.integer.specs.laws.NearestLaws.{nearest-is}
 use Rattle.rulebook.specs.declared.Terms.{Terms}
+use Rattle.rulebook.specs.declared.Edition.{Edition}
+use Rattle.rulebook.specs.declared.Edition.the-variants.{First, Second}
 use Rattle.rulebook.specs.Units.{thousandthsPerCent}
-use Rattle.rulebook.specs.DayAmount.{AccountData, SettlementData, residualLoad, rvq, IntervalShares, exactAmount, postedAmount, msslAmount, msslExact}
-use Rattle.rulebook.specs.laws.SharesLaws.{share-total}
+use Rattle.rulebook.specs.Shares.{editionShare}
+use Rattle.rulebook.specs.DayAmount.{AccountData, SettlementData, residualLoad, rvq, IntervalShares, editionOf, loadAt, uegqAt, ResidualDayShares, exactAmount, postedAmount, msslAmount, msslExact}
+use Rattle.rulebook.specs.laws.SharesLaws.{share-total, every-kwh, edition-total}
 
-pub interval-shares : (load n : ℕ) (x : ℕ → AccountData) → IntervalShares load n x
+pub interval-shares : (load n : ℕ) (x : ℕ → AccountData) (e : Edition) → IntervalShares load n x e
 unfolding rvq
-interval-shares load n x = share-total (residualLoad load n x) n (λ b. x b .uegq)
+interval-shares load n x e = edition-total e (residualLoad load n x) n (λ b. x b .uegq)
+
+-- ---- The edition of a residual day
+
+module _ (o : Terms) (r : ℕ) where
+  pub edition-first : (o .change ≡ 0) ⊎ (r < o .change) → editionOf o r ≡ First
+  unfolding editionOf
+  edition-first (inl e) = rw (eq-eqb (o .change) 0 e) refl
+  edition-first (inr h) = rw (lt-leb (o .change) r h) (go (not (eqb (o .change) 0)))
+    where
+      go : (b : Bool) → cond (b && false) Second First ≡ First
+      go true = refl
+      go false = refl
+
+  pub edition-second : o .change ≢ 0 → o .change ≤ r → editionOf o r ≡ Second
+  unfolding editionOf
+  edition-second e h = rw (ne-eqb (o .change) 0 e, le-leb (o .change) r h) refl
+
+pub residual-day-shares : (o : Terms) (x : SettlementData) (r i : ℕ) → ResidualDayShares o x r i
+unfolding rvq editionShare
+residual-day-shares o x r i = record {
+  keptShares = λ h a. rw (edition-first o r h) refl;
+  keptTotal = λ h. rw (edition-first o r h) (share-total (loadAt o x r i) (o .accounts) (uegqAt o x r i));
+  changedShares = λ e h a. rw (edition-second o r e h) refl;
+  changedTotal = λ e h. rw (edition-second o r e h) (every-kwh (loadAt o x r i) (o .accounts) (uegqAt o x r i) .total);
+}
 
 module _ (o : Terms) (x : SettlementData) (D : ℕ) where
   pub posted-within : (a : ℕ) → natAbs (pos thousandthsPerCent *ℤ postedAmount o x a D -ℤ exactAmount o x a D) ≤ 500

@@ -124,6 +124,7 @@ module _ (o : Terms) (t : InTerms o) (b : Ledger) (w : List ℤ) (h : HoldsLedge
     horizon = h .horizon;
     first = h .first;
     next = h .next;
+    change = h .change;
     zeros = h .headerZeros;
     terms = t;
     begun = omega arith;

@@ -37,7 +37,8 @@ module _ (w : List ℤ) (t : T (wellFormed w)) where
         first = h .first;
         next = next-of w t .0;
         mssl = mssl-at w t;
-        headerZeros = λ n a b. subst (λ (m : ℕ). word w m ≡ pos 0) (omega arith) (h .headerZeros (n - 7) (omega arith));
+        change = h .change;
+        headerZeros = λ n a b. subst (λ (m : ℕ). word w m ≡ pos 0) (omega arith) (h .headerZeros (n - 8) (omega arith));
         balances = balance-at w t;
         balanceZeros = λ a j ha x y. subst (λ (m : ℕ). word w m ≡ pos 0) (omega arith) (h .balanceZeros a (j - 1) ha (omega arith));
         terms = opened-of w t;
@@ -57,6 +58,7 @@ module _ (o : Terms) (C : ℕ) (w : List ℤ) (h : FormedBook o C w) where
     horizon = h .horizon;
     first = h .first;
     next = h .next;
+    change = h .change;
     zeros = λ n l. h .headerZeros (headerPadding n) (omega arith) (omega arith);
     terms = h .terms;
     begun = h .begun;

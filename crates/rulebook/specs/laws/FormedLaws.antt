@@ -118,6 +118,7 @@ module _ (w : List ℤ) (t : T (wellFormed w)) where
     first = header-of w t .first;
     next = next-of w t .0 ∙ ap pos (omega (arith, next-of w t .1));
     mssl = refl;
+    change = header-of w t .change;
     headerZeros = header-of w t .zeros;
     balances = λ a x. refl;
     balanceZeros = balance-zeros w t;

@@ -14,7 +14,7 @@ use Rattle.rulebook.specs.declared.Section.{Section}
 use Rattle.rulebook.specs.declared.Section.the-variants.{Vesting, Meter, Residual, Ncc}
 use Rattle.rulebook.specs.declared.Terms.{Terms}
 use Rattle.rulebook.specs.Sections.{accountsOf}
-use Rattle.rulebook.specs.Layout.{width, place, intervalSize, ring, base, slot, intervalWord, rowWord, Word, padding, isPadding, tableOf, accountTable, tablePlace, accountPlace, intervalWords, accountWords, markWord, accountsWord, lagWord, horizonWord, firstDayWord, nextDayWord, msslWord, balanceWord, balancePadding, headerPadding, InWindow}
+use Rattle.rulebook.specs.Layout.{width, place, intervalSize, ring, base, slot, intervalWord, rowWord, Word, padding, isPadding, tableOf, accountTable, tablePlace, accountPlace, intervalWords, accountWords, markWord, accountsWord, lagWord, horizonWord, firstDayWord, nextDayWord, msslWord, changeDayWord, balanceWord, balancePadding, headerPadding, InWindow}
 use Rattle.rulebook.specs.WindowWalk.{windowSlot}
 use Rattle.rulebook.specs.File.{Row}
 use Rattle.rulebook.specs.Submit.{entry, rowStored, rowsStored}
@@ -38,6 +38,7 @@ held-same {o} {b} {c} {w} k f e m h = record {
   first = h .first;
   next = h .next ∙ ap (λ (x : ℕ). pos (o .first + x)) k;
   mssl = h .mssl ∙ m;
+  change = h .change;
   headerZeros = h .headerZeros;
   balances = λ a x. h .balances a x ∙ e a x;
   balanceZeros = h .balanceZeros;
@@ -134,6 +135,7 @@ module _ (o : Terms) (p : zero < ring o) where
       first = front w firstDayWord (omega arith) ∙ h .first;
       next = front w nextDayWord (omega arith) ∙ h .next;
       mssl = front w msslWord (omega arith) ∙ h .mssl;
+      change = front w changeDayWord (omega arith) ∙ h .change;
       headerZeros = λ n x. front w (headerPadding n) (omega arith) ∙ h .headerZeros n x;
       balances = λ a x. front w (balanceWord a) (omega arith) ∙ h .balances a x;
       balanceZeros = λ a j x y. front w (balancePadding a j) (omega arith) ∙ h .balanceZeros a j x y;

@@ -10,7 +10,7 @@ use Rattle.integer.specs.Below.{fold, sumℤ}
 use Rattle.integer.specs.Words.{word}
 use Rattle.rulebook.specs.declared.Section.{Section}
 use Rattle.rulebook.specs.declared.Terms.{Terms}
-use Rattle.rulebook.specs.Layout.{stored, ring, base, size, slot, intervalWord, rowWord, markWord, accountsWord, lagWord, horizonWord, firstDayWord, nextDayWord, msslWord, balanceWord, balancePadding, headerPadding}
+use Rattle.rulebook.specs.Layout.{stored, ring, base, size, slot, intervalWord, rowWord, markWord, accountsWord, lagWord, horizonWord, firstDayWord, nextDayWord, msslWord, changeDayWord, balanceWord, balancePadding, headerPadding}
 use Rattle.rulebook.specs.WindowWalk.{windowSlot}
 use Rattle.rulebook.specs.Opening.{header, newBook}
 use Rattle.rulebook.specs.Ledger.{HoldsLedger}
@@ -30,10 +30,10 @@ module _ (o : Terms) (lent : List ℤ) (p : zero < ring o) (l : size o ≤ lengt
   new-word n h = subst (λ (m : ℕ). word (stored lent 0 (size o) (word (header o))) m ≡ word (header o) n) (zero-add n)
       (stored-in lent 0 (size o) (word (header o)) n (omega arith) h)
 
-  new-zero : (n : ℕ) → n < size o → 6 ≤ n → word (newBook o lent) n ≡ pos 0
+  new-zero : (n : ℕ) → n < size o → 8 ≤ n → word (newBook o lent) n ≡ pos 0
   new-zero n h k = new-word n h ∙ List·getD-eq-default (header o) (pos 0) k
 
-  late : (t i m : ℕ) → 6 ≤ intervalWord o t i m
+  late : (t i m : ℕ) → 8 ≤ intervalWord o t i m
   unfolding intervalWord base
   late t i m = omega arith
 
@@ -47,7 +47,8 @@ module _ (o : Terms) (lent : List ℤ) (p : zero < ring o) (l : size o ≤ lengt
     horizon = new-word horizonWord (omega (arith, base-fits o));
     first = new-word firstDayWord (omega (arith, base-fits o));
     next = new-word nextDayWord (omega (arith, base-fits o)) ∙ ap pos (sym (add-zero (o .first)));
-    mssl = new-zero msslWord (omega (arith, base-fits o)) (omega arith);
+    mssl = new-word msslWord (omega (arith, base-fits o));
+    change = new-word changeDayWord (omega (arith, base-fits o));
     headerZeros = λ n x. new-zero (headerPadding n) (omega (arith, base-fits o)) (omega arith);
     balances = λ a x. new-zero (balanceWord a) (omega (arith, base-fits o)) (omega arith);
     balanceZeros = λ a j x y. new-zero (balancePadding a j) (omega (arith, base-fits o)) (omega arith);
@@ -56,7 +57,7 @@ module _ (o : Terms) (lent : List ℤ) (p : zero < ring o) (l : size o ≤ lengt
     padding = λ t i m ht hi hm. new-zero (intervalWord o t i m) (interval-inside o ht hi (padding-fits o m hm)) (late t i m);
   }
     where
-      row-late : (s : Section) (a d i j : ℕ) → 6 ≤ rowWord o s a d i j
+      row-late : (s : Section) (a d i j : ℕ) → 8 ≤ rowWord o s a d i j
       row-late s a d i j = unfold rowWord in late (slot o d) i _
 
       window-inside : (u : ℕ) → windowSlot o 0 u < ring o

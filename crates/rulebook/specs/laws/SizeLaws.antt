@@ -11,15 +11,15 @@ use Rattle.integer.specs.Below.{sumℕ, sumℤ}
 use Rattle.integer.specs.laws.BelowLaws.{sumℕ-le, abs-sumℤ}
 use Rattle.integer.specs.laws.NearestLaws.{nearest-abs}
 use Rattle.rulebook.specs.declared.Terms.{Terms}
+use Rattle.rulebook.specs.declared.Edition.{Edition}
 use Rattle.rulebook.specs.Units.{mostQuantity, mostLoad, mostPrice, nearest, positive}
 use Rattle.rulebook.specs.ReferencePrice.{weight}
 use Rattle.rulebook.specs.Tranches.{tranche1, tranche2}
-use Rattle.rulebook.specs.Shares.{share}
-use Rattle.rulebook.specs.DayAmount.{AccountData, SettlementData, referencePriceOf, vestedQuantity, tenderAmount, vestingAmount, shareAmount, hedgeTotal, spareGeneration, residualLoad, rvq, residualAmount, settlesResidual, residualDay, intervalAmount, exactAmount, postedAmount}
+use Rattle.rulebook.specs.DayAmount.{AccountData, SettlementData, referencePriceOf, vestedQuantity, tenderAmount, vestingAmount, shareAmount, hedgeTotal, spareGeneration, residualLoad, rvq, residualAmount, settlesResidual, residualDay, editionOf, intervalAmount, exactAmount, postedAmount}
 use Rattle.rulebook.specs.WellFormed.{dayBound}
 use Rattle.rulebook.specs.Bounds.{Sized, SizedDay}
 use Rattle.rulebook.specs.laws.ReferencePriceLaws.{price-size}
-use Rattle.rulebook.specs.laws.SharesLaws.{share-cap}
+use Rattle.rulebook.specs.laws.SharesLaws.{edition-cap}
 use Rattle.rulebook.specs.laws.TranchesLaws.{tranche-split}
 use Rattle.rulebook.specs.laws.AmountLaws.{SameFigures}
 
@@ -153,13 +153,13 @@ module _ (load n : ℕ) (x : ℕ → AccountData) (h : (b : ℕ) → b < n → S
     pub share-product-size : n ≤ 32 → load ≤ mostLoad → positive (residualLoad load n x) * x a .uegq ≤ 10000000000000000
     share-product-size few l = mul-le-mul (residual-load-size few l .1) (h a la .uegq)
 
-    pub rvq-size : rvq load n x a ≤ x a .uegq
-    unfolding rvq share spareGeneration
-    rvq-size = share-cap (residualLoad load n x) (spareGeneration n x) (x a .uegq)
+    pub rvq-size : (e : Edition) → rvq load n x e a ≤ x a .uegq
+    unfolding rvq
+    rvq-size e = edition-cap e (residualLoad load n x) n (λ b. x b .uegq) a
 
-    pub residual-size : natAbs (residualAmount load n x a) ≤ 20000000000000
+    pub residual-size : (e : Edition) → natAbs (residualAmount load n x e a) ≤ 20000000000000
     unfolding residualAmount
-    residual-size = share-amount-size (x a) (h a la) (referencePriceOf (x a)) (price-sized (x a) (h a la)) (rvq load n x a) (omega (arith, rvq-size, h a la .uegq))
+    residual-size e = share-amount-size (x a) (h a la) (referencePriceOf (x a)) (price-sized (x a) (h a la)) (rvq load n x e a) (omega (arith, rvq-size e, h a la .uegq))
 
 -- ---- The day
 
@@ -177,8 +177,8 @@ module _ (o : Terms) (x : SettlementData) (D : ℕ) (now : SizedDay (o .accounts
     unfolding intervalAmount
     interval-size i hi =
         let r = residualDay o D in
-        amount-size (vestingAmount (x .account a D i)) (residualAmount (x .load r i) (o .accounts) (λ b. x .account b r i) a) (settlesResidual o D)
-        (vesting-size (x .account a D i) (now a i la hi)) (λ t. residual-size (x .load r i) (o .accounts) (λ b. x .account b r i) (λ b k. then t b i k hi) a la)
+        amount-size (vestingAmount (x .account a D i)) (residualAmount (x .load r i) (o .accounts) (λ b. x .account b r i) (editionOf o r) a) (settlesResidual o D)
+        (vesting-size (x .account a D i) (now a i la hi)) (λ t. residual-size (x .load r i) (o .accounts) (λ b. x .account b r i) (λ b k. then t b i k hi) a la (editionOf o r))
 
     -- the running total after n intervals
     pub running-size : (n : ℕ) → n ≤ 48 → natAbs (sumℤ n (intervalAmount o x a D)) ≤ n * 100000000000000

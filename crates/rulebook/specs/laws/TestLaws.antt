@@ -1,5 +1,5 @@
 -- A test, of a word or over the numbers below n, and the statement that it decides. Assumes nothing.
-use mathlib.Core.Path.{_≡_, refl, sym, ap, subst}
+use mathlib.Core.Path.{_≡_, refl, sym, ap, ap₂, _∙_, subst}
 use mathlib.Core.Logic.{_⊎_, inl, inr}
 use mathlib.Core.Bool.{Bool, true, false, cond, _&&_, _||_, not, and-assoc}
 use Prim.Native.Nat.{ℕ, zero, suc, _≤_, _<_}
@@ -8,6 +8,7 @@ use native.Mathlib.Omega.{arith}
 use borrow.Author.Tests.{le-ltb, lt-leb}
 use lib.IntN.{ℤ, pos, negsuc}
 use lib.Dec.{T, leb, ltb, le→leb, leb→le, nltb→le}
+use lib.Signed.{leZ}
 use Rattle.integer.specs.Below.{fold, all, any}
 use Rattle.integer.specs.laws.BelowLaws.{fold-cong, fold-each, and-true, all-of}
 use Rattle.integer.specs.laws.CountLaws.{any-at}
@@ -60,6 +61,10 @@ and-middle true false true d = refl
 and-middle true false false d = refl
 and-middle false b c d = refl
 
+-- some tests, then two more
+pub and-then : {a x y : Bool} (b c : Bool) → a ≡ x → (b && c) ≡ y → (a && b && c) ≡ (x && y)
+and-then {a} b c e f = and-assoc a b c ∙ ap₂ _&&_ e f
+
 -- eight tests, by twos
 pub by-twos : (a b c d e f g h : Bool) → (a && b && c && d && e && f && g && h) ≡ ((a && b) && (c && d) && (e && f) && (g && h))
 by-twos a b c d e f g h = rw (← and-assoc (a && b) c d, ← and-assoc (a && b && c && d) e f, ← and-assoc (a && b && c && d && e && f) g h)
@@ -93,6 +98,11 @@ zero-yes e = rw e tt
 pub above-zero : (z : ℤ) → 1 ≤ positive z → z ≡ pos (positive z)
 above-zero (pos n) h = refl
 above-zero (negsuc n) h = absurd (omega arith)
+
+-- a word not below zero
+pub not-below : (z : ℤ) → T (leZ (pos 0) z) → z ≡ pos (positive z)
+not-below (pos n) t = refl
+not-below (negsuc n) t = absurd t
 
 pub between-positive : (a b : ℕ) (z : ℤ) → between (pos (suc a)) (pos b) z ≡ (leb (suc a) (positive z) && leb (positive z) b)
 between-positive a b (pos n) = refl

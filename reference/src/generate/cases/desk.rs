@@ -86,6 +86,15 @@ impl<'a> Desk<'a> {
         self.close_with(words);
     }
 
+    /// Closes a book whose words the history does not know, of which it is told
+    /// that all went as it would have.
+    pub fn close_poked(&mut self) {
+        let words = self.history.accounts() + 1;
+        let (answer, _) = self.history.expected_close(words);
+        self.script.close(self.lent, words);
+        self.history.closed(words, &answer);
+    }
+
     /// Closes, the answer being what the history tells.
     pub fn close_with(&mut self, words: usize) {
         let (answer, cents) = self.history.expected_close(words);

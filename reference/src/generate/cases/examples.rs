@@ -3,6 +3,7 @@
 use super::desk::Desk;
 use super::Script;
 use crate::book::Opening;
+use crate::edition::Edition;
 use crate::frames::Frame;
 use crate::generate::files::{even_row, Draft, Style};
 use crate::history::{METER, VESTING};
@@ -92,6 +93,7 @@ fn figures(script: &mut Script) {
         (10, [0, 0, 0]),
     ] {
         script.push(Frame::Share {
+            edition: Edition::First,
             remaining,
             fill: -1,
             uegqs: uegqs.to_vec(),

@@ -1,6 +1,7 @@
 //! Reference prices, shares and tranches.
 
 use super::Script;
+use crate::edition::Edition;
 use crate::frames::{Frame, LIST_WORDS};
 use crate::generate::Rng;
 use crate::units::{IEQ, PRICE, QUANTITY};
@@ -9,8 +10,8 @@ use std::ops::RangeInclusive;
 pub(super) fn write(script: &mut Script) {
     prices(script);
     price_refusals(script);
-    shares(script);
-    share_refusals(script);
+    shares(script, Edition::First, 260);
+    share_refusals(script, Edition::First);
     tranches(script);
 }
 
@@ -85,8 +86,27 @@ fn price_refusals(script: &mut Script) {
     }
 }
 
-fn shares(script: &mut Script) {
-    for turn in 0..260 {
+/// A share call whose output has any words before it.
+pub(super) fn push_share(
+    script: &mut Script,
+    edition: Edition,
+    remaining: i64,
+    uegqs: Vec<i64>,
+    output: usize,
+) {
+    let fill = script.rng.word();
+    script.push(Frame::Share {
+        edition,
+        remaining,
+        fill,
+        uegqs,
+        output,
+    });
+}
+
+/// Shares of any numbers, the first lists having 1 to 32 accounts.
+pub(super) fn shares(script: &mut Script, edition: Edition, turns: usize) {
+    for turn in 0..turns {
         let rng = &mut script.rng;
         let count = if turn < 32 {
             turn + 1
@@ -115,25 +135,13 @@ fn shares(script: &mut Script) {
             1_000_000_000,
         ]);
         let output = count + rng.below(4);
-        let fill = rng.word();
-        script.push(Frame::Share {
-            remaining,
-            fill,
-            uegqs,
-            output,
-        });
+        push_share(script, edition, remaining, uegqs, output);
     }
 }
 
-fn share_refusals(script: &mut Script) {
+pub(super) fn share_refusals(script: &mut Script, edition: Edition) {
     let push = |script: &mut Script, remaining, uegqs, output| {
-        let fill = script.rng.word();
-        script.push(Frame::Share {
-            remaining,
-            fill,
-            uegqs,
-            output,
-        });
+        push_share(script, edition, remaining, uegqs, output);
     };
     for remaining in [-1_280_000_001, 1_000_000_001, i64::MIN, i64::MAX] {
         push(script, remaining, vec![1, 2], 2);

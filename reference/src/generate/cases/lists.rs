@@ -5,17 +5,13 @@ use super::Script;
 use crate::book::Opening;
 use crate::generate::files::{damaged, Draft, STYLES};
 
-/// Input bytes for all lists.
-const BYTES: usize = 800_000;
+const LISTS: usize = 39;
 
 pub(super) fn write(script: &mut Script) {
-    let end = script.bytes() + BYTES;
-    let mut turn = 0;
-    while script.bytes() < end {
+    for turn in 0..LISTS {
         let opening = small_opening(script, turn);
         let style = STYLES[turn % STYLES.len()];
-        list(&mut Desk::open(script, style, opening));
-        turn += 1;
+        list(&mut Desk::open(script, style, opening), 14);
     }
 }
 
@@ -36,8 +32,9 @@ fn small_opening(script: &mut Script, turn: usize) -> Opening {
     }
 }
 
-fn list(desk: &mut Desk) {
-    for _ in 0..14 {
+/// So many steps, each some calls.
+pub(super) fn list(desk: &mut Desk, steps: usize) {
+    for _ in 0..steps {
         match desk.script.rng.below(100) {
             // A day in full, closed.
             0..=44 => {

@@ -1,6 +1,7 @@
 //! The cases of the test program `replay`: its frames, from fixed seeds.
 
 mod absent;
+mod change_days;
 mod closes;
 mod damages;
 mod dates;
@@ -11,6 +12,7 @@ mod large;
 mod lists;
 mod openings;
 mod profiles;
+mod second_shares;
 mod words;
 
 use super::Rng;
@@ -32,6 +34,8 @@ pub fn cases() -> Vec<Frame> {
     closes::write(&mut script);
     large::write(&mut script);
     profiles::write(&mut script);
+    second_shares::write(&mut script);
+    change_days::write(&mut script);
     script.frames
 }
 
@@ -41,7 +45,6 @@ struct Script {
     rng: Rng,
     frames: Vec<Frame>,
     player: Player,
-    bytes: usize,
 }
 
 impl Script {
@@ -50,16 +53,12 @@ impl Script {
             rng: Rng::new(seed),
             frames: Vec::new(),
             player: Player::new(Context::RIGHT),
-            bytes: 0,
         }
     }
 
     /// Adds a frame and tells the figures of its line.
     fn push(&mut self, frame: Frame) -> Vec<i64> {
         let line = self.player.play(&frame);
-        let mut input = Vec::new();
-        frame.write(&mut input);
-        self.bytes += input.len();
         self.frames.push(frame);
         let figures = line.iter().flat_map(|line| line.split(' ').skip(1));
         figures.filter_map(|figure| figure.parse().ok()).collect()
@@ -81,10 +80,5 @@ impl Script {
             fill,
             statement,
         });
-    }
-
-    /// How many bytes of input there are so far.
-    fn bytes(&self) -> usize {
-        self.bytes
     }
 }

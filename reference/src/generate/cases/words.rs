@@ -4,10 +4,10 @@ use super::desk::Desk;
 use super::Script;
 use crate::book::Opening;
 use crate::frames::Frame;
-use crate::generate::books::word_case;
+use crate::generate::books::{off, word_case, WordCase};
 use crate::generate::files::{even_row, Draft, STYLES};
 use crate::history::{METER, NCC, RESIDUAL, VESTING};
-use crate::layout::{ENTRY_WORDS, HEADER_WORDS, NCC_WORDS};
+use crate::layout::{CHANGE_DAY, ENTRY_WORDS, HEADER_WORDS, NCC_WORDS};
 
 const EIGHT_ZEROS: [u8; 8] = [0; 8];
 
@@ -87,7 +87,12 @@ fn full_intervals(script: &mut Script) {
 fn header_words(desk: &mut Desk) {
     let slots = desk.layout.first_interval_at();
     for index in (0..8).chain([31, 62, 63]).chain(HEADER_WORDS..slots) {
-        word(desk, index, 100, 40);
+        let case = match index {
+            // Some of the bad ones; `change_days` has the others.
+            CHANGE_DAY => off(&[1, -1, i64::MIN, i64::MAX]),
+            _ => word_case(desk.book(), index),
+        };
+        word_of(desk, index, case, 100, 40);
     }
 }
 
@@ -107,8 +112,12 @@ fn slot_words(desk: &mut Desk) {
 
 /// Each value that a word may or may not have, so many in a hundred of them.
 fn word(desk: &mut Desk, index: usize, off: u64, fine: u64) {
-    let kept = desk.book()[index];
     let case = word_case(desk.book(), index);
+    word_of(desk, index, case, off, fine);
+}
+
+fn word_of(desk: &mut Desk, index: usize, case: WordCase, off: u64, fine: u64) {
+    let kept = desk.book()[index];
     let (lent, accounts) = (desk.lent, desk.history.accounts());
     let script = &mut desk.script;
     for value in case.off {

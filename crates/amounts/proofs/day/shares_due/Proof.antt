@@ -4,7 +4,7 @@ use Rattle.amounts.proofs.day.shares_due.Statement.{statement}
 use Rattle.amounts.proofs.day.shares_due.Tie as tie
 
 shares-of-requires : tie.Need-shares-of-requires
-shares-of-requires c κs = let s = c .before in (s .pre .0 (c .if1 .taken), s .pre .1, s .pre .2, s .pre .3)
+shares-of-requires c κs = let s = c .before in (s .pre .0 (c .if1 .taken), s .pre .1, s .pre .2, s .pre .3, s .pre .4)
 
 no-shares-requires : tie.Need-no-shares-requires
 no-shares-requires c κs = search needs

@@ -30,7 +30,7 @@ is-blank-requires c κs = search needs
 
 returns : tie.Need-returns
 unfolding headerFits
-returns c = let s = c .is-blank .ensures ∙ blank-part (c .before .before .before .before .before .args .book .now) 7 57 (omega arith) in cc
+returns c = let s = c .is-blank .ensures ∙ blank-part (c .before .before .before .before .before .args .book .now) 8 56 (omega arith) in cc
 
 pub header-fits-spec : {M : Type 1} → statement M
 header-fits-spec =

@@ -1,4 +1,4 @@
--- `terms_of` meets its contract: none of the four words is below zero.
+-- `terms_of` meets its contract: none of the five words is below zero.
 use mathlib.Core.Path.{ap}
 use native.Mathlib.Omega.{arith}
 use Rattle.integer.specs.Integer.{negative}
@@ -18,6 +18,9 @@ unsigned-at-requires-3 c κs = let h = header-true (c .before .before .args .boo
 unsigned-at-requires-4 : tie.Need-unsigned-at-requires-4
 unsigned-at-requires-4 c κs = let h = header-true (c .before .before .before .args .book .now) (c .before .before .before .pre .1) in (omega arith, ap negative (h .first))
 
+unsigned-at-requires-5 : tie.Need-unsigned-at-requires-5
+unsigned-at-requires-5 c κs = let s = c .before .before .before .before in let h = header-true (s .args .book .now) (s .pre .1) in (omega arith, ap negative (h .change))
+
 returns : tie.Need-returns
 returns c = cc
 
@@ -29,4 +32,5 @@ terms-of-spec =
     unsigned-at-requires-2
     unsigned-at-requires-3
     unsigned-at-requires-4
+    unsigned-at-requires-5
     returns)

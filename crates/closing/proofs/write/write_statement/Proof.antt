@@ -8,7 +8,8 @@ use lib.IntN.{ℤ}
 use lib.ListN.{length, take, drop}
 use Rattle.integer.specs.Words.{part, filled}
 use Rattle.integer.specs.laws.WordsLaws.{lent}
-use Rattle.rulebook.specs.DayAmount.{settlesResidual}
+use Rattle.rulebook.specs.declared.Edition.{Edition}
+use Rattle.rulebook.specs.DayAmount.{settlesResidual, editionOf}
 use Rattle.rulebook.specs.Layout.{slotStart}
 use Rattle.amounts.specs.declared.day.Residuals.{Residuals}
 use Rattle.amounts.specs.Day.{DaysRanged, LoadsRanged, slotPosted}
@@ -31,7 +32,7 @@ slot-start-requires c κs = search needs
 
 -- the call's arguments
 abbrev s₀ : tie.After-post-amounts → tie.Start
-s₀ c = c .before .before .before .before .before .before .before .before .before .before .before
+s₀ c = c .before .before .before .before .before .before .before .before .before .before .before .before
 
 -- where the slot of r starts
 then : (c : tie.After-slot-start2) → c .slot-start2 .result ≡ slotStart (c .before .before .before .before .before .args .terms) (thenDay (c .before .before .before .before .before .args .terms) (c .before .before .before .before .before .args .day))
@@ -96,8 +97,15 @@ residuals c =
     let w = n .before .args .book .now in
     c .residuals-due .ensures ∙ rw (part-is w (then b) (n .slot-length .ensures), b .before .before .before .is-due .ensures)
 
+edition-of-requires : tie.Need-edition-of-requires
+edition-of-requires c κs = search needs
+
+-- r's edition
+edition : (c : tie.After-edition-of) → c .edition-of .result ≡ editionOf (c .before .before .before .before .before .before .before .before .args .terms) (thenDay (c .before .before .before .before .before .before .before .before .args .terms) (c .before .before .before .before .before .before .before .before .args .day))
+edition c = let b = c .before .before .before .before in c .edition-of .ensures ∙ ap (editionOf (b .before .before .before .before .args .terms)) (b .then-day .ensures)
+
 mul-post-amounts : tie.Need-mul-post-amounts
-mul-post-amounts c = omega (arith, today-fits (c .before .before .before .before .before))
+mul-post-amounts c = omega (arith, today-fits (c .before .before .before .before .before .before))
 
 sub-post-amounts : tie.Need-sub-post-amounts
 sub-post-amounts c = search needs
@@ -106,10 +114,10 @@ part-post-amounts-start : tie.Need-part-post-amounts-start
 part-post-amounts-start c = search needs
 
 part-post-amounts-end : tie.Need-part-post-amounts-end
-part-post-amounts-end c = omega (arith, today-fits (c .before .before .before .before .before))
+part-post-amounts-end c = omega (arith, today-fits (c .before .before .before .before .before .before))
 
 mul-post-amounts-2 : tie.Need-mul-post-amounts-2
-mul-post-amounts-2 c = omega (arith, then-fits (c .before .before .before .before))
+mul-post-amounts-2 c = omega (arith, then-fits (c .before .before .before .before .before))
 
 sub-post-amounts-2 : tie.Need-sub-post-amounts-2
 sub-post-amounts-2 c = search needs
@@ -118,18 +126,19 @@ part-post-amounts-start-2 : tie.Need-part-post-amounts-start-2
 part-post-amounts-start-2 c = search needs
 
 part-post-amounts-end-2 : tie.Need-part-post-amounts-end-2
-part-post-amounts-end-2 c = omega (arith, then-fits (c .before .before .before .before))
+part-post-amounts-end-2 c = omega (arith, then-fits (c .before .before .before .before .before))
 
 -- the days that the amounts are posted from, as the rule book has them
 ranged-cong : {n : ℕ} {t u x y : List ℤ} {d e : Bool} → t ≡ u → x ≡ y → d ≡ e → DaysRanged n u y e → DaysRanged n t x d
 ranged-cong a b c h = rw (a, b, c) h
 
-posted-cong : (n : ℕ) {t u x y : List ℤ} {d e : Bool} {r q : Residuals} (st : List ℤ) → t ≡ u → x ≡ y → d ≡ e → r ≡ q → filled n (slotPosted n t x d r) st ≡ filled n (slotPosted n u y e q) st
-posted-cong n st a b c d = rw (a, b, c, d)
+posted-cong : (n : ℕ) {t u x y : List ℤ} {d e : Bool} {f g : Edition} {r q : Residuals} (st : List ℤ) → t ≡ u → x ≡ y → d ≡ e → f ≡ g → r ≡ q
+    → filled n (slotPosted f n t x d r) st ≡ filled n (slotPosted g n u y e q) st
+posted-cong n st a b c d h = rw (a, b, c, d, h)
 
 post-amounts-requires : tie.Need-post-amounts-requires
 post-amounts-requires c κs =
-    let r = c .before .before .before in
+    let r = c .before .before .before .before in
     let b = r .before .before in
     let t = b .before .before in
     let n = t .before .before in
@@ -145,17 +154,18 @@ post-amounts-requires c κs =
 posted : (c : tie.After-post-amounts)
     → c .post-amounts .last .0
     ≡ filled (s₀ c .args .terms .accounts)
-    (slotPosted (s₀ c .args .terms .accounts) (slotWords (s₀ c .args .terms) (s₀ c .args .book .now) (s₀ c .args .day))
+    (slotPosted (editionOf (s₀ c .args .terms) (thenDay (s₀ c .args .terms) (s₀ c .args .day))) (s₀ c .args .terms .accounts) (slotWords (s₀ c .args .terms) (s₀ c .args .book .now) (s₀ c .args .day))
     (slotWords (s₀ c .args .terms) (s₀ c .args .book .now) (thenDay (s₀ c .args .terms) (s₀ c .args .day))) (settlesResidual (s₀ c .args .terms) (s₀ c .args .day)) (residualsDue (s₀ c .args .terms) (s₀ c .args .book .now) (s₀ c .args .day)))
     (s₀ c .args .statement .now)
 posted c =
-    let r = c .before .before .before .before in
+    let k = c .before .before .before .before in
+    let r = k .before in
     let b = r .before .before in
     let t = b .before .before in
     let n = t .before .before in
     let w = n .before .args .book .now in
     c .post-amounts .ensures
-    ∙ posted-cong (n .before .args .terms .accounts) (n .before .args .statement .now) (part-is w (t .slot-start .ensures) (n .slot-length .ensures)) (part-is w (then b) (n .slot-length .ensures)) (t .before .is-due .ensures) (residuals r)
+    ∙ posted-cong (n .before .args .terms .accounts) (n .before .args .statement .now) (part-is w (t .slot-start .ensures) (n .slot-length .ensures)) (part-is w (then b) (n .slot-length .ensures)) (t .before .is-due .ensures) (edition k) (residuals r)
 
 post-mssl-requires : tie.Need-post-mssl-requires
 post-mssl-requires c κs =
@@ -192,6 +202,7 @@ write-statement-spec =
     part-residuals-due-start
     part-residuals-due-end
     residuals-due-requires
+    edition-of-requires
     mul-post-amounts
     sub-post-amounts
     part-post-amounts-start

@@ -9,14 +9,8 @@ use borrow.Author.Needs.{needs}
 use Rattle.replay.proofs.rules_calls.share_to.Statement.{statement}
 use Rattle.replay.proofs.rules_calls.share_to.Tie as tie
 
-robijan-share-requires : tie.Need-robijan-share-requires
-robijan-share-requires c κs = search needs
-
-slice-aggregate-name : tie.Need-slice-aggregate-name
-slice-aggregate-name c = search needs
-
-name-requires : tie.Need-name-requires
-name-requires c κs = search needs
+share-called-requires : tie.Need-share-called-requires
+share-called-requires c κs = search needs
 
 figure-requires : tie.Need-figure-requires
 figure-requires c κs = search needs
@@ -35,18 +29,16 @@ same-length c = search needs
 
 returns : tie.Need-returns
 returns c =
-    let a = c .before .before .before .before .before .before .before .before in
+    let a = c .before .before .before .before .before .before in
     let s = a .before .before in
-    ap (λ (x : ShareReturned). x .output) (a .robijan-share .ensures)
-    ∙ ap (λ (r : ℤ). shareCall r (s .args .uegq .now) (s .args .lent .now) .output) (toZ-ofZ w64 (s .args .r) (s .fits .r))
+    ap (λ (x : ShareReturned). x .output) (a .share-called .ensures)
+    ∙ ap (λ (r : ℤ). shareCall (s .args .edition) r (s .args .uegq .now) (s .args .lent .now) .output) (toZ-ofZ w64 (s .args .r) (s .fits .r))
 
 pub share-to-spec : {M : Type 1} → statement M
 share-to-spec =
     tie.close
     (tie.spec
-    robijan-share-requires
-    slice-aggregate-name
-    name-requires
+    share-called-requires
     figure-requires
     digest-requires
     words-requires

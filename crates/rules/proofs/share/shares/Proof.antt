@@ -41,7 +41,7 @@ put-shares-requires c κs =
     let x : toZ w64 (ofZ w64 (a .r)) ≡ a .r = search needs in
     let t = total-told (shareInput (a .r) (a .uegq .now)) (a .uegq .now) (k .s .given .0 .0) (sym (input m) ∙ k .s .given .1) in
     let s = shares-in (a .r) (a .uegq .now) (t .0) in
-    (rw x (s .residual), t .1, s .quantities, omega arith)
+    (rw x (s .residual), t .1, s .quantities, s .few, omega arith)
 
 enum-told : tie.Need-enum-told
 enum-told c = search needs
