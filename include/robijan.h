@@ -11,7 +11,8 @@
  * amount, in whole cents. Summed over the day's intervals it is what the contracts come to, (contract price - V) * quantity, with V the
  * account's own reference price at that interval; and from day first + lag on, what its share of the load that no contract covered `lag` days
  * earlier comes to, (RVP1 - V) * first part + (RVP2 - V) * second part, with the V, prices and quantities of that earlier day. Shares are whole
- * kWh: those of days before `change` are rounded down (the first edition), those of days from `change` on use every kWh (the second). The day's sum is
+ * kWh. Those of an earlier day before `change`, or of every day where `change` is 0, are rounded down (the first edition); those of an earlier day from
+ * `change` on use every kWh (the second). What counts is the earlier day, not the day closed. The day's sum is
  * rounded once, to the nearest cent, a tie away from zero. The MSSL (the buyer for small consumers) is posted minus the sum of these amounts,
  * so that the balances of a book that only these calls have changed total zero.
  *
@@ -46,9 +47,9 @@
  *
  * CHANGES. The calls of document 01 and its numbers 0 to 14 are as they were, but for what is said here. New with document 02:
  *   P1   robijan_profile, number 15
- *   P2   robijan_second_share; robijan_terms has a fifth field, `change`, so programs that open a book are compiled again: 0, as an initialiser
- *        that leaves the field out gives it, opens the book of before. Word 7 of a book, zero until then, holds it: a book opened before P2 is
- *        one whose `change` is 0.
+ *   P2   robijan_second_share; robijan_terms has a fifth field, `change`: every program that passes it (robijan_open, robijan_book_size) is compiled
+ *        again and sets the field. 0, as an initialiser that leaves the field out gives it, opens the book of before. Word 7 of a book, zero until
+ *        then, holds it: a book opened before P2 is one whose `change` is 0, and keeps the first edition.
  */
 #ifndef ROBIJAN_H
 #define ROBIJAN_H
@@ -96,13 +97,14 @@ typedef struct {
     uint64_t lag;      /* 1 to 75: after how many days the uncovered load of a day is settled (the market rule says 75) */
     uint64_t horizon;  /* 1 to 92: how many days, from the next one to close, rows may be given for */
     uint64_t first;    /* 9,497 to 36,524: the first day to close */
-    uint64_t change;   /* 0, for never, or 9,497 to 36,524: from which day on the uncovered load of a day is shared by the second edition */
+    uint64_t change;   /* 0, for never, or 9,497 to 36,524, before `first` too: from which day on the uncovered load of a day is shared by the second
+                        * edition; no call changes it later */
 } robijan_terms;
 
 /* A book takes 64 + 8 * accounts + 48 * (lag + horizon) * (4 + 24 * accounts) words: 5,072 for 2 accounts, lag 1 and horizon 1, and
  * 6,188,672 (49.5 MB) for the largest. More words may be lent; those beyond are neither read nor written. All words may be read at any time;
  * they are the library's to write. A book that another hand has changed is refused only where its form shows it: ranges, zeros, rows of
- * closed days, bounds of balances. A price or a balance changed within its range is not noticed.
+ * closed days, bounds of balances. A price, a balance or the change day changed within its range is not noticed.
  *
  * LAYOUT, by index:
  *   0        395
@@ -172,14 +174,17 @@ uint64_t robijan_judge(const int64_t *book, size_t book_words);
  * average where all weights are 0; to the nearest cent per MWh, a tie away from zero. Refused: 1. */
 robijan_price_answer robijan_price(const int64_t *mep, size_t meps, const int64_t *ieq, size_t ieqs);
 
-/* Shares the residual load (-1,280,000,000 to 1,000,000,000 kWh) among 1 to 32 accounts in proportion to their spare generation, each at
+/* First edition: shares the residual load (-1,280,000,000 to 1,000,000,000 kWh) among 1 to 32 accounts in proportion to their spare generation, each at
  * most that, rounded down, and zeros where the residual is 0 or less or there is none to spare; one word an account is written, words beyond
  * are kept. Returns the number. Refused: 1, 10. */
 uint64_t robijan_share(int64_t residual, const int64_t *uegq, size_t uegqs, int64_t *output, size_t output_words);
 
-/* The same by the second edition, whose shares total exactly the smaller of the residual load (0 if negative) and all spare generation. Of a
- * residual load below it, an account gets its part of the load by the spare generation up to and with it, rounded down, less that by the spare
- * generation before it, rounded down: 2 kWh among accounts with 1, 1 and 1 are shared 0, 1, 1. Refused: 1, 10. */
+/* Second edition: the same, but the shares total exactly the smaller of the residual load (0 if negative) and `all`, the sum of all spare
+ * generation. Where 0 < residual < all, account a gets, each quotient rounded down,
+ *
+ *     residual * (uegq[0] + .. + uegq[a]) / all  -  residual * (uegq[0] + .. + uegq[a - 1]) / all
+ *
+ * so that 2 kWh among accounts with 1, 1 and 1 are shared 0, 1, 1. Returns the number. Refused: 1, 10. */
 uint64_t robijan_second_share(int64_t residual, const int64_t *uegq, size_t uegqs, int64_t *output, size_t output_words);
 
 /* The parts of a share, all three being quantities: `first` is at most what the base contract (BVQ) left of MQ, 0 where BVQ is MQ or more;

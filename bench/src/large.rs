@@ -106,11 +106,16 @@ pub fn book(rng: &mut Rng, terms: Terms, rows: Rows) -> Vec<i64> {
     let interval_words = 4 + 24 * accounts;
     let slots = &mut book[64 + 8 * accounts..][..filled * 48 * interval_words];
     for interval in slots.chunks_exact_mut(interval_words) {
-        interval[0] = rng.between(0, 1_000_000_000);
-        interval[1] = 1;
-        for account in interval[4..].chunks_exact_mut(24) {
+        let (own, accounts) = interval.split_at_mut(4);
+        // A load that leaves some of the spare generation to be shared.
+        let (mut hedged, mut spare) = (0, 0);
+        for account in accounts.chunks_exact_mut(24) {
             fill(rng, account, rows != Rows::Full);
+            hedged += account[1] + account[3] + account[5] + account[7];
+            spare += account[19];
         }
+        own[0] = (hedged + rng.between(0, spare)).min(1_000_000_000);
+        own[1] = 1;
     }
     book
 }

@@ -14,7 +14,8 @@ pub struct Terms {
     pub horizon: usize,
     /// 9,497 (1 January 2026) to 36,524: the first day to close.
     pub first: usize,
-    /// 0, for never, or 9,497 to 36,524: from which day on the uncovered load of a day is shared by the second edition.
+    /// 0, for never, or 9,497 to 36,524, before `first` too: from which day on the uncovered load of a day is shared by the second edition. No call
+    /// changes it later.
     pub change: usize,
 }
 

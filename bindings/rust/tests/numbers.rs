@@ -104,6 +104,62 @@ fn second_shares() {
     assert_eq!(shares, [10_000_000, 0, 0, -1]);
 }
 
+/// Rows of both accounts for the day, all zeros but residual rows with 1 kWh to spare at 100 cents, and 1 kWh of load, in interval 0.
+fn day_file(contracts: u16, settled: Option<u16>) -> Vec<u8> {
+    let mut file = Vec::new();
+    for given in [0, 1] {
+        file.extend([2, 0]);
+        for account in [0, 1] {
+            file.push(account);
+            file.extend(contracts.to_le_bytes());
+            file.push(given);
+            file.extend([0; 48 * 8]);
+        }
+    }
+    let Some(settled) = settled else {
+        file.extend([0; 4]);
+        return file;
+    };
+    file.extend([2, 0]);
+    for account in [0, 1] {
+        file.push(account);
+        file.extend(settled.to_le_bytes());
+        file.extend([1, 0, 0, 0, 0, 0, 0, 0, 0, 0, 0, 0]);
+        file.extend(100_000i32.to_le_bytes());
+        file.extend([0; 47 * 16]);
+    }
+    file.extend([1, 0]);
+    file.extend(settled.to_le_bytes());
+    file.extend([1, 0, 0, 0]);
+    file.extend([0; 47 * 4]);
+    file
+}
+
+/// The odd kWh of 9,497, settled at the close of 9,498.
+#[test]
+fn editions() {
+    for (change, odd) in [(0, 0), (9_497, 100), (9_498, 0)] {
+        let mut book = vec![0; 5_072];
+        open(
+            &mut book,
+            Terms {
+                change,
+                ..terms(2, 9_497)
+            },
+        )
+        .unwrap();
+        let mut statement = [7; 3];
+        submit(&mut book, &day_file(9_497, None)).unwrap();
+        assert_eq!(close(&mut book, &mut statement).unwrap().residuals, 0);
+        assert_eq!(statement, [0, 0, 0]);
+        submit(&mut book, &day_file(9_498, Some(9_497))).unwrap();
+        assert_eq!(close(&mut book, &mut statement).unwrap().residuals, 96);
+        assert_eq!(statement, [0, odd, -odd]);
+        assert_eq!(balance(&book, 1), Some(odd));
+        assert_eq!(change_day(&book), Some(change as i64));
+    }
+}
+
 #[test]
 fn submission() {
     let mut book = book(9_497);

@@ -14,6 +14,7 @@ use Rattle.rulebook.specs.DayAmount.{referencePriceOf, vestingAmount, shareAmou
 use Rattle.rulebook.specs.Layout.{slotLength, intervalOf, cellOf}
 use Rattle.amounts.specs.declared.interval.ResidualAndSpare.{ResidualAndSpare}
 use Rattle.amounts.specs.declared.day.Residuals.{Residuals}
+use Rattle.amounts.specs.declared.day.RunningSums.{RunningSums}
 use Rattle.amounts.specs.declared.day.DayShares.{DayShares}
 use Rattle.amounts.specs.declared.total.DayTotal.{DayTotal}
 use Rattle.amounts.specs.Cell.{cellData}
@@ -56,34 +57,49 @@ LoadsRanged rs = (i : ℕ) → i < intervals → natAbs (word (rs .loads) i) ≤
 abbrev pub uegqIn : ℕ → List ℤ → ℕ → ℕ → ℕ
 uegqIn n x a i = cellData (cellAt n x a i) .uegq
 
--- the running sum up to an account at interval i
-abbrev pub sumIn : DayShares → ℕ → ℕ
-sumIn shares i = getD (shares .sums) i 0
-
--- account a's share there, by edition, after those of the account before it
-abbrev pub shareIn : Edition → ℕ → List ℤ → Residuals → DayShares → ℕ → ℕ → ℕ
-shareIn e n x rs before a i = shareBy e (residualIn rs i .load) (residualIn rs i .spare) (sumIn before i) (uegqIn n x a i)
-
--- at each interval
-unfoldable pub sharesOf : Edition → ℕ → List ℤ → Residuals → DayShares → ℕ → DayShares
-sharesOf e n x rs before a = record { kwh = tabulate intervals (shareIn e n x rs before a); sums = tabulate intervals (λ i. sumIn before i + uegqIn n x a i) }
+-- a running sum at interval i
+abbrev pub sumIn : RunningSums → ℕ → ℕ
+sumIn sums i = getD (sums .uegq) i 0
 
 -- none: before the first account, and where no residual is due
-abbrev pub noShares : DayShares
-noShares = record { kwh = replicate intervals 0; sums = replicate intervals 0 }
+abbrev pub noSums : RunningSums
+noSums = record { uegq = replicate intervals 0 }
 
--- those of a slot, or none
-abbrev pub sharesIf : Bool → Edition → ℕ → List ℤ → Residuals → DayShares → ℕ → DayShares
-sharesIf due e n x rs before a = cond due (sharesOf e n x rs before a) noShares
+-- with account a's UEGQ of a slot
+unfoldable pub sumsWith : ℕ → List ℤ → RunningSums → ℕ → RunningSums
+sumsWith n x sums a = record { uegq = tabulate intervals (λ i. sumIn sums i + uegqIn n x a i) }
 
--- after the first a accounts, one after another: those of the last of them
-unfoldable pub sharesAfter : Bool → Edition → ℕ → List ℤ → Residuals → ℕ → DayShares
-sharesAfter due e n x rs zero = noShares
-sharesAfter due e n x rs (suc a) = sharesIf due e n x rs (sharesAfter due e n x rs a) a
+abbrev pub sumsIf : Bool → ℕ → List ℤ → RunningSums → ℕ → RunningSums
+sumsIf due n x sums a = cond due (sumsWith n x sums a) noSums
+
+-- those of the accounts before a
+unfoldable pub sumsBefore : Bool → ℕ → List ℤ → ℕ → RunningSums
+sumsBefore due n x zero = noSums
+sumsBefore due n x (suc a) = sumsIf due n x (sumsBefore due n x a) a
 
 -- no running sum is above what a accounts can have
-abbrev pub SumsRanged : ℕ → DayShares → Type 0
-SumsRanged a shares = (i : ℕ) → i < intervals → sumIn shares i ≤ a * mostQuantity
+abbrev pub SumsRanged : ℕ → RunningSums → Type 0
+SumsRanged a sums = (i : ℕ) → i < intervals → sumIn sums i ≤ a * mostQuantity
+
+-- account a's share at interval i, by edition, where the accounts before it have these sums
+abbrev pub shareIn : Edition → ℕ → List ℤ → Residuals → RunningSums → ℕ → ℕ → ℕ
+shareIn e n x rs sums a i = shareBy e (residualIn rs i .load) (residualIn rs i .spare) (sumIn sums i) (uegqIn n x a i)
+
+-- at each interval
+unfoldable pub sharesOf : Edition → ℕ → List ℤ → Residuals → RunningSums → ℕ → DayShares
+sharesOf e n x rs sums a = record { kwh = tabulate intervals (shareIn e n x rs sums a) }
+
+-- none, where no residual is due
+abbrev pub noShares : DayShares
+noShares = record { kwh = replicate intervals 0 }
+
+-- those of a slot, or none
+abbrev pub sharesIf : Bool → Edition → ℕ → List ℤ → Residuals → RunningSums → ℕ → DayShares
+sharesIf due e n x rs sums a = cond due (sharesOf e n x rs sums a) noShares
+
+-- account a's, after the accounts before it
+abbrev pub sharesIn : Bool → Edition → ℕ → List ℤ → Residuals → ℕ → DayShares
+sharesIn due e n x rs a = sharesIf due e n x rs (sumsBefore due n x a) a
 
 -- no share is above what a quantity can be
 abbrev pub SharesRanged : DayShares → Type 0
@@ -119,4 +135,4 @@ sharesPosted n today then due shares a = inCents (totalTo n today then due share
 
 -- and of R and S, by edition
 unfoldable pub slotPosted : Edition → ℕ → List ℤ → List ℤ → Bool → Residuals → ℕ → ℤ
-slotPosted e n today then due rs a = sharesPosted n today then due (sharesAfter due e n then rs (suc a)) a
+slotPosted e n today then due rs a = sharesPosted n today then due (sharesIn due e n then rs a) a

@@ -3,7 +3,6 @@ use crate::cell::price_at;
 use crate::cell::residual_amount;
 use crate::cell::uegq_of;
 use crate::cell::vesting_amount;
-use crate::interval::ResidualAndSpare;
 use crate::interval::residual_at;
 use crate::total::DayTotal;
 use crate::total::absorb;
@@ -18,12 +17,12 @@ use rulebook::units::THOUSANDTHS_PER_CENT;
 use rules::share::share_by;
 ghost use mathlib.Core.Path.{_≡_};
 ghost use mathlib.Core.Bool.{true};
-ghost use Prim.Native.Nat.{_+_, _≤_, _<_};
+ghost use Prim.Native.Nat.{_≤_, _<_};
 ghost use lib.ListN.{getD};
 ghost use Rattle.rulebook.specs.Units.{intervals, mostQuantity};
-ghost use Rattle.rulebook.specs.Shares.{mostAccounts, mostSpare, shareBy};
+ghost use Rattle.rulebook.specs.Shares.{mostAccounts};
 ghost use Rattle.amounts.specs.Cell.{RangedCell};
-ghost use Rattle.amounts.specs.Day.{SlotRanged, DaysRanged, LoadsRanged, SumsRanged, SharesRanged, residualsOf, noResiduals, residualsIf, residualIn, sumIn, uegqIn, sharesOf, noShares, sharesIf, amountAt, slotAmount, totalTo, sharesPosted};
+ghost use Rattle.amounts.specs.Day.{SlotRanged, DaysRanged, LoadsRanged, SumsRanged, SharesRanged, residualsOf, noResiduals, residualsIf, uegqIn, noSums, sumsWith, sumsIf, sharesOf, noShares, sharesIf, amountAt, slotAmount, totalTo, sharesPosted};
 
 // R and S of a day's 48 intervals.
 pub struct Residuals {
@@ -75,30 +74,6 @@ pub fn residuals_due(slot: &[i64], due: bool, n: usize) -> Residuals
     }
 }
 
-// R and S of interval h.
-fn residual_in(residuals: Residuals, h: usize) -> ResidualAndSpare
-    requires { ⌜ h < intervals ⌝ }
-    ensures { λ r. ⌜ r ≡ residualIn residuals h ⌝ }
-{
-    let load = residuals.loads[h];
-    let spare = residuals.spares[h];
-    ResidualAndSpare { load, spare }
-}
-
-// The shares of one account in a day's 48 intervals, in kWh, and the running sums of UEGQ up to it.
-pub struct DayShares {
-    pub kwh: [u64; INTERVALS],
-    pub sums: [u64; INTERVALS],
-}
-
-// The running sum at interval h.
-fn sum_at(shares: DayShares, h: usize) -> u64
-    requires { ⌜ h < intervals ⌝ }
-    ensures { λ s. ⌜ s ≡ sumIn shares h ⌝ }
-{
-    shares.sums[h]
-}
-
 // The account's UEGQ at interval h.
 fn uegq_at(slot: &[i64], n: usize, a: usize, h: usize) -> u64
     requires { ⌜ SlotRanged n (now slot) × (n ≤ mostAccounts) × (a < n) × (h < intervals) ⌝ }
@@ -109,48 +84,79 @@ fn uegq_at(slot: &[i64], n: usize, a: usize, h: usize) -> u64
     uegq_of(&slot[i..e])
 }
 
-// The share of UEGQ u at interval h, where the accounts before have `sum`.
-fn share_in(edition: Edition, residuals: Residuals, h: usize, sum: u64, u: u64) -> u64
-    requires { ⌜ LoadsRanged residuals × (h < intervals) × (sum + u ≤ mostSpare) ⌝ }
-    ensures { λ q. ⌜ q ≡ shareBy edition (residualIn residuals h .load) (residualIn residuals h .spare) sum u ⌝ }
-{
-    let r = residual_in(residuals, h);
-    share_by(edition, r.load, r.spare, sum, u)
+// The running sums of UEGQ in a day's 48 intervals, over the accounts so far.
+pub struct RunningSums {
+    pub uegq: [u64; INTERVALS],
 }
 
-// The account's shares of the day, after those of the account before it.
+// None: before the first account, and where no residual is due.
+pub fn no_sums() -> RunningSums
+    ensures { λ r. ⌜ r ≡ noSums ⌝ }
+{
+    RunningSums {
+        uegq: [0; INTERVALS],
+    }
+}
+
+// The sums with the account's UEGQ.
+fn sums_with(slot: &[i64], sums: RunningSums, n: usize, a: usize) -> RunningSums
+    requires { ⌜ SlotRanged n (now slot) × SumsRanged a sums × (n ≤ mostAccounts) × (a < n) ⌝ }
+    ensures { λ r. ⌜ r ≡ sumsWith n (now (slot .entry)) sums a ⌝ }
+{
+    let mut uegq = [0; INTERVALS];
+    for h in 0..INTERVALS {
+        let u = uegq_at(slot, n, a, h);
+        uegq[h] = sums.uegq[h] + u;
+    }
+    RunningSums { uegq: uegq }
+}
+
+// The same of then's slot, where a residual is due.
+pub fn sums_due(then: &[i64], due: bool, sums: RunningSums, n: usize, a: usize) -> RunningSums
+    requires { ⌜ (due ≡ true → SlotRanged n (now then)) × SumsRanged a sums × (n ≤ mostAccounts) × (a < n) ⌝ }
+    ensures { λ r. ⌜ r ≡ sumsIf due n (now (then .entry)) sums a ⌝ }
+{
+    if due {
+        sums_with(then, sums, n, a)
+    } else {
+        no_sums()
+    }
+}
+
+// The shares of one account in a day's 48 intervals, in kWh.
+pub struct DayShares {
+    pub kwh: [u64; INTERVALS],
+}
+
+// Those of the account, where the accounts before it have these sums.
 fn shares_of(
     slot: &[i64],
     edition: Edition,
     residuals: Residuals,
-    before: DayShares,
+    sums: RunningSums,
     n: usize,
     a: usize,
 ) -> DayShares
-    requires { ⌜ SlotRanged n (now slot) × LoadsRanged residuals × SumsRanged a before × (n ≤ mostAccounts) × (a < n) ⌝ }
-    ensures { λ r. ⌜ r ≡ sharesOf edition n (now (slot .entry)) residuals before a ⌝ }
+    requires { ⌜ SlotRanged n (now slot) × LoadsRanged residuals × SumsRanged a sums × (n ≤ mostAccounts) × (a < n) ⌝ }
+    ensures { λ r. ⌜ r ≡ sharesOf edition n (now (slot .entry)) residuals sums a ⌝ }
 {
     let mut kwh = [0; INTERVALS];
-    let mut sums = [0; INTERVALS];
     for h in 0..INTERVALS {
         let u = uegq_at(slot, n, a, h);
-        let sum = sum_at(before, h);
-        kwh[h] = share_in(edition, residuals, h, sum, u);
-        sums[h] = sum + u;
+        let load = residuals.loads[h];
+        let spare = residuals.spares[h];
+        let before = sums.uegq[h];
+        kwh[h] = share_by(edition, load, spare, before, u);
     }
-    DayShares {
-        kwh: kwh,
-        sums: sums,
-    }
+    DayShares { kwh: kwh }
 }
 
-// None: before the first account, and where no residual is due.
-pub fn no_shares() -> DayShares
+// None, where no residual is due.
+fn no_shares() -> DayShares
     ensures { λ r. ⌜ r ≡ noShares ⌝ }
 {
     DayShares {
         kwh: [0; INTERVALS],
-        sums: [0; INTERVALS],
     }
 }
 
@@ -160,15 +166,15 @@ pub fn shares_due(
     due: bool,
     edition: Edition,
     residuals: Residuals,
-    before: DayShares,
+    sums: RunningSums,
     n: usize,
     a: usize,
 ) -> DayShares
-    requires { ⌜ (due ≡ true → SlotRanged n (now then)) × LoadsRanged residuals × SumsRanged a before × (n ≤ mostAccounts) × (a < n) ⌝ }
-    ensures { λ r. ⌜ r ≡ sharesIf due edition n (now (then .entry)) residuals before a ⌝ }
+    requires { ⌜ (due ≡ true → SlotRanged n (now then)) × LoadsRanged residuals × SumsRanged a sums × (n ≤ mostAccounts) × (a < n) ⌝ }
+    ensures { λ r. ⌜ r ≡ sharesIf due edition n (now (then .entry)) residuals sums a ⌝ }
 {
     if due {
-        shares_of(then, edition, residuals, before, n, a)
+        shares_of(then, edition, residuals, sums, n, a)
     } else {
         no_shares()
     }

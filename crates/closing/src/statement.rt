@@ -1,8 +1,9 @@
 // Document 01, "Close": the statement, N amounts and then the MSSL's, in cents.
 use amounts::day::Residuals;
-use amounts::day::no_shares;
+use amounts::day::no_sums;
 use amounts::day::posted_amount;
 use amounts::day::shares_due;
+use amounts::day::sums_due;
 use integer::add;
 use integer::put_word;
 use integer::word_at;
@@ -30,10 +31,11 @@ pub fn post_amounts(
     requires { ⌜ DaysRanged n (now today) (now then) due × LoadsRanged residuals × (n ≤ mostAccounts) × (n ≤ length (now statement)) ⌝ }
     ensures { λ _. ⌜ now (statement .exit) ≡ filled n (slotPosted edition n (now (today .entry)) (now (then .entry)) due residuals) (now (statement .entry)) ⌝ }
 {
-    let mut shares = no_shares();
+    let mut sums = no_sums();
     for a in 0..n {
-        shares = shares_due(then, due, edition, residuals, shares, n, a);
+        let shares = shares_due(then, due, edition, residuals, sums, n, a);
         put_word(statement, a, posted_amount(today, then, due, shares, n, a));
+        sums = sums_due(then, due, sums, n, a);
     }
 }
 

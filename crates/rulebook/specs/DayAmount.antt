@@ -143,8 +143,8 @@ module _ (o : Terms) where
   -- the shares of a residual day at an interval
   module _ (x : SettlementData) (r i : ℕ) where
     -- R, each UEGQ and each share
-    abbrev pub loadAt : ℤ
-    loadAt = residualLoad (x .load r i) (o .accounts) (λ b. x .account b r i)
+    abbrev pub residualLoadAt : ℤ
+    residualLoadAt = residualLoad (x .load r i) (o .accounts) (λ b. x .account b r i)
 
     abbrev pub uegqAt : ℕ → ℕ
     uegqAt b = x .account b r i .uegq
@@ -155,7 +155,13 @@ module _ (o : Terms) where
     -- days before X keep the first edition, whose shares total at most the smaller of S and max(R, 0) and fall short of it by fewer kWh than there are
     -- accounts; days from X on have the second, whose shares total exactly the smaller
     pub record ResidualDayShares : Type 0 where
-      pub keptShares : (o .change ≡ 0) ⊎ (r < o .change) → (a : ℕ) → shareAt a ≡ share loadAt (o .accounts) uegqAt a
-      pub keptTotal : (o .change ≡ 0) ⊎ (r < o .change) → ShareTotal shareAt loadAt (o .accounts) uegqAt
-      pub changedShares : o .change ≢ 0 → o .change ≤ r → (a : ℕ) → shareAt a ≡ secondShare loadAt (o .accounts) uegqAt a
-      pub changedTotal : o .change ≢ 0 → o .change ≤ r → sumℕ (o .accounts) shareAt ≡ min (spareOf (o .accounts) uegqAt) (positive loadAt)
+      pub keptShares : (o .change ≡ 0) ⊎ (r < o .change) → (a : ℕ) → shareAt a ≡ share residualLoadAt (o .accounts) uegqAt a
+      pub keptTotal : (o .change ≡ 0) ⊎ (r < o .change) → ShareTotal shareAt residualLoadAt (o .accounts) uegqAt
+      pub changedShares : o .change ≢ 0 → o .change ≤ r → (a : ℕ) → shareAt a ≡ secondShare residualLoadAt (o .accounts) uegqAt a
+      pub changedTotal : o .change ≢ 0 → o .change ≤ r → sumℕ (o .accounts) shareAt ≡ min (spareOf (o .accounts) uegqAt) (positive residualLoadAt)
+
+  -- what a close of D that settles a residual day adds up at an interval: vesting of D, and r's share of that edition, priced with r's own V, BVQ, MQ and prices
+  pub record IntervalParts (x : SettlementData) (a D i : ℕ) : Type 0 where
+    pub settles : o .first + o .lag ≤ D
+        → intervalAmount x a D i ≡ vestingAmount (x .account a D i) +ℤ shareAmount (x .account a (D - o .lag) i) (referencePriceOf (x .account a (D - o .lag) i)) (shareAt x (D - o .lag) i a)
+    pub settlesNone : D < o .first + o .lag → intervalAmount x a D i ≡ vestingAmount (x .account a D i)

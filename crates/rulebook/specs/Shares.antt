@@ -58,16 +58,14 @@ secondShareOf r s before u = sharedOr r s u (partOf r s (before + u) - partOf r 
 unfoldable pub secondShare : ℤ → ℕ → (ℕ → ℕ) → ℕ → ℕ
 secondShare r n uegq a = secondShareOf r (spareOf n uegq) (runningSum uegq a) (uegq a)
 
--- ---- By edition
+-- ---- By edition: of an account with UEGQ u, where the accounts before it have `before`; and of account a of n
 
 unfoldable pub shareBy : Edition → ℤ → ℕ → ℕ → ℕ → ℕ
 shareBy First r s before u = shareOf r s u
 shareBy Second r s before u = secondShareOf r s before u
 
--- account a's of n
 unfoldable pub editionShare : Edition → ℤ → ℕ → (ℕ → ℕ) → ℕ → ℕ
-editionShare First = share
-editionShare Second = secondShare
+editionShare e r n uegq a = shareBy e r (spareOf n uegq) (runningSum uegq a) (uegq a)
 
 -- ---- What the rule says of a share
 

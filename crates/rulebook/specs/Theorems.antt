@@ -17,7 +17,7 @@ use Rattle.rulebook.specs.declared.Verdict.the-variants.{Accepted}
 use Rattle.rulebook.specs.Units.{lastDay, intervals, nearest}
 use Rattle.rulebook.specs.Shares.{shareOf, share, secondShare, ShareTotal, RuleShare, EveryKwh}
 use Rattle.rulebook.specs.Tranches.{TrancheSplit}
-use Rattle.rulebook.specs.DayAmount.{AccountData, SettlementData, exactAmount, postedAmount, msslAmount, IntervalShares, ResidualDayShares, msslExact}
+use Rattle.rulebook.specs.DayAmount.{AccountData, SettlementData, exactAmount, postedAmount, msslAmount, IntervalShares, ResidualDayShares, IntervalParts, msslExact}
 use Rattle.rulebook.specs.Terms.{InTerms}
 use Rattle.rulebook.specs.Sections.{accountsOf}
 use Rattle.rulebook.specs.Layout.{ring, slot, size, width, rowWord, InWindow}
@@ -60,7 +60,7 @@ use Rattle.rulebook.specs.examples.EditionExamples.{SecondShares, second
 use Rattle.rulebook.specs.examples.SearchExamples.{SearchedFlags, searched-flags}
 use Rattle.rulebook.specs.laws.SharesLaws.{share-total, share-rule, every-kwh}
 use Rattle.rulebook.specs.laws.TranchesLaws.{tranche-split}
-use Rattle.rulebook.specs.laws.DayAmountLaws.{interval-shares, residual-day-shares, posted-within, mssl-within}
+use Rattle.rulebook.specs.laws.DayAmountLaws.{interval-shares, residual-day-shares, interval-parts, posted-within, mssl-within}
 use Rattle.rulebook.specs.laws.WalkLaws.{days-are-places}
 use Rattle.rulebook.specs.laws.WindowLaws.{window-days-apart, slot-day}
 use Rattle.rulebook.specs.laws.FormedBookLaws.{formed-book, book-formed}
@@ -151,6 +151,8 @@ pub record Theorems : Type 0 where
   -- an interval's, of either edition; and of each residual day by its own
   pub intervalShares : (load n : ℕ) (x : ℕ → AccountData) (e : Edition) → IntervalShares load n x e
   pub residualDayShares : (o : Terms) (x : SettlementData) (r i : ℕ) → ResidualDayShares o x r i
+  -- these are the shares that a statement prices
+  pub intervalParts : (o : Terms) (x : SettlementData) (a D i : ℕ) → IntervalParts o x a D i
   pub tranches : (rvq bvq mq : ℕ) → TrancheSplit rvq bvq mq
   -- posted cents are within 500 thousandths of the exact amount, the MSSL's within N × 500
   pub postedWithin : (o : Terms) (x : SettlementData) (D a : ℕ) → natAbs (pos 1000 *ℤ postedAmount o x a D -ℤ exactAmount o x a D) ≤ 500
@@ -238,6 +240,7 @@ theorems = record {
   everyKwh = every-kwh;
   intervalShares = interval-shares;
   residualDayShares = residual-day-shares;
+  intervalParts = interval-parts;
   tranches = tranche-split;
   postedWithin = posted-within;
   msslWithin = mssl-within;

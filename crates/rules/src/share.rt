@@ -77,21 +77,21 @@ fn spare_generation(uegq: &[i64]) -> Spare
     Spare::Total(total)
 }
 
-// The word that account a's share is written as, where s is S.
-fn share_at(r: i64, s: u64, uegq: &[i64], a: usize) -> i64
+// The word that account a's share of the first edition is written as, where s is S.
+fn first_share_at(r: i64, s: u64, uegq: &[i64], a: usize) -> i64
     requires { ⌜ (natAbs r ≤ leastResidual) × (a < length (now uegq)) × (allInRange Quantity (now uegq) ≡ true) × (s ≡ spareIn (now uegq)) ⌝ }
     ensures { λ w. ⌜ w ≡ shareWord First r (now (uegq .entry)) a ⌝ }
 {
     signed(share_of(r, s, quantity_at(uegq, a)))
 }
 
-// Writes one share an account, where s is S, and keeps the words beyond.
+// Writes one share an account by the first edition, where s is S, and keeps the words beyond.
 fn put_first_shares(r: i64, s: u64, uegq: &[i64], output: &mut [i64])
     requires { ⌜ (natAbs r ≤ leastResidual) × (s ≡ spareIn (now uegq)) × (allInRange Quantity (now uegq) ≡ true) × (length (now uegq) ≤ length (now output)) ⌝ }
     ensures { λ _. ⌜ now (output .exit) ≡ filled (length (now (uegq .entry))) (shareWord First r (now (uegq .entry))) (now (output .entry)) ⌝ }
 {
     for a in 0..uegq.len() {
-        put_word(output, a, share_at(r, s, uegq, a));
+        put_word(output, a, first_share_at(r, s, uegq, a));
     }
 }
 

@@ -23,10 +23,11 @@ use Rattle.rulebook.specs.laws.TestLaws.{T-path}
 use Rattle.rulebook.specs.laws.SizeLaws.{price-sized, vesting-size, share-amount-size, amount-size}
 use Rattle.amounts.specs.Cell.{cellData, RangedCell}
 use Rattle.amounts.specs.declared.day.Residuals.{Residuals}
+use Rattle.amounts.specs.declared.day.RunningSums.{RunningSums}
 use Rattle.amounts.specs.declared.day.DayShares.{DayShares}
 use Rattle.amounts.specs.Interval.{residualAt}
 use Rattle.amounts.specs.Total.{absorbed}
-use Rattle.amounts.specs.Day.{cellAt, SlotRanged, DaysRanged, SumsRanged, SharesRanged, residualsOf, residualIn, uegqIn, sumIn, shareIn, sharesOf, sharesAfter, cellResidual, amountAt, slotAmount, totalTo}
+use Rattle.amounts.specs.Day.{cellAt, SlotRanged, DaysRanged, SumsRanged, SharesRanged, residualsOf, residualIn, uegqIn, sumIn, sumsWith, sumsBefore, shareIn, sharesOf, sharesIn, cellResidual, amountAt, slotAmount, totalTo}
 
 pub cell-residual-le : (c : List ℤ) → RangedCell c → (share : ℕ) → share ≤ mostQuantity → natAbs (cellResidual c share) ≤ 20000000000000
 cell-residual-le c h share l = let x = h .sized in share-amount-size (cellData c) x (referencePriceOf (cellData c)) (price-sized (cellData c) x) share l
@@ -59,55 +60,49 @@ lent-cell n x a i {size} {at} l e f = lent x (i * size + at) accountWords ∙ rw
 pub cell-fits : (n : ℕ) (x : List ℤ) → SlotRanged n x → (a i : ℕ) → a < n → i < intervals → i * intervalLength n + cellPlace a + accountWords ≤ length x
 cell-fits n x r a i h k = omega (arith, r .whole, row-fits i intervals (intervalLength n) k)
 
+-- ---- Running sums
+
+module _ (n : ℕ) (x : List ℤ) where
+  -- with account a's UEGQ, read back
+  sum-with : (sums : RunningSums) (a i : ℕ) → i < intervals → sumIn (sumsWith n x sums a) i ≡ sumIn sums i + uegqIn n x a i
+  unfolding sumsWith
+  sum-with sums a i h = getD-tabulate intervals (λ i. sumIn sums i + uegqIn n x a i) i 0 h
+
+  -- where a residual is due they are sums of UEGQ, else none
+  sums-are : (a i : ℕ) → i < intervals → sumIn (sumsBefore true n x a) i ≡ sumℕ a (λ b. uegqIn n x b i)
+  unfolding sumsBefore fold
+  sums-are zero i h = getD-replicate {A = ℕ} intervals i 0 0 h
+  sums-are (suc a) i h = sum-with (sumsBefore true n x a) a i h ∙ ap (λ (s : ℕ). s + uegqIn n x a i) (sums-are a i h)
+
+  no-sum : (a i : ℕ) → i < intervals → sumIn (sumsBefore false n x a) i ≡ 0
+  unfolding sumsBefore
+  no-sum zero i h = getD-replicate {A = ℕ} intervals i 0 0 h
+  no-sum (suc a) i h = getD-replicate {A = ℕ} intervals i 0 0 h
+
+  -- they have room
+  pub sums-ranged : (due : Bool) → (due ≡ true → SlotRanged n x) → (a : ℕ) → a ≤ n → SumsRanged a (sumsBefore due n x a)
+  sums-ranged true r a l i h = omega (arith, sums-are a i h, sumℕ-le a mostQuantity (λ b. uegqIn n x b i) (λ b k. r refl .each i h .cells b (omega arith) .sized .uegq))
+  sums-ranged false r a l i h = omega (arith, no-sum a i h)
+
 -- ---- Shares
 
-module _ (e : Edition) (n : ℕ) (x : List ℤ) (rs : Residuals) where
-  -- those of account a, one interval's, read back
-  pub shares-read : (before : DayShares) (a i : ℕ) → i < intervals
-      → (getD (sharesOf e n x rs before a .kwh) i 0 ≡ shareIn e n x rs before a i) × (sumIn (sharesOf e n x rs before a) i ≡ sumIn before i + uegqIn n x a i)
+module _ (e : Edition) (n : ℕ) (x : List ℤ) (rs : Residuals) (a : ℕ) where
+  -- account a's share of interval i, read back: the rule's
+  pub share-in : (i : ℕ) → i < intervals
+      → getD (sharesIn true e n x rs a .kwh) i 0 ≡ shareBy e (residualIn rs i .load) (residualIn rs i .spare) (sumℕ a (λ b. uegqIn n x b i)) (uegqIn n x a i)
   unfolding sharesOf
-  shares-read before a i h = (getD-tabulate intervals (shareIn e n x rs before a) i 0 h, getD-tabulate intervals (λ i. sumIn before i + uegqIn n x a i) i 0 h)
+  share-in i h = getD-tabulate intervals (shareIn e n x rs (sumsBefore true n x a) a) i 0 h
+      ∙ ap (λ (s : ℕ). shareBy e (residualIn rs i .load) (residualIn rs i .spare) s (uegqIn n x a i)) (sums-are n x a i h)
 
-  -- where none is due there are none
-  none-after : (a i : ℕ) → i < intervals → sumIn (sharesAfter false e n x rs a) i ≡ 0
-  unfolding sharesAfter
-  none-after zero i h = getD-replicate {A = ℕ} intervals i 0 0 h
-  none-after (suc a) i h = getD-replicate {A = ℕ} intervals i 0 0 h
-
-  -- where a residual is due, the running sums are sums of UEGQ
-  sums-are : (a i : ℕ) → i < intervals → sumIn (sharesAfter true e n x rs a) i ≡ sumℕ a (λ b. uegqIn n x b i)
-  unfolding sharesAfter fold
-  sums-are zero i h = getD-replicate {A = ℕ} intervals i 0 0 h
-  sums-are (suc a) i h = shares-read (sharesAfter true e n x rs a) a i h .1 ∙ ap (λ (s : ℕ). s + uegqIn n x a i) (sums-are a i h)
-
-  -- and a share is the rule's
-  pub share-after : (a i : ℕ) → i < intervals
-      → getD (sharesAfter true e n x rs (suc a) .kwh) i 0 ≡ shareBy e (residualIn rs i .load) (residualIn rs i .spare) (sumℕ a (λ b. uegqIn n x b i)) (uegqIn n x a i)
-  unfolding sharesAfter
-  share-after a i h = shares-read (sharesAfter true e n x rs a) a i h .0
-      ∙ ap (λ (s : ℕ). shareBy e (residualIn rs i .load) (residualIn rs i .spare) s (uegqIn n x a i)) (sums-are a i h)
-
-  module _ (due : Bool) (r : due ≡ true → SlotRanged n x) where
-    -- the sums have room
-    pub sums-ranged : (a : ℕ) → a ≤ n → SumsRanged a (sharesAfter due e n x rs a)
-    sums-ranged a l i h = go due r
-      where
-        go : (b : Bool) → (b ≡ true → SlotRanged n x) → sumIn (sharesAfter b e n x rs a) i ≤ a * mostQuantity
-        go true r = omega (arith, sums-are a i h, sumℕ-le a mostQuantity (λ b. uegqIn n x b i) (λ b k. r refl .each i h .cells b (omega arith) .sized .uegq))
-        go false r = omega (arith, none-after a i h)
-
-    -- no share is above what a quantity can be
-    pub shares-ranged : (a : ℕ) → a < n → SharesRanged (sharesAfter due e n x rs (suc a))
-    shares-ranged a l i h = go due r
-      where
-        go : (b : Bool) → (b ≡ true → SlotRanged n x) → getD (sharesAfter b e n x rs (suc a) .kwh) i 0 ≤ mostQuantity
-        go true r = omega (
-          arith,
-          share-after a i h,
-          share-by-cap e (residualIn rs i .load) (residualIn rs i .spare) (sumℕ a (λ b. uegqIn n x b i)) (uegqIn n x a i),
-          r refl .each i h .cells a l .sized .uegq,
-        )
-        go false r = unfold sharesAfter in omega (arith, getD-replicate {A = ℕ} intervals i 0 0 h)
+  -- no share is above what a quantity can be
+  pub shares-ranged : (due : Bool) → (due ≡ true → SlotRanged n x) → a < n → SharesRanged (sharesIn due e n x rs a)
+  shares-ranged true r l i h = omega (
+    arith,
+    share-in i h,
+    share-by-cap e (residualIn rs i .load) (residualIn rs i .spare) (sumℕ a (λ b. uegqIn n x b i)) (uegqIn n x a i),
+    r refl .each i h .cells a l .sized .uegq,
+  )
+  shares-ranged false r l i h = omega (arith, getD-replicate {A = ℕ} intervals i 0 0 h)
 
 -- ---- Amounts
 

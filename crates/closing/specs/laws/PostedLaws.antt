@@ -2,7 +2,7 @@
 use mathlib.Core.Path.{_≡_, refl, sym, ap, _∙_}
 use mathlib.Core.Bool.{Bool, true, false, cond}
 use mathlib.Core.List.{List}
-use Prim.Native.Nat.{ℕ, suc, _≤_, _<_}
+use Prim.Native.Nat.{ℕ, _≤_, _<_}
 use lib.Dec.{T}
 use lib.IntN.{ℤ, pos}
 use lib.ListN.{getD}
@@ -11,14 +11,13 @@ use Rattle.integer.specs.laws.BelowLaws.{sumℤ-cong}
 use Rattle.rulebook.specs.declared.Terms.{Terms}
 use Rattle.rulebook.specs.declared.Edition.{Edition}
 use Rattle.rulebook.specs.Units.{lastDay, intervals}
-use Rattle.rulebook.specs.Shares.{shareBy}
+use Rattle.rulebook.specs.Shares.{shareBy, editionShare}
 use Rattle.rulebook.specs.DayAmount.{spareGeneration, residualLoad, rvq, residualAmount, settlesResidual, residualDay, editionOf, intervalAmount, exactAmount, inCents, postedAmount}
 use Rattle.rulebook.specs.Layout.{intervalOf}
 use Rattle.rulebook.specs.BookData.{bookData, termsOf, nextDay}
 use Rattle.rulebook.specs.WellFormed.{wellFormed}
 use Rattle.rulebook.specs.Close.{posted}
 use Rattle.rulebook.specs.Bounds.{SizedDay}
-use Rattle.rulebook.specs.laws.SharesLaws.{edition-is}
 use Rattle.rulebook.specs.laws.AmountLaws.{SameFigures, vesting-same, residual-same}
 use Rattle.rulebook.specs.laws.BookSizeLaws.{close-sized}
 use Rattle.amounts.specs.declared.interval.ResidualAndSpare.{ResidualAndSpare}
@@ -26,8 +25,8 @@ use Rattle.amounts.specs.declared.day.DayShares.{DayShares}
 use Rattle.amounts.specs.Cell.{cellData}
 use Rattle.amounts.specs.laws.CellLaws.{sum-cong}
 use Rattle.amounts.specs.Interval.{loadIn, dataIn}
-use Rattle.amounts.specs.Day.{cellAt, residualsOf, noResiduals, sharesAfter, cellResidual, slotAmount, totalTo, sharesPosted, slotPosted}
-use Rattle.amounts.specs.laws.DayLaws.{residual-in, share-after}
+use Rattle.amounts.specs.Day.{cellAt, residualsOf, noResiduals, sharesIn, cellResidual, slotAmount, totalTo, sharesPosted, slotPosted}
+use Rattle.amounts.specs.laws.DayLaws.{residual-in, share-in}
 use Rattle.closing.specs.Slots.{slotWords, thenDay, residualsDue}
 use Rattle.closing.specs.laws.SlotDataLaws.{load-same, cell-alike}
 
@@ -43,16 +42,15 @@ module _ (o : Terms) (w : List ℤ) (a : ℕ) (ha : a < o .accounts) where
 
     -- an account's share of the slot is the rule book's, of R and S of the interval
     share-same : (s : Edition) → rvq (loadIn interval) (o .accounts) (dataIn interval) s a
-        ≡ getD (sharesAfter true s (o .accounts) (slotWords o w d) (residualsOf (o .accounts) (slotWords o w d)) (suc a) .kwh) i 0
-    unfolding rvq spareGeneration
+        ≡ getD (sharesIn true s (o .accounts) (slotWords o w d) (residualsOf (o .accounts) (slotWords o w d)) a .kwh) i 0
+    unfolding rvq editionShare spareGeneration
     share-same s =
-        edition-is s (residualLoad (loadIn interval) (o .accounts) (dataIn interval)) (o .accounts) (λ b. dataIn interval b .uegq) a
-        ∙ ap (λ (r : ResidualAndSpare). shareBy s (r .load) (r .spare) (sumℕ a (λ b. dataIn interval b .uegq)) (dataIn interval a .uegq)) (sym (residual-in (o .accounts) (slotWords o w d) i hi))
-        ∙ sym (share-after s (o .accounts) (slotWords o w d) (residualsOf (o .accounts) (slotWords o w d)) a i hi)
+        ap (λ (r : ResidualAndSpare). shareBy s (r .load) (r .spare) (sumℕ a (λ b. dataIn interval b .uegq)) (dataIn interval a .uegq)) (sym (residual-in (o .accounts) (slotWords o w d) i hi))
+        ∙ sym (share-in s (o .accounts) (slotWords o w d) (residualsOf (o .accounts) (slotWords o w d)) a i hi)
 
     -- the residual amount of the book's data is that of the slot's cell, of its share
     slot-residual : (s : Edition) → residualAmount (bookData o w .load d i) (o .accounts) (λ b. bookData o w .account b d i) s a
-        ≡ cellResidual (cellAt (o .accounts) (slotWords o w d) a i) (getD (sharesAfter true s (o .accounts) (slotWords o w d) (residualsOf (o .accounts) (slotWords o w d)) (suc a) .kwh) i 0)
+        ≡ cellResidual (cellAt (o .accounts) (slotWords o w d) a i) (getD (sharesIn true s (o .accounts) (slotWords o w d) (residualsOf (o .accounts) (slotWords o w d)) a .kwh) i 0)
     unfolding residualAmount
     slot-residual s =
         residual-same (bookData o w .load d i) (o .accounts) (λ b. bookData o w .account b d i) (dataIn interval) alike s a ha
@@ -64,7 +62,7 @@ module _ (o : Terms) (w : List ℤ) (a : ℕ) (ha : a < o .accounts) where
   module _ (D : ℕ) (now : SizedDay (o .accounts) (bookData o w) D) (then : T (settlesResidual o D) → SizedDay (o .accounts) (bookData o w) (residualDay o D)) where
     amount-same : (i : ℕ) → i < intervals
         → slotAmount (o .accounts) (slotWords o w D) (slotWords o w (thenDay o D)) (settlesResidual o D)
-        (sharesAfter (settlesResidual o D) (editionOf o (thenDay o D)) (o .accounts) (slotWords o w (thenDay o D)) (residualsDue o w D) (suc a)) a i
+        (sharesIn (settlesResidual o D) (editionOf o (thenDay o D)) (o .accounts) (slotWords o w (thenDay o D)) (residualsDue o w D) a) a i
         ≡ intervalAmount o (bookData o w) a D i
     unfolding slotAmount intervalAmount thenDay residualsDue
     amount-same i hi = sum-cong (sym (vesting-same (bookData o w .account a D i) (cellData (cellAt (o .accounts) (slotWords o w D) a i)) alike)) (go (settlesResidual o D) then)
@@ -79,7 +77,7 @@ module _ (o : Terms) (w : List ℤ) (a : ℕ) (ha : a < o .accounts) where
         then-words b = slotWords o w (then-day b)
 
         day-shares : Bool → DayShares
-        day-shares b = sharesAfter b (editionOf o (then-day b)) (o .accounts) (then-words b) (cond b (residualsOf (o .accounts) (then-words b)) noResiduals) (suc a)
+        day-shares b = sharesIn b (editionOf o (then-day b)) (o .accounts) (then-words b) (cond b (residualsOf (o .accounts) (then-words b)) noResiduals) a
 
         go : (b : Bool) → (T b → SizedDay (o .accounts) (bookData o w) (residualDay o D))
             → cond b (cellResidual (cellAt (o .accounts) (then-words b) a i) (getD (day-shares b .kwh) i 0)) (pos 0)

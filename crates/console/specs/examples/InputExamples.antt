@@ -12,7 +12,8 @@ abbrev submission : ℕ → ℕ → ℕ → List ℕ
 submission low high n = 0x53 ∷ low ∷ high ∷ replicate n 0
 
 pub record Inputs : Type 0 where
-  -- N, L, H and F, its lower byte first
+  -- N, L, H and F, its lower byte first; X is 0 on any input
+  pub never : (s : List ℕ) → openingTerms s .change ≡ 0
   pub opening : openingTerms (0x02 ∷ 0x4B ∷ 0x5C ∷ 0x19 ∷ 0x25 ∷ []) ≡ record { accounts = 2; lag = 75; horizon = 92; first = 9497; change = 0 }
   -- commands
   pub none : itemOf [] ≡ End
@@ -40,6 +41,7 @@ pub record Inputs : Type 0 where
 pub inputs : Inputs
 unfolding itemOf fileWhole wanted num
 inputs = record {
+  never = λ s. refl;
   opening = refl;
   none = refl;
   close = refl;

@@ -27,7 +27,7 @@ use Rattle.rulebook.specs.Close.{closed}
 use Rattle.rulebook.specs.Numbers.{numbered, ofOpen, ofSubmit, ofClose}
 use Rattle.rulebook.specs.examples.Examples.{two, in-two, zeros}
 use Rattle.rulebook.specs.examples.LayoutExamples.{places}
-use Rattle.rulebook.specs.laws.TestLaws.{T-path}
+use Rattle.rulebook.specs.laws.TestLaws.{T-path, not-so}
 use Rattle.rulebook.specs.laws.FormedBookLaws.{formed-book}
 use Rattle.rulebook.specs.laws.StateLaws.{formed}
 use Rattle.rulebook.specs.laws.StartLaws.{new-state, opening-told}
@@ -113,13 +113,6 @@ unfolding wellFormed fits headerFits
 not-formed w e = rw e refl
 
 -- X has no such value
-no-change : (w : List ℤ) → (T (wellFormed w) → ⊥) → wellFormed w ≡ false
-no-change w h = go (wellFormed w) refl
-  where
-    go : (b : Bool) → wellFormed w ≡ b → b ≡ false
-    go true x = absurd (h (subst T (sym x) tt))
-    go false x = refl
-
 change-of-one : (w : List ℤ) → word w 7 ≡ pos 1 → T (wellFormed w) → ⊥
 change-of-one w e t = let x = ap natAbs (sym e ∙ formed-book w t .change) in ⊎-elim (λ h. omega (arith, x, h)) (λ h. omega (arith, x, h .0)) (formed-book w t .terms .change)
 
@@ -128,13 +121,7 @@ change-below w e t = let x = ap positive (sym e ∙ formed-book w t .change) in 
 
 -- account a's eighth word is used: not well formed
 padding-used : (w : List ℤ) (a : ℕ) → (T (wellFormed w) → a < termsOf w .accounts) → word w (64 + 8 * a + 7) ≡ pos 1 → wellFormed w ≡ false
-padding-used w a h e = go (wellFormed w) refl
-  where
-    go : (b : Bool) → wellFormed w ≡ b → b ≡ false
-    go true x =
-        let t : T (wellFormed w) = subst T (sym x) tt in
-        absurd (omega (arith, ap natAbs (sym e ∙ formed-book w t .balanceZeros a 7 (h t) (omega arith) (omega arith))))
-    go false x = refl
+padding-used w a h e = not-so (wellFormed w) (λ t. omega (arith, ap natAbs (sym e ∙ formed-book w t .balanceZeros a 7 (h t) (omega arith) (omega arith))))
 
 eighth-word : (lent : List ℤ) → size two ≤ length lent
     → (wellFormed (newBook two lent) ≡ true) × (wellFormed (set (newBook two lent) 79 (pos 1)) ≡ false)
@@ -150,9 +137,9 @@ unfolding submitted closed
 lent-books = record {
   submitMark = λ w file e. rw (not-formed w e) refl;
   closeMark = λ w statement e. rw (not-formed w e) refl;
-  submitChange = λ w file e. rw (no-change w (change-of-one w e)) refl;
-  closeChange = λ w statement e. rw (no-change w (change-of-one w e)) refl;
-  changeBelowZero = λ w statement e. rw (no-change w (change-below w e)) refl;
+  submitChange = λ w file e. rw (not-so (wellFormed w) (change-of-one w e)) refl;
+  closeChange = λ w statement e. rw (not-so (wellFormed w) (change-of-one w e)) refl;
+  changeBelowZero = λ w statement e. rw (not-so (wellFormed w) (change-below w e)) refl;
   submitPadding = λ w file e. rw (padding-used w 0 (λ t. formed-book w t .terms .accountsFrom) e) refl;
   closePadding = λ w statement e. rw (padding-used w 0 (λ t. formed-book w t .terms .accountsFrom) e) refl;
   secondPadding = λ w statement n e. rw (padding-used w 1 (λ t. omega arith) e) refl;

@@ -20,6 +20,8 @@
 --   All is rounded once. Apart, base contract 6,998,190, tenders 160,210 and residual −234,900 would give 6998 + 160 − 235 = 6923, and any two of them
 --   together with the third apart 6923 too: 7158 − 235, 6998 − 75, 6763 + 160.
 -- Account 1: 595 − 494 + 3,000 − 4,316 − 200 − 85 = −1,500, just half: −2 cents. The MSSL: −6922.
+-- By the second edition (X = 9,497) account 1 has the odd kWh of interval 0: 210 × 300 / 400 = 157.5 for account 0, 157, and 210 − 157 = 53 for account 1. All else is the
+--   same: −83 × 53 = −4,399, and −1,583 in all.
 use mathlib.Core.Path.{_≡_, refl}
 use mathlib.Core.Bool.{cond}
 use mathlib.Core.List.{[], _∷_}
@@ -28,10 +30,11 @@ use lib.Dec.{eqb}
 use lib.IntN.{pos, _+ℤ_}
 use Rattle.integer.specs.Integer.{minus, withSign}
 use Rattle.integer.specs.Below.{fold, sumℤ, tabulate}
-use Rattle.rulebook.specs.declared.Edition.the-variants.{First}
+use Rattle.rulebook.specs.declared.Terms.{Terms}
+use Rattle.rulebook.specs.declared.Edition.the-variants.{First, Second}
 use Rattle.rulebook.specs.Units.{nearest}
 use Rattle.rulebook.specs.ReferencePrice.{average, referencePrice}
-use Rattle.rulebook.specs.Shares.{share, shareOf, editionShare}
+use Rattle.rulebook.specs.Shares.{shareOf, secondShareOf, editionShare, shareBy}
 use Rattle.rulebook.specs.Tranches.{tranche1, tranche2}
 use Rattle.rulebook.specs.DayAmount.{AccountData, SettlementData, referencePriceOf, vestedQuantity, tenderAmount, vestingAmount, shareAmount, hedgeTotal, spareGeneration, residualLoad, rvq, residualAmount, settlesResidual, editionOf, intervalAmount, exactAmount, postedAmount, msslAmount}
 use Rattle.rulebook.specs.examples.Figures.{accountData, nothing, accounts}
@@ -68,6 +71,10 @@ worked = record {
   load = λ d. cond (eqb d 9498) (three 0 999 3 77) (three 0 600 1000 58);
 }
 
+-- the same terms with X = 9,497
+abbrev changed : Terms
+changed = record { accounts = 2; lag = 1; horizon = 1; first = 9497; change = 9497 }
+
 pub record WorkedDay : Type 0 where
   pub exact0 : exactAmount (accounts 2) worked 0 9498 ≡ pos 6923500
   pub exact1 : exactAmount (accounts 2) worked 1 9498 ≡ minus 1500
@@ -80,11 +87,15 @@ pub record WorkedDay : Type 0 where
   pub vesting0 : sumℤ 48 (λ i. vestingAmount (closing 0 i)) ≡ pos 7158400
   pub residual0 : sumℤ 48 (λ i. residualAmount (worked .load 9497 i) 2 (λ b. residual b i) First 0) ≡ minus 234900
   pub apart : nearest (pos 7158400) 1000 +ℤ nearest (minus 234900) 1000 ≡ pos 6923
+  -- the second edition
+  pub changed0 : exactAmount changed worked 0 9498 ≡ pos 6923500
+  pub changed1 : exactAmount changed worked 1 9498 ≡ minus 1583
+  pub changedShares : (tabulate 2 (rvq 600 2 (λ b. residual b 0) Second) ≡ 157 ∷ 53 ∷ []) × (tabulate 2 (rvq 1000 2 (λ b. residual b 20) Second) ≡ 40 ∷ 25 ∷ [])
   -- r is F: its own close settles no residual. Account 1: 4897 × 200 − 700 × 15 + 500 × 8 = 972,900
   pub firstDay : postedAmount (accounts 2) worked 1 9497 ≡ pos 973
 
 pub worked-day : WorkedDay
-unfolding fold tabulate share shareOf editionShare tranche1 tranche2 referencePrice average nearest withSign msslAmount postedAmount exactAmount intervalAmount settlesResidual editionOf tenderAmount vestingAmount vestedQuantity hedgeTotal spareGeneration residualLoad rvq shareAmount residualAmount referencePriceOf
+unfolding fold tabulate shareOf secondShareOf editionShare shareBy tranche1 tranche2 referencePrice average nearest withSign msslAmount postedAmount exactAmount intervalAmount settlesResidual editionOf tenderAmount vestingAmount vestedQuantity hedgeTotal spareGeneration residualLoad rvq shareAmount residualAmount referencePriceOf
 worked-day = record {
   exact0 = refl;
   exact1 = refl;
@@ -95,5 +106,8 @@ worked-day = record {
   vesting0 = refl;
   residual0 = refl;
   apart = refl;
+  changed0 = refl;
+  changed1 = refl;
+  changedShares = (refl, refl);
   firstDay = refl;
 }

@@ -2,11 +2,11 @@
 use mathlib.Core.Path.{_≡_, refl}
 use mathlib.Core.Bool.{Bool, true, false, cond, not, _&&_}
 use mathlib.Core.Logic.{_≢_, _⊎_, inl, inr}
-use Prim.Native.Nat.{ℕ, _*_, _≤_, _<_}
+use Prim.Native.Nat.{ℕ, _+_, _*_, _≤_, _<_}
 use native.Mathlib.Omega.{arith}
 use borrow.Author.Tests.{eq-eqb, ne-eqb, lt-leb, le-leb}
 use lib.Dec.{lit<, eqb}
-use lib.IntN.{ℤ, pos, negℤ, natAbs, _+ℤ_, _-ℤ_, _*ℤ_}
+use lib.IntN.{ℤ, pos, negℤ, natAbs, _+ℤ_, _-ℤ_, _*ℤ_, +ℤ-idr}
 use Rattle.integer.specs.laws.IntegerLaws.{abs-neg}
 use Rattle.integer.specs.Below.{sumℤ}
 use Rattle.integer.specs.laws.BelowLaws.{abs-sumℤ, sumℤ-linear}
@@ -16,8 +16,8 @@ use Rattle.rulebook.specs.declared.Terms.{Terms}
 use Rattle.rulebook.specs.declared.Edition.{Edition}
 use Rattle.rulebook.specs.declared.Edition.the-variants.{First, Second}
 use Rattle.rulebook.specs.Units.{thousandthsPerCent}
-use Rattle.rulebook.specs.Shares.{editionShare}
-use Rattle.rulebook.specs.DayAmount.{AccountData, SettlementData, residualLoad, rvq, IntervalShares, editionOf, loadAt, uegqAt, ResidualDayShares, exactAmount, postedAmount, msslAmount, msslExact}
+use Rattle.rulebook.specs.Shares.{share, secondShare, shareBy, editionShare}
+use Rattle.rulebook.specs.DayAmount.{AccountData, SettlementData, residualLoad, rvq, IntervalShares, referencePriceOf, vestingAmount, residualAmount, settlesResidual, editionOf, residualLoadAt, uegqAt, ResidualDayShares, intervalAmount, IntervalParts, exactAmount, postedAmount, msslAmount, msslExact}
 use Rattle.rulebook.specs.laws.SharesLaws.{share-total, every-kwh, edition-total}
 
 pub interval-shares : (load n : ℕ) (x : ℕ → AccountData) (e : Edition) → IntervalShares load n x e
@@ -41,13 +41,24 @@ module _ (o : Terms) (r : ℕ) where
   edition-second e h = rw (ne-eqb (o .change) 0 e, le-leb (o .change) r h) refl
 
 pub residual-day-shares : (o : Terms) (x : SettlementData) (r i : ℕ) → ResidualDayShares o x r i
-unfolding rvq editionShare
+unfolding rvq editionShare shareBy share secondShare
 residual-day-shares o x r i = record {
   keptShares = λ h a. rw (edition-first o r h) refl;
-  keptTotal = λ h. rw (edition-first o r h) (share-total (loadAt o x r i) (o .accounts) (uegqAt o x r i));
+  keptTotal = λ h. rw (edition-first o r h) (share-total (residualLoadAt o x r i) (o .accounts) (uegqAt o x r i));
   changedShares = λ e h a. rw (edition-second o r e h) refl;
-  changedTotal = λ e h. rw (edition-second o r e h) (every-kwh (loadAt o x r i) (o .accounts) (uegqAt o x r i) .total);
+  changedTotal = λ e h. rw (edition-second o r e h) (every-kwh (residualLoadAt o x r i) (o .accounts) (uegqAt o x r i) .total);
 }
+
+-- ---- A statement's parts
+
+pub interval-parts : (o : Terms) (x : SettlementData) (a D i : ℕ) → IntervalParts o x a D i
+unfolding intervalAmount settlesResidual residualAmount
+interval-parts o x a D i = record {
+  settles = λ h. rw (le-leb (o .first + o .lag) D h) refl;
+  settlesNone = λ h. rw (lt-leb (o .first + o .lag) D h) (+ℤ-idr (vestingAmount (x .account a D i)));
+}
+
+-- ---- Posting
 
 module _ (o : Terms) (x : SettlementData) (D : ℕ) where
   pub posted-within : (a : ℕ) → natAbs (pos thousandthsPerCent *ℤ postedAmount o x a D -ℤ exactAmount o x a D) ≤ 500

@@ -272,22 +272,17 @@ unfolding shareBy
 share-by-cap First r s before u = share-cap r s u
 share-by-cap Second r s before u = second-cap r s before u
 
--- an account's, by the running sum before it
-pub edition-is : (e : Edition) (r : ℤ) (n : ℕ) (uegq : ℕ → ℕ) (a : ℕ) → editionShare e r n uegq a ≡ shareBy e r (sumℕ n uegq) (runningSum uegq a) (uegq a)
-unfolding editionShare shareBy share secondShare
-edition-is First r n uegq a = refl
-edition-is Second r n uegq a = refl
-
 pub edition-cap : (e : Edition) (r : ℤ) (n : ℕ) (uegq : ℕ → ℕ) (a : ℕ) → editionShare e r n uegq a ≤ uegq a
-edition-cap e r n uegq a = rw (edition-is e r n uegq a) (share-by-cap e r (sumℕ n uegq) (runningSum uegq a) (uegq a))
+unfolding editionShare
+edition-cap e r n uegq a = share-by-cap e r (sumℕ n uegq) (runningSum uegq a) (uegq a)
 
 -- the UEGQ of the n accounts decide
 pub edition-cong : (e : Edition) (r : ℤ) (n : ℕ) (f g : ℕ → ℕ) → ((b : ℕ) → b < n → f b ≡ g b) → (a : ℕ) → a < n → editionShare e r n f a ≡ editionShare e r n g a
-edition-cong e r n f g h a l =
-    rw (edition-is e r n f a, edition-is e r n g a, sumℕ-cong n f g h, sumℕ-cong a f g (λ b k. h b (omega arith)), h a l)
+unfolding editionShare
+edition-cong e r n f g h a l = rw (sumℕ-cong n f g h, sumℕ-cong a f g (λ b k. h b (omega arith)), h a l)
 
 -- either edition's shares total as the buyer demands
 pub edition-total : (e : Edition) (r : ℤ) (n : ℕ) (uegq : ℕ → ℕ) → ShareTotal (editionShare e r n uegq) r n uegq
-unfolding editionShare
+unfolding editionShare shareBy share secondShare
 edition-total First r n uegq = share-total r n uegq
 edition-total Second r n uegq = let t = every-kwh r n uegq .total in record { spare = omega (arith, t); residual = omega (arith, t); short = λ l. omega (arith, t) }

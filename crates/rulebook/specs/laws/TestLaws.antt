@@ -30,6 +30,10 @@ pub not-path : (b : Bool) → T (not b) → b ≡ false
 not-path true t = absurd t
 not-path false t = refl
 
+pub not-so : (b : Bool) → (T b → ⊥) → b ≡ false
+not-so true f = absurd (f tt)
+not-so false f = refl
+
 pub and-left : (a b : Bool) → T (a && b) → T a
 and-left true b t = tt
 and-left false b t = t

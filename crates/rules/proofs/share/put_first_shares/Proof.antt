@@ -25,8 +25,8 @@ loop-holds : tie.Need-loop-holds Inv-loop μ-loop
 unfolding tabulate
 loop-holds c = search needs
 
-share-at-requires : tie.Need-share-at-requires Inv-loop μ-loop
-share-at-requires c κs = search needs
+first-share-at-requires : tie.Need-first-share-at-requires Inv-loop μ-loop
+first-share-at-requires c κs = search needs
 
 put-word-requires : tie.Need-put-word-requires Inv-loop μ-loop
 put-word-requires c κs = omega arith
@@ -42,7 +42,7 @@ loop-again c =
     let w = c .before .put-word in
     let l = c .before .before .before .before .before .loop in
     let a = c .before .before .before .before .before .before .args in
-    let v = c .before .before .share-at in
+    let v = c .before .before .first-share-at in
     let z : toZ w64 (ofZ w64 (v .result)) ≡ v .result = got (v .result) (v .ok) in
     let k : l .a < length (a .output .now) = omega arith in
     (omega arith, ap length (w .ensures) ∙ simp length-set (l .inv .1), rw filled-suc (cc))
@@ -58,4 +58,4 @@ returns c =
     rw (c .before .loop .inv .2, e, x)
 
 pub put-first-shares-spec : {M : Type 1} → statement M
-put-first-shares-spec = tie.close (tie.spec Inv-loop μ-loop loop-holds share-at-requires put-word-requires add-a loop-less loop-again same-length returns)
+put-first-shares-spec = tie.close (tie.spec Inv-loop μ-loop loop-holds first-share-at-requires put-word-requires add-a loop-less loop-again same-length returns)
