@@ -123,9 +123,9 @@ pub fn sums_due(then: &[i64], due: bool, sums: RunningSums, n: usize, a: usize) 
     }
 }
 
-// The shares of one account in a day's 48 intervals, in kWh.
+// The shares of one account in a day's 48 intervals, in kWh. No share is above 10,000,000.
 pub struct DayShares {
-    pub kwh: [u64; INTERVALS],
+    pub kwh: [u32; INTERVALS],
 }
 
 // Those of the account, where the accounts before it have these sums.
@@ -146,7 +146,7 @@ fn shares_of(
         let load = residuals.loads[h];
         let spare = residuals.spares[h];
         let before = sums.uegq[h];
-        kwh[h] = share_by(edition, load, spare, before, u);
+        kwh[h] = share_by(edition, load, spare, before, u) as u32;
     }
     DayShares { kwh: kwh }
 }
@@ -199,7 +199,7 @@ fn share_at(shares: DayShares, h: usize) -> u64
     requires { ⌜ h < intervals ⌝ }
     ensures { λ q. ⌜ q ≡ getD (shares .kwh) h 0 ⌝ }
 {
-    shares.kwh[h]
+    shares.kwh[h] as u64
 }
 
 // The account's amount at interval h of today's slot and, where a residual is due, of then's.

@@ -6,7 +6,7 @@ use native.Mathlib.Omega.{arith}
 use borrow.Author.Needs.{needs}
 use lib.IntN.{ℤ, natAbs}
 use mir.Syntax.{w64}
-use mir.Val.{SFits}
+use mir.Val.{SFits, toZ, ofZ}
 use mir.Facts.{toZ-ofZ}
 use Rattle.integer.specs.Below.{tabulate}
 use Rattle.integer.specs.laws.IntegerLaws.{int, fits-abs}
@@ -15,6 +15,7 @@ use Rattle.integer.specs.Words.{word, filled}
 use Rattle.integer.specs.laws.WordsLaws.{filled-step, filled-whole}
 use Rattle.rulebook.specs.Units.{intervals}
 use Rattle.rulebook.specs.Shares.{leastResidual, shareBy}
+use Rattle.rulebook.specs.laws.SharesLaws.{share-by-cap}
 use Rattle.amounts.specs.declared.day.DayShares.{DayShares}
 use Rattle.amounts.specs.Day.{residualIn, sumIn, shareIn, sharesOf}
 use Rattle.amounts.proofs.day.shares_of.Statement.{statement}
@@ -67,6 +68,20 @@ share-by-requires c κs =
       omega (arith, s .pre .2 (l .before .loop .h) (l .loop-test .taken), u .uegq-at .ensures .1, s .pre .3, s .pre .4),
     )
 
+-- no share is above its UEGQ
+cast-kwh : tie.Need-cast-kwh Inv-loop μ-loop
+cast-kwh c =
+    let u = c .before .before .before .before in
+    let l = u .before .before .loop in
+    let g = u .before .before .before .args in
+    let r = residualIn (g .t3) (l .h) in
+    omega (
+      arith,
+      c .share-by .ensures,
+      share-by-cap (g .edition) (toZ w64 (ofZ w64 (r .load))) (r .spare) (sumIn (g .t4) (l .h)) (u .uegq-at .result),
+      u .uegq-at .ensures .1,
+    )
+
 mul-kwh : tie.Need-mul-kwh Inv-loop μ-loop
 mul-kwh c = omega arith
 
@@ -105,4 +120,4 @@ returns c =
 pub shares-of-spec : {M : Type 1} → statement M
 shares-of-spec =
     tie.close
-    (tie.spec Inv-loop μ-loop loop-holds uegq-at-requires mul-load element-copy-out-load mul-spare element-copy-out-spare mul-before element-copy-out-before share-by-requires mul-kwh array-write-kwh add-h loop-less loop-again returns)
+    (tie.spec Inv-loop μ-loop loop-holds uegq-at-requires mul-load element-copy-out-load mul-spare element-copy-out-spare mul-before element-copy-out-before share-by-requires cast-kwh mul-kwh array-write-kwh add-h loop-less loop-again returns)
