@@ -13,9 +13,9 @@ use Rattle.rulebook.specs.Units.{intervals, mostQuantity}
 use Rattle.rulebook.specs.DayAmount.{referencePriceOf, vestingAmount, shareAmount, inCents}
 use Rattle.rulebook.specs.Layout.{slotLength, intervalOf, cellOf}
 use Rattle.amounts.specs.declared.interval.ResidualAndSpare.{ResidualAndSpare}
-use Rattle.amounts.specs.declared.day.Residuals.{Residuals}
-use Rattle.amounts.specs.declared.day.RunningSums.{RunningSums}
-use Rattle.amounts.specs.declared.day.DayShares.{DayShares}
+use Rattle.amounts.specs.declared.shares.Residuals.{Residuals}
+use Rattle.amounts.specs.declared.shares.RunningSums.{RunningSums}
+use Rattle.amounts.specs.declared.shares.DayShares.{DayShares}
 use Rattle.amounts.specs.declared.total.DayTotal.{DayTotal}
 use Rattle.amounts.specs.Cell.{cellData}
 use Rattle.amounts.specs.Interval.{IntervalRanged, residualAt}

@@ -2,5 +2,6 @@
 // here knows where in the book it stands.
 pub mod cell; // cell.rt: the amounts of one account at one interval
 pub mod interval; // interval.rt: R and S of one interval
+pub mod shares; // shares.rt: an account's shares of a day
 pub mod total; // total.rt: the running total of a day
 pub mod day; // day.rt: the posted amount of a day

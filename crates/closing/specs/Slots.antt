@@ -7,7 +7,7 @@ use Rattle.integer.specs.Words.{part}
 use Rattle.rulebook.specs.declared.Terms.{Terms}
 use Rattle.rulebook.specs.DayAmount.{settlesResidual, residualDay}
 use Rattle.rulebook.specs.Layout.{slotLength, slotStart}
-use Rattle.amounts.specs.declared.day.Residuals.{Residuals}
+use Rattle.amounts.specs.declared.shares.Residuals.{Residuals}
 use Rattle.amounts.specs.Day.{residualsIf}
 
 -- the words of day d's slot

@@ -1,9 +1,9 @@
 // Document 01, "Close": the statement, N amounts and then the MSSL's, in cents.
-use amounts::day::Residuals;
-use amounts::day::no_sums;
 use amounts::day::posted_amount;
-use amounts::day::shares_due;
-use amounts::day::sums_due;
+use amounts::shares::Residuals;
+use amounts::shares::no_sums;
+use amounts::shares::shares_due;
+use amounts::shares::sums_due;
 use integer::add;
 use integer::put_word;
 use integer::word_at;

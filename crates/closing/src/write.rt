@@ -6,7 +6,7 @@ use crate::slots::is_due;
 use crate::slots::then_day;
 use crate::statement::post_amounts;
 use crate::statement::post_mssl;
-use amounts::day::residuals_due;
+use amounts::shares::residuals_due;
 use book::places::slot_start;
 use book::words::clear;
 use integer::put_word;

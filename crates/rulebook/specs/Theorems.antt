@@ -58,7 +58,8 @@ use Rattle.rulebook.specs.examples.SubmitExamples.{StoredRows, stored-ro
 use Rattle.rulebook.specs.examples.HistoryExamples.{Closes, closes-told, NewBooks, new-books}
 use Rattle.rulebook.specs.examples.EditionExamples.{SecondShares, second-shares, Editions, editions}
 use Rattle.rulebook.specs.examples.SearchExamples.{SearchedFlags, searched-flags}
-use Rattle.rulebook.specs.laws.SharesLaws.{share-total, share-rule, every-kwh}
+use Rattle.rulebook.specs.laws.SharesLaws.{share-total, share-rule}
+use Rattle.rulebook.specs.laws.SecondShareLaws.{every-kwh}
 use Rattle.rulebook.specs.laws.TranchesLaws.{tranche-split}
 use Rattle.rulebook.specs.laws.DayAmountLaws.{interval-shares, residual-day-shares, interval-parts, posted-within, mssl-within}
 use Rattle.rulebook.specs.laws.WalkLaws.{days-are-places}

@@ -2,6 +2,7 @@
 pub mod UnitsLaws
 pub mod ReferencePriceLaws
 pub mod SharesLaws
+pub mod SecondShareLaws
 pub mod TranchesLaws
 pub mod DayAmountLaws
 pub mod CallsLaws

@@ -16,15 +16,15 @@ use Rattle.integer.specs.laws.WordsLaws.{row-fits, lent, part-part}
 use Rattle.rulebook.specs.Units.{intervals, mostQuantity}
 use Rattle.rulebook.specs.declared.Edition.{Edition}
 use Rattle.rulebook.specs.Shares.{shareBy}
-use Rattle.rulebook.specs.laws.SharesLaws.{share-by-cap}
+use Rattle.rulebook.specs.laws.SecondShareLaws.{share-by-cap}
 use Rattle.rulebook.specs.Layout.{cellPlace, accountWords, intervalLength, intervalOf}
 use Rattle.rulebook.specs.DayAmount.{referencePriceOf, vestingAmount}
 use Rattle.rulebook.specs.laws.TestLaws.{T-path}
 use Rattle.rulebook.specs.laws.SizeLaws.{price-sized, vesting-size, share-amount-size, amount-size}
 use Rattle.amounts.specs.Cell.{cellData, RangedCell}
-use Rattle.amounts.specs.declared.day.Residuals.{Residuals}
-use Rattle.amounts.specs.declared.day.RunningSums.{RunningSums}
-use Rattle.amounts.specs.declared.day.DayShares.{DayShares}
+use Rattle.amounts.specs.declared.shares.Residuals.{Residuals}
+use Rattle.amounts.specs.declared.shares.RunningSums.{RunningSums}
+use Rattle.amounts.specs.declared.shares.DayShares.{DayShares}
 use Rattle.amounts.specs.Interval.{residualAt}
 use Rattle.amounts.specs.Total.{absorbed}
 use Rattle.amounts.specs.Day.{cellAt, SlotRanged, DaysRanged, SumsRanged, SharesRanged, residualsOf, residualIn, uegqIn, sumIn, sumsWith, sumsBefore, shareIn, sharesOf, sharesIn, cellResidual, amountAt, slotAmount, totalTo}

@@ -12,7 +12,7 @@ use Rattle.rulebook.specs.declared.Terms.{Terms}
 use Rattle.rulebook.specs.declared.Edition.{Edition}
 use Rattle.rulebook.specs.Units.{lastDay, intervals}
 use Rattle.rulebook.specs.Shares.{shareBy, editionShare}
-use Rattle.rulebook.specs.DayAmount.{spareGeneration, residualLoad, rvq, residualAmount, settlesResidual, residualDay, editionOf, intervalAmount, exactAmount, inCents, postedAmount}
+use Rattle.rulebook.specs.DayAmount.{spareGeneration, rvq, residualAmount, settlesResidual, residualDay, editionOf, intervalAmount, exactAmount, inCents, postedAmount}
 use Rattle.rulebook.specs.Layout.{intervalOf}
 use Rattle.rulebook.specs.BookData.{bookData, termsOf, nextDay}
 use Rattle.rulebook.specs.WellFormed.{wellFormed}
@@ -21,7 +21,7 @@ use Rattle.rulebook.specs.Bounds.{SizedDay}
 use Rattle.rulebook.specs.laws.AmountLaws.{SameFigures, vesting-same, residual-same}
 use Rattle.rulebook.specs.laws.BookSizeLaws.{close-sized}
 use Rattle.amounts.specs.declared.interval.ResidualAndSpare.{ResidualAndSpare}
-use Rattle.amounts.specs.declared.day.DayShares.{DayShares}
+use Rattle.amounts.specs.declared.shares.DayShares.{DayShares}
 use Rattle.amounts.specs.Cell.{cellData}
 use Rattle.amounts.specs.laws.CellLaws.{sum-cong}
 use Rattle.amounts.specs.Interval.{loadIn, dataIn}

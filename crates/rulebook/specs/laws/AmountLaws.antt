@@ -12,7 +12,7 @@ use Rattle.rulebook.specs.Units.{nearest}
 use Rattle.rulebook.specs.ReferencePrice.{referencePrice}
 use Rattle.rulebook.specs.DayAmount.{AccountData, SettlementData, referencePriceOf, vestedQuantity, tenderAmount, vestingAmount, shareAmount, hedgeTotal, residualLoad, rvq, residualAmount, settlesResidual, residualDay, editionOf, intervalAmount, exactAmount, postedAmount}
 use Rattle.rulebook.specs.laws.ReferencePriceLaws.{price-cong}
-use Rattle.rulebook.specs.laws.SharesLaws.{edition-cong}
+use Rattle.rulebook.specs.laws.SecondShareLaws.{edition-cong}
 
 -- ---- One interval
 

@@ -17,8 +17,9 @@ use Rattle.rulebook.specs.declared.Edition.{Edition}
 use Rattle.rulebook.specs.declared.Edition.the-variants.{First, Second}
 use Rattle.rulebook.specs.Units.{thousandthsPerCent}
 use Rattle.rulebook.specs.Shares.{share, secondShare, shareBy, editionShare}
-use Rattle.rulebook.specs.DayAmount.{AccountData, SettlementData, residualLoad, rvq, IntervalShares, referencePriceOf, vestingAmount, residualAmount, settlesResidual, editionOf, residualLoadAt, uegqAt, ResidualDayShares, intervalAmount, IntervalParts, exactAmount, postedAmount, msslAmount, msslExact}
-use Rattle.rulebook.specs.laws.SharesLaws.{share-total, every-kwh, edition-total}
+use Rattle.rulebook.specs.DayAmount.{AccountData, SettlementData, residualLoad, rvq, IntervalShares, vestingAmount, residualAmount, settlesResidual, editionOf, residualLoadAt, uegqAt, ResidualDayShares, intervalAmount, IntervalParts, exactAmount, postedAmount, msslAmount, msslExact}
+use Rattle.rulebook.specs.laws.SharesLaws.{share-total}
+use Rattle.rulebook.specs.laws.SecondShareLaws.{every-kwh, edition-total}
 
 pub interval-shares : (load n : ℕ) (x : ℕ → AccountData) (e : Edition) → IntervalShares load n x e
 unfolding rvq

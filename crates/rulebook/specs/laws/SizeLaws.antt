@@ -19,7 +19,7 @@ use Rattle.rulebook.specs.DayAmount.{AccountData, SettlementData, refere
 use Rattle.rulebook.specs.WellFormed.{dayBound}
 use Rattle.rulebook.specs.Bounds.{Sized, SizedDay}
 use Rattle.rulebook.specs.laws.ReferencePriceLaws.{price-size}
-use Rattle.rulebook.specs.laws.SharesLaws.{edition-cap}
+use Rattle.rulebook.specs.laws.SecondShareLaws.{edition-cap}
 use Rattle.rulebook.specs.laws.TranchesLaws.{tranche-split}
 use Rattle.rulebook.specs.laws.AmountLaws.{SameFigures}
 

@@ -51,14 +51,14 @@ use denote.Triple.Table.{entered, cited}
 use denote.Triple.Walked.{says, needs, Stays, stay-none, stay-none-slice, walkOf, goes-none, goes-none-slice, Walks, ends-at, walked, walk-meets}
 use denote.Exit.{yes}
 use Rattle.amounts.specs.declared.total.DayTotal.{DayTotal}
-use Rattle.amounts.specs.declared.day.DayShares.{DayShares}
+use Rattle.amounts.specs.declared.shares.DayShares.{DayShares}
 use Rattle.amounts.specs.Total.{absorbed}
 use Rattle.amounts.specs.Day.{DaysRanged, SharesRanged, slotAmount, totalTo}
 use Rattle.amounts.specs.laws.DayLaws.{total-zero, total-suc, total-room}
 use Rattle.amounts.proofs.total.DayTotal as T
 use Rattle.amounts.proofs.total.DayTotal.Laws as T′
-use Rattle.amounts.proofs.day.DayShares as R
-use Rattle.amounts.proofs.day.DayShares.Laws as R′
+use Rattle.amounts.proofs.shares.DayShares as R
+use Rattle.amounts.proofs.shares.DayShares.Laws as R′
 use Rattle.amounts.proofs.total.absorb as absorb
 use Rattle.amounts.proofs.total.absorb.Symbol as absorb-def
 use Rattle.amounts.proofs.total.absorb.Symbol.{name as #absorb}

@@ -1,6 +1,6 @@
 -- `post_amounts` meets its contract: each turn fills one word more.
 use mathlib.Core.Path.{_≡_, refl, sym, ap, _∙_, subst}
-use Prim.Native.Nat.{suc, _-_, _≤_, _<_}
+use Prim.Native.Nat.{_-_, _≤_, _<_}
 use native.Mathlib.Numerals.{add-one}
 use native.Mathlib.Omega.{arith}
 use borrow.Author.Needs.{needs}
@@ -8,8 +8,8 @@ use lib.ListN.{length}
 use Rattle.integer.specs.Bits.{got}
 use Rattle.integer.specs.Words.{filled}
 use Rattle.integer.specs.laws.WordsLaws.{filled-zero, filled-step}
-use Rattle.amounts.specs.declared.day.RunningSums.{RunningSums}
-use Rattle.amounts.specs.declared.day.DayShares.{DayShares}
+use Rattle.amounts.specs.declared.shares.RunningSums.{RunningSums}
+use Rattle.amounts.specs.declared.shares.DayShares.{DayShares}
 use Rattle.amounts.specs.Day.{SumsRanged, SharesRanged, sumsIf, sumsBefore, sharesIf, sharesIn, sharesPosted, slotPosted}
 use Rattle.amounts.specs.laws.DayLaws.{sums-ranged, shares-ranged}
 use Rattle.closing.proofs.statement.post_amounts.Statement.{statement}

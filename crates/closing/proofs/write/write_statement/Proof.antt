@@ -11,7 +11,7 @@ use Rattle.integer.specs.laws.WordsLaws.{lent}
 use Rattle.rulebook.specs.declared.Edition.{Edition}
 use Rattle.rulebook.specs.DayAmount.{settlesResidual, editionOf}
 use Rattle.rulebook.specs.Layout.{slotStart}
-use Rattle.amounts.specs.declared.day.Residuals.{Residuals}
+use Rattle.amounts.specs.declared.shares.Residuals.{Residuals}
 use Rattle.amounts.specs.Day.{DaysRanged, LoadsRanged, slotPosted}
 use Rattle.closing.specs.Slots.{slotWords, thenDay, residualsDue}
 use Rattle.closing.specs.laws.SlotsLaws.{slot-sized, then-late}

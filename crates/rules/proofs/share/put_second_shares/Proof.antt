@@ -17,7 +17,8 @@ use Rattle.rulebook.specs.declared.Kind.the-variants.{Quantity}
 use Rattle.rulebook.specs.declared.Edition.the-variants.{Second}
 use Rattle.rulebook.specs.Units.{mostQuantity}
 use Rattle.rulebook.specs.Shares.{shareOf, shareBy, editionShare}
-use Rattle.rulebook.specs.laws.SharesLaws.{share-cap, share-rises, second-is}
+use Rattle.rulebook.specs.laws.SharesLaws.{share-cap}
+use Rattle.rulebook.specs.laws.SecondShareLaws.{share-rises, second-is}
 use Rattle.rulebook.specs.Calls.{quantitiesIn, spareIn, shareWord}
 use Rattle.rulebook.specs.laws.CallsLaws.{in-range-at}
 use Rattle.rules.proofs.share.put_second_shares.Statement.{statement}

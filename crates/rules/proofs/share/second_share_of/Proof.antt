@@ -4,7 +4,7 @@ use native.Mathlib.Omega.{arith}
 use borrow.Author.Needs.{needs}
 use mir.Syntax.{w64}
 use mir.Val.{toZ, ofZ}
-use Rattle.rulebook.specs.laws.SharesLaws.{second-is, share-rises}
+use Rattle.rulebook.specs.laws.SecondShareLaws.{second-is, share-rises}
 use Rattle.rules.proofs.share.second_share_of.Statement.{statement}
 use Rattle.rules.proofs.share.second_share_of.Tie as tie
 

@@ -1,7 +1,7 @@
 -- `sums_due` meets its contract: the test picks the case.
 use borrow.Author.Needs.{needs}
-use Rattle.amounts.proofs.day.sums_due.Statement.{statement}
-use Rattle.amounts.proofs.day.sums_due.Tie as tie
+use Rattle.amounts.proofs.shares.sums_due.Statement.{statement}
+use Rattle.amounts.proofs.shares.sums_due.Tie as tie
 
 sums-with-requires : tie.Need-sums-with-requires
 sums-with-requires c κs = let s = c .before in (s .pre .0 (c .if1 .taken), s .pre .1, s .pre .2, s .pre .3)

@@ -1,7 +1,7 @@
 -- `shares_due` meets its contract: the test picks the case.
 use borrow.Author.Needs.{needs}
-use Rattle.amounts.proofs.day.shares_due.Statement.{statement}
-use Rattle.amounts.proofs.day.shares_due.Tie as tie
+use Rattle.amounts.proofs.shares.shares_due.Statement.{statement}
+use Rattle.amounts.proofs.shares.shares_due.Tie as tie
 
 shares-of-requires : tie.Need-shares-of-requires
 shares-of-requires c κs = let s = c .before in (s .pre .0 (c .if1 .taken), s .pre .1, s .pre .2, s .pre .3, s .pre .4)

@@ -1,7 +1,7 @@
 -- `uegq_at` meets its contract: what is lent is the account's cell at the interval.
-use mathlib.Core.Path.{_≡_, ap, _∙_}
+use mathlib.Core.Path.{ap, _∙_}
 use mathlib.Core.List.{List}
-use Prim.Native.Nat.{ℕ, _+_, _*_, _≤_}
+use Prim.Native.Nat.{_+_, _*_, _≤_}
 use native.Mathlib.Omega.{arith}
 use borrow.Author.Needs.{needs}
 use lib.IntN.{ℤ}
@@ -9,8 +9,8 @@ use lib.ListN.{length}
 use Rattle.rulebook.specs.Layout.{cellPlace, accountWords}
 use Rattle.amounts.specs.Cell.{cellData}
 use Rattle.amounts.specs.laws.DayLaws.{lent-cell, cell-fits}
-use Rattle.amounts.proofs.day.uegq_at.Statement.{statement}
-use Rattle.amounts.proofs.day.uegq_at.Tie as tie
+use Rattle.amounts.proofs.shares.uegq_at.Statement.{statement}
+use Rattle.amounts.proofs.shares.uegq_at.Tie as tie
 
 -- the cell lies within the slot
 before-fits : (c : tie.After-interval-length) → c .before .args .h * c .interval-length .result + cellPlace (c .before .args .a) + accountWords ≤ length (c .before .args .slot .now)

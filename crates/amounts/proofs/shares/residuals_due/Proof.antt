@@ -1,7 +1,7 @@
 -- `residuals_due` meets its contract: the test picks the case.
 use borrow.Author.Needs.{needs}
-use Rattle.amounts.proofs.day.residuals_due.Statement.{statement}
-use Rattle.amounts.proofs.day.residuals_due.Tie as tie
+use Rattle.amounts.proofs.shares.residuals_due.Statement.{statement}
+use Rattle.amounts.proofs.shares.residuals_due.Tie as tie
 
 residuals-of-requires : tie.Need-residuals-of-requires
 residuals-of-requires c κs = let s = c .before in (s .pre .0 (c .if1 .taken), s .pre .1)

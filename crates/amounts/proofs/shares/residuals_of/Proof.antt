@@ -16,12 +16,12 @@ use Rattle.integer.specs.laws.WordsLaws.{row-fits, lent, filled-step, filled-wh
 use Rattle.rulebook.specs.Units.{intervals}
 use Rattle.rulebook.specs.Layout.{intervalLength, intervalOf}
 use Rattle.amounts.specs.declared.interval.ResidualAndSpare.{ResidualAndSpare}
-use Rattle.amounts.specs.declared.day.Residuals.{Residuals}
+use Rattle.amounts.specs.declared.shares.Residuals.{Residuals}
 use Rattle.amounts.specs.Interval.{residualAt}
 use Rattle.amounts.specs.laws.IntervalLaws.{residual-le}
 use Rattle.amounts.specs.Day.{residualsOf}
-use Rattle.amounts.proofs.day.residuals_of.Statement.{statement}
-use Rattle.amounts.proofs.day.residuals_of.Tie as tie
+use Rattle.amounts.proofs.shares.residuals_of.Statement.{statement}
+use Rattle.amounts.proofs.shares.residuals_of.Tie as tie
 
 abbrev loadAt : ℕ → List ℤ → ℕ → ℤ
 loadAt n x i = residualAt n (intervalOf n x i) .load

@@ -8,10 +8,10 @@ use Rattle.integer.specs.Below.{tabulate}
 use Rattle.integer.specs.Words.{filled}
 use Rattle.integer.specs.laws.WordsLaws.{filled-step, filled-whole}
 use Rattle.rulebook.specs.Units.{intervals}
-use Rattle.amounts.specs.declared.day.RunningSums.{RunningSums}
+use Rattle.amounts.specs.declared.shares.RunningSums.{RunningSums}
 use Rattle.amounts.specs.Day.{uegqIn, sumIn, sumsWith}
-use Rattle.amounts.proofs.day.sums_with.Statement.{statement}
-use Rattle.amounts.proofs.day.sums_with.Tie as tie
+use Rattle.amounts.proofs.shares.sums_with.Statement.{statement}
+use Rattle.amounts.proofs.shares.sums_with.Tie as tie
 
 abbrev Inv-loop : tie.InvT-loop
 Inv-loop slot n a sums uegq₀ h₀ uegq h = (h ≤ intervals) × (uegq ≡ filled h (λ i. sumIn sums i + uegqIn n slot a i) uegq₀)

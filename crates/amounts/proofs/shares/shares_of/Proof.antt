@@ -15,11 +15,11 @@ use Rattle.integer.specs.Words.{word, filled}
 use Rattle.integer.specs.laws.WordsLaws.{filled-step, filled-whole}
 use Rattle.rulebook.specs.Units.{intervals}
 use Rattle.rulebook.specs.Shares.{leastResidual, shareBy}
-use Rattle.rulebook.specs.laws.SharesLaws.{share-by-cap}
-use Rattle.amounts.specs.declared.day.DayShares.{DayShares}
+use Rattle.rulebook.specs.laws.SecondShareLaws.{share-by-cap}
+use Rattle.amounts.specs.declared.shares.DayShares.{DayShares}
 use Rattle.amounts.specs.Day.{residualIn, sumIn, shareIn, sharesOf}
-use Rattle.amounts.proofs.day.shares_of.Statement.{statement}
-use Rattle.amounts.proofs.day.shares_of.Tie as tie
+use Rattle.amounts.proofs.shares.shares_of.Statement.{statement}
+use Rattle.amounts.proofs.shares.shares_of.Tie as tie
 
 abbrev Inv-loop : tie.InvT-loop
 Inv-loop slot edition n a residuals sums kwh₀ h₀ kwh h = (h ≤ intervals) × (kwh ≡ filled h (shareIn edition n slot residuals sums a) kwh₀)
