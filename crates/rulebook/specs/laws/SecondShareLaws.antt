@@ -104,7 +104,6 @@ module _ (r : ℤ) (n : ℕ) (uegq : ℕ → ℕ) where
   second-together : (a : ℕ) → sumℕ a (secondShare r n uegq) ≡ shareOf r spare (runningSum uegq a)
   unfolding secondShare
   second-together a =
-      let f : ℕ → ℕ = λ i. shareOf r spare (sumℕ i uegq) in
       let e = sumℕ-rises a (λ i. shareOf r spare (sumℕ i uegq)) (λ i l. rw (fold-suc _+_ 0 i uegq) (share-rises r spare (sumℕ i uegq) (uegq i))) in
       let g = sumℕ-cong a (λ i. secondShareOf r spare (sumℕ i uegq) (uegq i)) (λ i. shareOf r spare (sumℕ (i + 1) uegq) - shareOf r spare (sumℕ i uegq))
       (λ i l. second-is r spare (sumℕ i uegq) (uegq i) ∙ ap (λ (x : ℕ). shareOf r spare x - shareOf r spare (sumℕ i uegq)) (sym (fold-suc _+_ 0 i uegq))) in

@@ -30,7 +30,7 @@ mul-uegq : tie.Need-mul-uegq Inv-loop μ-loop
 mul-uegq c = omega arith
 
 element-copy-out-uegq : tie.Need-element-copy-out-uegq Inv-loop μ-loop
-element-copy-out-uegq c = c .before .loop-test .taken
+element-copy-out-uegq c = omega arith
 
 add-uegq : tie.Need-add-uegq Inv-loop μ-loop
 add-uegq c =
