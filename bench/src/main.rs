@@ -43,26 +43,7 @@ fn small(rng: &mut Rng) {
         rng,
         sections,
     )];
-    let second = terms(32).changing(FIRST_DAY);
-    for (name, terms, filled) in [
-        (
-            "close, residuals due, random counts, 32 accounts",
-            terms(32),
-            Rows::Mixed,
-        ),
-        (
-            "close, residuals due of the second edition, random counts, 32 accounts",
-            second,
-            Rows::Mixed,
-        ),
-        (
-            "close, no residual due, random counts, 32 accounts",
-            terms(32),
-            Rows::Open,
-        ),
-    ] {
-        rows.push(measures::closing(name, &large::book(rng, terms, filled)));
-    }
+    rows.extend(closes(rng, terms(32), ", random counts, 32 accounts"));
     println!("\n## Small books: lag and horizon 1\n");
     tables::plain(&rows);
 }
@@ -117,18 +98,28 @@ fn calls(rng: &mut Rng, terms: Terms) -> Vec<Measured> {
             sections,
         ));
     }
-    let second = terms.changing(FIRST_DAY);
-    for (name, terms, filled) in [
-        ("close, residuals due, all pairs used", terms, Rows::Full),
-        ("close, residuals due, random counts", terms, Rows::Mixed),
+    rows.push(measures::closing(
+        "close, residuals due, all pairs used",
+        &large::book(rng, terms, Rows::Full),
+    ));
+    rows.extend(closes(rng, terms, ", random counts"));
+    rows
+}
+
+/// Closes of books of these terms: by the first edition, by the second, and of the first day, which settles no residual.
+fn closes(rng: &mut Rng, terms: Terms, of: &str) -> Vec<Measured> {
+    [
+        ("residuals due", terms, Rows::Mixed),
         (
-            "close, residuals due of the second edition",
-            second,
+            "residuals due of the second edition",
+            terms.changing(FIRST_DAY),
             Rows::Mixed,
         ),
-        ("close, no residual due, random counts", terms, Rows::Open),
-    ] {
-        rows.push(measures::closing(name, &large::book(rng, terms, filled)));
-    }
-    rows
+        ("no residual due", terms, Rows::Open),
+    ]
+    .map(|(name, terms, filled)| {
+        let book = large::book(rng, terms, filled);
+        measures::closing(&format!("close, {name}{of}"), &book)
+    })
+    .into()
 }

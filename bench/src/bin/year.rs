@@ -1,5 +1,6 @@
 //! A year in one go: the book of 32 accounts, lag 75 and horizon 92, closed 365 times, with submissions for each day and residuals from the
-//! 76th close on, those of the first hundred days by the first edition and those of the others by the second. Both implementations make the same calls, one after the other; what each one answered and left must be equal.
+//! 76th close on, those of the first hundred days by the first edition and those of the others by the second. Both implementations make the
+//! same calls, one after the other; what each one answered and left must be equal.
 
 use bench::large::{file, Given, Sections, Terms, FIRST_DAY};
 use bench::robijan;

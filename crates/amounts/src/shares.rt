@@ -42,7 +42,7 @@ fn residuals_of(slot: &[i64], n: usize) -> Residuals
     }
 }
 
-// None, where no residual is due.
+// No R and S, where no residual is due.
 fn no_residuals() -> Residuals
     ensures { λ r. ⌜ r ≡ noResiduals ⌝ }
 {
@@ -141,7 +141,7 @@ fn shares_of(
     DayShares { kwh: kwh }
 }
 
-// None, where no residual is due.
+// No shares, where no residual is due.
 fn no_shares() -> DayShares
     ensures { λ r. ⌜ r ≡ noShares ⌝ }
 {

@@ -1,4 +1,4 @@
-// Document 01, "Close": the slots of the closing day D and of r = D − L.
+// Document 01, "Close": whether a close of D settles r = D − L, whose slot it reads beside D's, and, document 02, P2, r's edition.
 use rulebook::Edition;
 use rulebook::Terms;
 ghost use mathlib.Core.Path.{_≡_};

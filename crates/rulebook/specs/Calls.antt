@@ -2,7 +2,7 @@
 use mathlib.Core.Path.{_≡_}
 use mathlib.Core.Bool.{Bool, true, cond, _&&_}
 use mathlib.Core.List.{List}
-use Prim.Native.Nat.{ℕ, _≤_}
+use Prim.Native.Nat.{ℕ, _≤_, _<_}
 use lib.Dec.{leb, eqb}
 use lib.IntN.{ℤ, pos, natAbs}
 use lib.ListN.{length}
@@ -12,9 +12,10 @@ use Rattle.integer.specs.Words.{word, filled}
 use Rattle.rulebook.specs.declared.Kind.the-variants.{Quantity, Injection, Price}
 use Rattle.rulebook.specs.declared.Kind.{Kind}
 use Rattle.rulebook.specs.declared.Edition.{Edition}
+use Rattle.rulebook.specs.declared.Edition.the-variants.{First, Second}
 use Rattle.rulebook.specs.Units.{inRange, between, asQuantity, intervals, positive}
 use Rattle.rulebook.specs.ReferencePrice.{mostFacilities, referencePrice}
-use Rattle.rulebook.specs.Shares.{mostAccounts, leastResidual, mostResidual, editionShare, spareOf}
+use Rattle.rulebook.specs.Shares.{mostAccounts, leastResidual, mostResidual, share, secondShare, editionShare, spareOf}
 use Rattle.rulebook.specs.Tranches.{tranche1, tranche2}
 use Rattle.rulebook.specs.Profile.{mostDayKwh, mostContracted, keepsLimits, totalPossible}
 use Rattle.rulebook.specs.declared.PriceReturned.{PriceReturned}
@@ -75,6 +76,13 @@ shareCall e r uegq output =
     (cond (leb (length uegq) (length output)) (record { number = accepted; output = filled (length uegq) (shareWord e r uegq) output })
     (record { number = outputTooShort; output = output }))
     (record { number = outsideRange; output = output })
+
+-- what an accepted call writes: each account's share, the first call by the first edition, the second by the second
+pub record SharesCalled (r : ℤ) (uegq output : List ℤ) : Type 0 where
+  pub first : shareCall First r uegq output .number ≡ accepted → (a : ℕ) → a < length uegq
+      → word (shareCall First r uegq output .output) a ≡ pos (share r (length uegq) (quantitiesIn uegq) a)
+  pub second : shareCall Second r uegq output .number ≡ accepted → (a : ℕ) → a < length uegq
+      → word (shareCall Second r uegq output .output) a ≡ pos (secondShare r (length uegq) (quantitiesIn uegq) a)
 
 -- ---- Tranches: RVQ, BVQ, MQ
 

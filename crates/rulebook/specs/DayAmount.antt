@@ -6,6 +6,7 @@ use Prim.Native.Nat.{ℕ, _+_, _-_, _≤_, _<_, min}
 use lib.Dec.{leb, eqb}
 use lib.IntN.{ℤ, pos, negℤ, _+ℤ_, _-ℤ_, _*ℤ_}
 use Rattle.integer.specs.Below.{sumℕ, sumℤ}
+use Rattle.integer.specs.Nearest.{IsNearest}
 use Rattle.rulebook.specs.declared.Terms.{Terms}
 use Rattle.rulebook.specs.declared.Edition.{Edition}
 use Rattle.rulebook.specs.declared.Edition.the-variants.{First, Second}
@@ -160,8 +161,10 @@ module _ (o : Terms) where
       pub changedShares : o .change ≢ 0 → o .change ≤ r → (a : ℕ) → shareAt a ≡ secondShare residualLoadAt (o .accounts) uegqAt a
       pub changedTotal : o .change ≢ 0 → o .change ≤ r → sumℕ (o .accounts) shareAt ≡ min (spareOf (o .accounts) uegqAt) (positive residualLoadAt)
 
-  -- what a close of D that settles a residual day adds up at an interval: vesting of D, and r's share of that edition, priced with r's own V, BVQ, MQ and prices
-  pub record IntervalParts (x : SettlementData) (a D i : ℕ) : Type 0 where
+  -- what a close of D posts to account a is the nearest cent to the sum over the intervals of vesting of D and, if it settles a residual day, of r's share by r's
+  -- edition, priced with r's own V, BVQ, MQ and prices
+  pub record PostedParts (x : SettlementData) (a D : ℕ) : Type 0 where
     pub settles : o .first + o .lag ≤ D
-        → intervalAmount x a D i ≡ vestingAmount (x .account a D i) +ℤ shareAmount (x .account a (D - o .lag) i) (referencePriceOf (x .account a (D - o .lag) i)) (shareAt x (D - o .lag) i a)
-    pub settlesNone : D < o .first + o .lag → intervalAmount x a D i ≡ vestingAmount (x .account a D i)
+        → IsNearest (sumℤ intervals (λ i. vestingAmount (x .account a D i)
+        +ℤ shareAmount (x .account a (D - o .lag) i) (referencePriceOf (x .account a (D - o .lag) i)) (shareAt x (D - o .lag) i a))) 1000 (postedAmount x a D)
+    pub settlesNone : D < o .first + o .lag → IsNearest (sumℤ intervals (λ i. vestingAmount (x .account a D i))) 1000 (postedAmount x a D)

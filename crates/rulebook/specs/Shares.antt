@@ -58,14 +58,15 @@ secondShareOf r s before u = sharedOr r s u (partOf r s (before + u) - partOf r 
 unfoldable pub secondShare : ℤ → ℕ → (ℕ → ℕ) → ℕ → ℕ
 secondShare r n uegq a = secondShareOf r (spareOf n uegq) (runningSum uegq a) (uegq a)
 
--- ---- By edition: of an account with UEGQ u, where the accounts before it have `before`; and of account a of n
+-- ---- By edition: of account a of n; and, as code has it, of an account with UEGQ u where the accounts before it have `before`
+
+unfoldable pub editionShare : Edition → ℤ → ℕ → (ℕ → ℕ) → ℕ → ℕ
+editionShare First r n uegq a = share r n uegq a
+editionShare Second r n uegq a = secondShare r n uegq a
 
 unfoldable pub shareBy : Edition → ℤ → ℕ → ℕ → ℕ → ℕ
 shareBy First r s before u = shareOf r s u
 shareBy Second r s before u = secondShareOf r s before u
-
-unfoldable pub editionShare : Edition → ℤ → ℕ → (ℕ → ℕ) → ℕ → ℕ
-editionShare e r n uegq a = shareBy e r (spareOf n uegq) (runningSum uegq a) (uegq a)
 
 -- ---- What the rule says of a share
 

@@ -17,7 +17,7 @@ use Rattle.rulebook.specs.declared.Verdict.the-variants.{Accepted}
 use Rattle.rulebook.specs.Units.{lastDay, intervals, nearest}
 use Rattle.rulebook.specs.Shares.{shareOf, share, secondShare, ShareTotal, RuleShare, EveryKwh}
 use Rattle.rulebook.specs.Tranches.{TrancheSplit}
-use Rattle.rulebook.specs.DayAmount.{AccountData, SettlementData, exactAmount, postedAmount, msslAmount, IntervalShares, ResidualDayShares, IntervalParts, msslExact}
+use Rattle.rulebook.specs.DayAmount.{AccountData, SettlementData, exactAmount, postedAmount, msslAmount, IntervalShares, ResidualDayShares, PostedParts, msslExact}
 use Rattle.rulebook.specs.Terms.{InTerms}
 use Rattle.rulebook.specs.Sections.{accountsOf}
 use Rattle.rulebook.specs.Layout.{ring, slot, size, width, rowWord, InWindow}
@@ -31,6 +31,7 @@ use Rattle.rulebook.specs.Judging.{limitsOf, judged}
 use Rattle.rulebook.specs.Submit.{submitted, entryOr}
 use Rattle.rulebook.specs.Close.{closed}
 use Rattle.rulebook.specs.Numbers.{Answer, accepted, ofSubmit, ofClose}
+use Rattle.rulebook.specs.Calls.{SharesCalled}
 use Rattle.rulebook.specs.NamedRows.{NamedRow, namedRows}
 use Rattle.rulebook.specs.History.{Call, callsIn, lastFor}
 use Rattle.rulebook.specs.Promises.{Run, historyOf, bookOf}
@@ -60,8 +61,9 @@ use Rattle.rulebook.specs.examples.EditionExamples.{SecondShares, second
 use Rattle.rulebook.specs.examples.SearchExamples.{SearchedFlags, searched-flags}
 use Rattle.rulebook.specs.laws.SharesLaws.{share-total, share-rule}
 use Rattle.rulebook.specs.laws.SecondShareLaws.{every-kwh}
+use Rattle.rulebook.specs.laws.CallsLaws.{shares-called}
 use Rattle.rulebook.specs.laws.TranchesLaws.{tranche-split}
-use Rattle.rulebook.specs.laws.DayAmountLaws.{interval-shares, residual-day-shares, interval-parts, posted-within, mssl-within}
+use Rattle.rulebook.specs.laws.DayAmountLaws.{interval-shares, residual-day-shares, posted-parts, posted-within, mssl-within}
 use Rattle.rulebook.specs.laws.WalkLaws.{days-are-places}
 use Rattle.rulebook.specs.laws.WindowLaws.{window-days-apart, slot-day}
 use Rattle.rulebook.specs.laws.FormedBookLaws.{formed-book, book-formed}
@@ -142,7 +144,7 @@ pub record Theorems : Type 0 where
   pub slotDay : (o : Terms) (C : ℕ) → 1 ≤ o .horizon → o .first ≤ C → (v : ℕ) → v < ring o → SlotDay o C v
   -- well formed by days is well formed place by place
   pub daysArePlaces : (o : Terms) (w : List ℤ) (k : ℕ) → 1 ≤ o .horizon → daysFit o w (o .first + k) ≡ all (ring o) (windowSlotFits o w k)
-  -- ---- Roundings: each is the property that a reader knows
+  -- ---- Roundings, shares and what is posted: each is the property that a reader knows
 
   pub nearestIs : (z : ℤ) (d : ℕ) → 0 < d → IsNearest z d (nearest z d)
   pub shareRule : (r : ℤ) (s u : ℕ) → 0 < s → RuleShare r s u (shareOf r s u)
@@ -152,9 +154,11 @@ pub record Theorems : Type 0 where
   -- an interval's, of either edition; and of each residual day by its own
   pub intervalShares : (load n : ℕ) (x : ℕ → AccountData) (e : Edition) → IntervalShares load n x e
   pub residualDayShares : (o : Terms) (x : SettlementData) (r i : ℕ) → ResidualDayShares o x r i
-  -- these are the shares that a statement prices
-  pub intervalParts : (o : Terms) (x : SettlementData) (a D i : ℕ) → IntervalParts o x a D i
+  -- what the two calls write
+  pub sharesCalled : (r : ℤ) (uegq output : List ℤ) → SharesCalled r uegq output
   pub tranches : (rvq bvq mq : ℕ) → TrancheSplit rvq bvq mq
+  -- what is posted: the nearest cent to the day's sum, of the residual day's shares by its edition
+  pub postedParts : (o : Terms) (x : SettlementData) (a D : ℕ) → PostedParts o x a D
   -- posted cents are within 500 thousandths of the exact amount, the MSSL's within N × 500
   pub postedWithin : (o : Terms) (x : SettlementData) (D a : ℕ) → natAbs (pos 1000 *ℤ postedAmount o x a D -ℤ exactAmount o x a D) ≤ 500
   pub msslWithin : (o : Terms) (x : SettlementData) (D : ℕ) → natAbs (pos 1000 *ℤ msslAmount o x D -ℤ msslExact o x D) ≤ o .accounts * 500
@@ -241,8 +245,9 @@ theorems = record {
   everyKwh = every-kwh;
   intervalShares = interval-shares;
   residualDayShares = residual-day-shares;
-  intervalParts = interval-parts;
+  sharesCalled = shares-called;
   tranches = tranche-split;
+  postedParts = posted-parts;
   postedWithin = posted-within;
   msslWithin = mssl-within;
   starredRight = starred-right;

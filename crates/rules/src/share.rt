@@ -45,7 +45,7 @@ fn second_share_of(r: i64, s: u64, before: u64, u: u64) -> u64
     share_of(r, s, before + u) - share_of(r, s, before)
 }
 
-// By edition.
+// The share of an account with UEGQ u by edition, where the accounts before it have `before`.
 pub fn share_by(edition: Edition, r: i64, s: u64, before: u64, u: u64) -> u64
     requires { ⌜ (natAbs r ≤ leastResidual) × (before + u ≤ mostSpare) ⌝ }
     ensures { λ q. ⌜ q ≡ shareBy edition r s before u ⌝ }
@@ -110,7 +110,7 @@ fn put_second_shares(r: i64, s: u64, uegq: &[i64], output: &mut [i64])
     }
 }
 
-// By edition.
+// Writes one share an account by edition, where s is S, and keeps the words beyond.
 fn put_shares(edition: Edition, r: i64, s: u64, uegq: &[i64], output: &mut [i64])
     requires { ⌜ (natAbs r ≤ leastResidual) × (s ≡ spareIn (now uegq)) × (allInRange Quantity (now uegq) ≡ true) × (length (now uegq) ≤ mostAccounts) × (length (now uegq) ≤ length (now output)) ⌝ }
     ensures { λ _. ⌜ now (output .exit) ≡ filled (length (now (uegq .entry))) (shareWord edition r (now (uegq .entry))) (now (output .entry)) ⌝ }

@@ -1,4 +1,4 @@
--- Sizes of what an account has at an interval, and of the running total of two slots. Assumes nothing.
+-- Cells of a slot; running sums and shares, read back and in their ranges; sizes of what an account has at an interval and of its running total. Assumes nothing.
 use mathlib.Core.Path.{_≡_, refl, sym, ap, _∙_}
 use mathlib.Core.Bool.{Bool, true, false}
 use mathlib.Core.List.{List}

@@ -11,13 +11,14 @@ use Rattle.integer.specs.laws.BelowLaws.{sumℤ-cong}
 use Rattle.rulebook.specs.declared.Terms.{Terms}
 use Rattle.rulebook.specs.declared.Edition.{Edition}
 use Rattle.rulebook.specs.Units.{lastDay, intervals}
-use Rattle.rulebook.specs.Shares.{shareBy, editionShare}
-use Rattle.rulebook.specs.DayAmount.{spareGeneration, rvq, residualAmount, settlesResidual, residualDay, editionOf, intervalAmount, exactAmount, inCents, postedAmount}
+use Rattle.rulebook.specs.Shares.{shareBy}
+use Rattle.rulebook.specs.DayAmount.{spareGeneration, residualLoad, rvq, residualAmount, settlesResidual, residualDay, editionOf, intervalAmount, exactAmount, inCents, postedAmount}
 use Rattle.rulebook.specs.Layout.{intervalOf}
 use Rattle.rulebook.specs.BookData.{bookData, termsOf, nextDay}
 use Rattle.rulebook.specs.WellFormed.{wellFormed}
 use Rattle.rulebook.specs.Close.{posted}
 use Rattle.rulebook.specs.Bounds.{SizedDay}
+use Rattle.rulebook.specs.laws.SecondShareLaws.{edition-by}
 use Rattle.rulebook.specs.laws.AmountLaws.{SameFigures, vesting-same, residual-same}
 use Rattle.rulebook.specs.laws.BookSizeLaws.{close-sized}
 use Rattle.amounts.specs.declared.interval.ResidualAndSpare.{ResidualAndSpare}
@@ -41,21 +42,22 @@ module _ (o : Terms) (w : List ℤ) (a : ℕ) (ha : a < o .accounts) where
     alike b hb = cell-alike o w d b i hb hi (sized b i hb hi .few)
 
     -- an account's share of the slot is the rule book's, of R and S of the interval
-    share-same : (s : Edition) → rvq (loadIn interval) (o .accounts) (dataIn interval) s a
-        ≡ getD (sharesIn true s (o .accounts) (slotWords o w d) (residualsOf (o .accounts) (slotWords o w d)) a .kwh) i 0
-    unfolding rvq editionShare spareGeneration
-    share-same s =
-        ap (λ (r : ResidualAndSpare). shareBy s (r .load) (r .spare) (sumℕ a (λ b. dataIn interval b .uegq)) (dataIn interval a .uegq)) (sym (residual-in (o .accounts) (slotWords o w d) i hi))
-        ∙ sym (share-in s (o .accounts) (slotWords o w d) (residualsOf (o .accounts) (slotWords o w d)) a i hi)
+    share-same : (e : Edition) → rvq (loadIn interval) (o .accounts) (dataIn interval) e a
+        ≡ getD (sharesIn true e (o .accounts) (slotWords o w d) (residualsOf (o .accounts) (slotWords o w d)) a .kwh) i 0
+    unfolding rvq spareGeneration
+    share-same e =
+        edition-by e (residualLoad (loadIn interval) (o .accounts) (dataIn interval)) (o .accounts) (λ b. dataIn interval b .uegq) a
+        ∙ ap (λ (r : ResidualAndSpare). shareBy e (r .load) (r .spare) (sumℕ a (λ b. dataIn interval b .uegq)) (dataIn interval a .uegq)) (sym (residual-in (o .accounts) (slotWords o w d) i hi))
+        ∙ sym (share-in e (o .accounts) (slotWords o w d) (residualsOf (o .accounts) (slotWords o w d)) a i hi)
 
     -- the residual amount of the book's data is that of the slot's cell, of its share
-    slot-residual : (s : Edition) → residualAmount (bookData o w .load d i) (o .accounts) (λ b. bookData o w .account b d i) s a
-        ≡ cellResidual (cellAt (o .accounts) (slotWords o w d) a i) (getD (sharesIn true s (o .accounts) (slotWords o w d) (residualsOf (o .accounts) (slotWords o w d)) a .kwh) i 0)
+    slot-residual : (e : Edition) → residualAmount (bookData o w .load d i) (o .accounts) (λ b. bookData o w .account b d i) e a
+        ≡ cellResidual (cellAt (o .accounts) (slotWords o w d) a i) (getD (sharesIn true e (o .accounts) (slotWords o w d) (residualsOf (o .accounts) (slotWords o w d)) a .kwh) i 0)
     unfolding residualAmount
-    slot-residual s =
-        residual-same (bookData o w .load d i) (o .accounts) (λ b. bookData o w .account b d i) (dataIn interval) alike s a ha
-        ∙ ap (λ (l : ℕ). residualAmount l (o .accounts) (dataIn interval) s a) (load-same o w d i hi)
-        ∙ ap (cellResidual (cellAt (o .accounts) (slotWords o w d) a i)) (share-same s)
+    slot-residual e =
+        residual-same (bookData o w .load d i) (o .accounts) (λ b. bookData o w .account b d i) (dataIn interval) alike e a ha
+        ∙ ap (λ (l : ℕ). residualAmount l (o .accounts) (dataIn interval) e a) (load-same o w d i hi)
+        ∙ ap (cellResidual (cellAt (o .accounts) (slotWords o w d) a i)) (share-same e)
 
   -- ---- The day
 

@@ -13,7 +13,7 @@ use Rattle.integer.specs.Integer.{twosComplement, minus, withSign}
 use Rattle.rulebook.specs.declared.Terms.{Terms}
 use Rattle.rulebook.specs.Units.{nearest}
 use Rattle.rulebook.specs.ReferencePrice.{average, referencePrice}
-use Rattle.rulebook.specs.Shares.{share, editionShare, shareBy}
+use Rattle.rulebook.specs.Shares.{share, editionShare}
 use Rattle.rulebook.specs.DayAmount.{referencePriceOf, vestedQuantity, tenderAmount, vestingAmount, residualLoad, rvq, residualAmount, settlesResidual, editionOf, intervalAmount, exactAmount, postedAmount}
 use Rattle.rulebook.specs.Terms.{termsFit}
 use Rattle.rulebook.specs.Layout.{base, ring, intervalSize, size, slot, intervalWord, rowWord}
@@ -146,7 +146,7 @@ day-closed = refl
 
 -- the accounts' amounts, and the MSSL's
 day-amount : (formulaAmount two history 0 ≡ pos 2000) × (formulaAmount two history 1 ≡ minus 7)
-unfolding formulaAmount postedAmount exactAmount intervalAmount tenderAmount vestingAmount vestedQuantity residualLoad rvq editionShare shareBy share residualAmount settlesResidual editionOf referencePriceOf referencePrice average nearest withSign inForce latest lastFor acceptedRows closes fold fileRows sectionRows tabulate num rowEnd rowPos sectionEnd turns valueAt twosComplement numberOf figureOf
+unfolding formulaAmount postedAmount exactAmount intervalAmount tenderAmount vestingAmount vestedQuantity residualLoad rvq editionShare share residualAmount settlesResidual editionOf referencePriceOf referencePrice average nearest withSign inForce latest lastFor acceptedRows closes fold fileRows sectionRows tabulate num rowEnd rowPos sectionEnd turns valueAt twosComplement numberOf figureOf
 day-amount = (refl, refl)
 
 day-mssl : negℤ (sumℤ 2 (formulaAmount two history)) ≡ minus 1993

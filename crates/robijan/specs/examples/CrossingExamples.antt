@@ -16,7 +16,7 @@ use Rattle.rulebook.specs.declared.Section.{Section}
 use Rattle.rulebook.specs.declared.Section.the-variants.{Vesting, Meter, Residual, Ncc}
 use Rattle.rulebook.specs.Units.{nearest}
 use Rattle.rulebook.specs.ReferencePrice.{average, referencePrice}
-use Rattle.rulebook.specs.Shares.{share, shareOf, secondShare, secondShareOf, editionShare, shareBy}
+use Rattle.rulebook.specs.Shares.{share, shareOf, secondShare, secondShareOf, editionShare}
 use Rattle.rulebook.specs.Tranches.{tranche1, tranche2}
 use Rattle.rulebook.specs.DayAmount.{referencePriceOf, vestedQuantity, tenderAmount, vestingAmount, shareAmount, hedgeTotal, residualLoad, rvq, residualAmount, settlesResidual, residualDay, editionOf, intervalAmount, exactAmount, postedAmount}
 use Rattle.rulebook.specs.Layout.{base, ring, intervalSize, slot, intervalWord, rowWord}
@@ -139,7 +139,7 @@ fourth-rows = (
 -- ---- All
 
 pub crossing : Crossing
-unfolding closes postedAmount exactAmount intervalAmount tenderAmount vestingAmount vestedQuantity hedgeTotal residualLoad rvq share shareOf secondShare secondShareOf editionShare shareBy shareAmount residualAmount tranche1 tranche2 settlesResidual editionOf referencePriceOf referencePrice average nearest withSign fold numberOf figureOf inForce latest lastFor acceptedRows fileRows sectionRows tabulate num rowEnd rowPos sectionEnd turns valueAt twosComplement closeTold residualCount firstLacking searched orElse base ring intervalSize slot intervalWord rowWord
+unfolding closes postedAmount exactAmount intervalAmount tenderAmount vestingAmount vestedQuantity hedgeTotal residualLoad rvq share shareOf secondShare secondShareOf editionShare shareAmount residualAmount tranche1 tranche2 settlesResidual editionOf referencePriceOf referencePrice average nearest withSign fold numberOf figureOf inForce latest lastFor acceptedRows fileRows sectionRows tabulate num rowEnd rowPos sectionEnd turns valueAt twosComplement closeTold residualCount firstLacking searched orElse base ring intervalSize slot intervalWord rowWord
 crossing = record {
   thirdCloses = refl;
   fourthCloses = refl;

@@ -11,7 +11,7 @@ use Rattle.integer.specs.Below.{fold}
 use Rattle.rulebook.specs.declared.Terms.{Terms}
 use Rattle.rulebook.specs.Units.{nearest}
 use Rattle.rulebook.specs.ReferencePrice.{average, referencePrice}
-use Rattle.rulebook.specs.Shares.{mostAccounts, share, shareOf, editionShare, shareBy}
+use Rattle.rulebook.specs.Shares.{mostAccounts, share, shareOf, editionShare}
 use Rattle.rulebook.specs.Tranches.{tranche1, tranche2}
 use Rattle.rulebook.specs.DayAmount.{AccountData, SettlementData, referencePriceOf, vestedQuantity, tenderAmount, vestingAmount, shareAmount, hedgeTotal, spareGeneration, residualLoad, rvq, residualAmount, settlesResidual, editionOf, intervalAmount, exactAmount, postedAmount, msslAmount}
 use Rattle.rulebook.specs.WellFormed.{dayBound}
@@ -35,7 +35,7 @@ pub record BoundReached : Type 0 where
   pub fitsWord : ltb (mostAccounts * (mostDays * dayBound)) (2 ^ 62) ≡ true
 
 pub bound-reached : BoundReached
-unfolding fold share shareOf editionShare shareBy tranche1 tranche2 referencePrice average nearest withSign msslAmount postedAmount exactAmount intervalAmount settlesResidual editionOf tenderAmount vestingAmount vestedQuantity hedgeTotal spareGeneration residualLoad rvq shareAmount residualAmount referencePriceOf
+unfolding fold share shareOf editionShare tranche1 tranche2 referencePrice average nearest withSign msslAmount postedAmount exactAmount intervalAmount settlesResidual editionOf tenderAmount vestingAmount vestedQuantity hedgeTotal spareGeneration residualLoad rvq shareAmount residualAmount referencePriceOf
 bound-reached = record { most = refl; least = refl; mssl = refl; fitsWord = refl }
 
 -- 1000 less three times 10 + 1 + 2 + 4
@@ -70,5 +70,5 @@ pub record LagOfTwo : Type 0 where
   pub ofSecond : postedAmount lagged spareDays 0 9500 ≡ pos 20
 
 pub lag-of-two : LagOfTwo
-unfolding fold share shareOf editionShare shareBy tranche1 tranche2 referencePrice average nearest withSign postedAmount exactAmount intervalAmount settlesResidual editionOf tenderAmount vestingAmount vestedQuantity hedgeTotal spareGeneration residualLoad rvq shareAmount residualAmount referencePriceOf
+unfolding fold share shareOf editionShare tranche1 tranche2 referencePrice average nearest withSign postedAmount exactAmount intervalAmount settlesResidual editionOf tenderAmount vestingAmount vestedQuantity hedgeTotal spareGeneration residualLoad rvq shareAmount residualAmount referencePriceOf
 lag-of-two = record { notDue = refl; due = refl; nothingYet = refl; ofFirst = refl; ofSecond = refl }

@@ -12,7 +12,7 @@ use Rattle.rulebook.specs.declared.ShareAnswer.the-variants.{Shared, Sha
 use Rattle.rulebook.specs.declared.TrancheAnswer.the-variants.{Split, TrancheRefused}
 use Rattle.rulebook.specs.Units.{nearest}
 use Rattle.rulebook.specs.ReferencePrice.{average, referencePrice}
-use Rattle.rulebook.specs.Shares.{share, shareOf, secondShare, secondShareOf, editionShare, shareBy}
+use Rattle.rulebook.specs.Shares.{share, shareOf, secondShare, secondShareOf, editionShare}
 use Rattle.rulebook.specs.Tranches.{tranche1, tranche2}
 use Rattle.rulebook.specs.Numbers.{priceReturned, shareNumber, trancheReturned}
 use Rattle.rulebook.specs.Calls.{allInRange, priceInput, priceCall, shareInput, shareWord, shareCall, trancheInput, trancheCall}
@@ -88,7 +88,7 @@ pub record CallsTold : Type 0 where
   pub secondTranche : tranches (pos 150) (pos 500) (pos 400) 0 (pos 0) (pos 150)
 
 pub calls-told : CallsTold
-unfolding allInRange priceInput priceCall shareInput shareWord shareCall trancheInput trancheCall fold tabulate share shareOf secondShare secondShareOf editionShare shareBy tranche1 tranche2 referencePrice average nearest withSign
+unfolding allInRange priceInput priceCall shareInput shareWord shareCall trancheInput trancheCall fold tabulate share shareOf secondShare secondShareOf editionShare tranche1 tranche2 referencePrice average nearest withSign
 calls-told = record {
   shareNumbers = (refl, refl, refl);
   priced = λ v. refl;

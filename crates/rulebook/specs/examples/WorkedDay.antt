@@ -34,7 +34,7 @@ use Rattle.rulebook.specs.declared.Terms.{Terms}
 use Rattle.rulebook.specs.declared.Edition.the-variants.{First, Second}
 use Rattle.rulebook.specs.Units.{nearest}
 use Rattle.rulebook.specs.ReferencePrice.{average, referencePrice}
-use Rattle.rulebook.specs.Shares.{shareOf, secondShareOf, editionShare, shareBy}
+use Rattle.rulebook.specs.Shares.{share, shareOf, secondShare, secondShareOf, editionShare}
 use Rattle.rulebook.specs.Tranches.{tranche1, tranche2}
 use Rattle.rulebook.specs.DayAmount.{AccountData, SettlementData, referencePriceOf, vestedQuantity, tenderAmount, vestingAmount, shareAmount, hedgeTotal, spareGeneration, residualLoad, rvq, residualAmount, settlesResidual, editionOf, intervalAmount, exactAmount, postedAmount, msslAmount}
 use Rattle.rulebook.specs.examples.Figures.{accountData, nothing, accounts}
@@ -95,7 +95,7 @@ pub record WorkedDay : Type 0 where
   pub firstDay : postedAmount (accounts 2) worked 1 9497 ≡ pos 973
 
 pub worked-day : WorkedDay
-unfolding fold tabulate shareOf secondShareOf editionShare shareBy tranche1 tranche2 referencePrice average nearest withSign msslAmount postedAmount exactAmount intervalAmount settlesResidual editionOf tenderAmount vestingAmount vestedQuantity hedgeTotal spareGeneration residualLoad rvq shareAmount residualAmount referencePriceOf
+unfolding fold tabulate share shareOf secondShare secondShareOf editionShare tranche1 tranche2 referencePrice average nearest withSign msslAmount postedAmount exactAmount intervalAmount settlesResidual editionOf tenderAmount vestingAmount vestedQuantity hedgeTotal spareGeneration residualLoad rvq shareAmount residualAmount referencePriceOf
 worked-day = record {
   exact0 = refl;
   exact1 = refl;

@@ -57,12 +57,12 @@ module _ (load n : ℕ) (f g : ℕ → AccountData) (e : (b : ℕ) → b < n →
   unfolding residualLoad hedgeTotal
   residual-load-same = rw (sumℕ-cong n (λ b. vestedQuantity (f b)) (λ b. vestedQuantity (g b)) (λ b hb. vested-same (f b) (g b) (e b hb)))
 
-  module _ (s : Edition) (a : ℕ) (ha : a < n) where
-    rvq-same : rvq load n f s a ≡ rvq load n g s a
+  module _ (edition : Edition) (a : ℕ) (ha : a < n) where
+    rvq-same : rvq load n f edition a ≡ rvq load n g edition a
     unfolding rvq
-    rvq-same = rw residual-load-same (edition-cong s (residualLoad load n g) n (λ b. f b .uegq) (λ b. g b .uegq) (λ b hb. e b hb .uegq) a ha)
+    rvq-same = rw residual-load-same (edition-cong edition (residualLoad load n g) n (λ b. f b .uegq) (λ b. g b .uegq) (λ b hb. e b hb .uegq) a ha)
 
-    pub residual-same : residualAmount load n f s a ≡ residualAmount load n g s a
+    pub residual-same : residualAmount load n f edition a ≡ residualAmount load n g edition a
     unfolding residualAmount shareAmount
     residual-same = rw (rvq-same, price-same (f a) (g a) (e a ha), e a ha .bvq, e a ha .mq, e a ha .rvp1, e a ha .rvp2)
 

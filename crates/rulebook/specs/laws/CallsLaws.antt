@@ -1,24 +1,28 @@
 -- What accepted lists satisfy. Assumes nothing.
-use mathlib.Core.Path.{_≡_}
-use mathlib.Core.Bool.{true, _&&_}
+use mathlib.Core.Path.{_≡_, _∙_}
+use mathlib.Core.Bool.{Bool, true, false, cond, _&&_}
 use mathlib.Core.List.{List}
 use Prim.Native.Nat.{ℕ, _*_, _≤_, _<_}
+use native.Mathlib.Omega.{arith}
 use borrow.Author.Tests.{leb-true, eqb-true}
 use lib.Dec.{leb, eqb}
 use lib.IntN.{ℤ, pos}
-use lib.ListN.{length}
+use lib.ListN.{length, List·getD-append}
 use Rattle.integer.specs.Integer.{minus}
 use Rattle.integer.specs.laws.IntegerLaws.{int, parts}
-use Rattle.integer.specs.Below.{all, sumℕ}
-use Rattle.integer.specs.laws.BelowLaws.{and-true, all-at, sumℕ-le}
-use Rattle.integer.specs.Words.{word}
+use Rattle.integer.specs.Below.{all, sumℕ, tabulate}
+use Rattle.integer.specs.laws.BelowLaws.{and-true, all-at, sumℕ-le, length-tabulate, getD-tabulate}
+use Rattle.integer.specs.Words.{word, filled}
 use Rattle.rulebook.specs.declared.Kind.{Kind}
 use Rattle.rulebook.specs.declared.Kind.the-variants.{Quantity, Price}
+use Rattle.rulebook.specs.declared.Edition.{Edition}
+use Rattle.rulebook.specs.declared.Edition.the-variants.{First, Second}
 use Rattle.rulebook.specs.Units.{between, inRange, asQuantity, mostQuantity}
-use Rattle.rulebook.specs.Calls.{allInRange, priceInput, PricesIn, shareInput, SharesIn}
+use Rattle.rulebook.specs.Calls.{allInRange, priceInput, PricesIn, shareInput, SharesIn, shareWord, shareCall, SharesCalled}
 use Rattle.rulebook.specs.laws.UnitsLaws.{between-true, quantity-range}
 use Rattle.rulebook.specs.ReferencePrice.{mostFacilities}
-use Rattle.rulebook.specs.Shares.{mostAccounts, leastResidual, mostResidual}
+use Rattle.rulebook.specs.Shares.{mostAccounts, leastResidual, mostResidual, editionShare}
+use Rattle.rulebook.specs.Numbers.{ShareReturned, accepted, outsideRange, outputTooShort}
 
 -- each word of a list in range is in range
 pub in-range-at : (kind : Kind) (xs : List ℤ) → allInRange kind xs ≡ true → (i : ℕ) → i < length xs → inRange kind (word xs i) ≡ true
@@ -39,6 +43,27 @@ shares-in r uegq e =
     let z = and-true (leb 1 (length uegq)) _ (y .0) in
     let b = between-true (minus leastResidual) (pos mostResidual) r (x .0) in
     record { residual = omega (int, b .0, b .1, parts r); few = leb-true (length uegq) mostAccounts (z .1); quantities = y .1 }
+
+-- ---- What an accepted call of shares writes
+
+pub shares-called : (r : ℤ) (uegq output : List ℤ) → SharesCalled r uegq output
+unfolding shareCall shareWord editionShare
+shares-called r uegq output = record {
+  first = λ e. written First (shareInput r uegq) (leb (length uegq) (length output)) e;
+  second = λ e. written Second (shareInput r uegq) (leb (length uegq) (length output)) e;
+}
+  where
+    told : Edition → Bool → Bool → ShareReturned
+    told e b c = cond b (cond c (record { number = accepted; output = filled (length uegq) (shareWord e r uegq) output }) (record { number = outputTooShort; output = output })) (record { number = outsideRange; output = output })
+
+    written : (e : Edition) (b c : Bool) → told e b c .number ≡ accepted → (a : ℕ) → a < length uegq → word (told e b c .output) a ≡ shareWord e r uegq a
+    written e true true h a l =
+        let n = length-tabulate (length uegq) (shareWord e r uegq) in
+        List·getD-append (tabulate (length uegq) (shareWord e r uegq)) _ (pos 0) a (omega (arith, n)) ∙ getD-tabulate (length uegq) (shareWord e r uegq) a (pos 0) l
+    written e true false h a l = absurd (omega arith)
+    written e false c h a l = absurd (omega arith)
+
+-- ---- What an accepted call of prices is of
 
 pub prices-in : (mep ieq : List ℤ) → priceInput mep ieq ≡ true → PricesIn mep ieq
 unfolding priceInput

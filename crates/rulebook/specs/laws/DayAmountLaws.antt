@@ -1,5 +1,6 @@
--- An interval's shares, and posting: posted cents times 1,000 are within 500 thousandths of the exact amount, and the MSSL's within N × 500. Assumes nothing.
-use mathlib.Core.Path.{_≡_, refl}
+-- An interval's shares, the edition of a residual day, and posting: what is posted is the nearest cent to the day's parts, within 500 thousandths, the MSSL's within N × 500.
+-- Assumes nothing.
+use mathlib.Core.Path.{_≡_, refl, subst}
 use mathlib.Core.Bool.{Bool, true, false, cond, not, _&&_}
 use mathlib.Core.Logic.{_≢_, _⊎_, inl, inr}
 use Prim.Native.Nat.{ℕ, _+_, _*_, _≤_, _<_}
@@ -9,15 +10,16 @@ use lib.Dec.{lit<, eqb}
 use lib.IntN.{ℤ, pos, negℤ, natAbs, _+ℤ_, _-ℤ_, _*ℤ_, +ℤ-idr}
 use Rattle.integer.specs.laws.IntegerLaws.{abs-neg}
 use Rattle.integer.specs.Below.{sumℤ}
-use Rattle.integer.specs.laws.BelowLaws.{abs-sumℤ, sumℤ-linear}
+use Rattle.integer.specs.laws.BelowLaws.{abs-sumℤ, sumℤ-cong, sumℤ-linear}
 use Rattle.integer.specs.Ring.{as-diff, diffs, ring}
+use Rattle.integer.specs.Nearest.{IsNearest}
 use Rattle.integer.specs.laws.NearestLaws.{nearest-is}
 use Rattle.rulebook.specs.declared.Terms.{Terms}
 use Rattle.rulebook.specs.declared.Edition.{Edition}
 use Rattle.rulebook.specs.declared.Edition.the-variants.{First, Second}
-use Rattle.rulebook.specs.Units.{thousandthsPerCent}
-use Rattle.rulebook.specs.Shares.{share, secondShare, shareBy, editionShare}
-use Rattle.rulebook.specs.DayAmount.{AccountData, SettlementData, residualLoad, rvq, IntervalShares, vestingAmount, residualAmount, settlesResidual, editionOf, residualLoadAt, uegqAt, ResidualDayShares, intervalAmount, IntervalParts, exactAmount, postedAmount, msslAmount, msslExact}
+use Rattle.rulebook.specs.Units.{intervals, thousandthsPerCent}
+use Rattle.rulebook.specs.Shares.{editionShare}
+use Rattle.rulebook.specs.DayAmount.{AccountData, SettlementData, residualLoad, rvq, IntervalShares, referencePriceOf, vestingAmount, shareAmount, residualAmount, settlesResidual, editionOf, residualLoadAt, uegqAt, shareAt, ResidualDayShares, intervalAmount, PostedParts, exactAmount, postedAmount, msslAmount, msslExact}
 use Rattle.rulebook.specs.laws.SharesLaws.{share-total}
 use Rattle.rulebook.specs.laws.SecondShareLaws.{every-kwh, edition-total}
 
@@ -42,7 +44,7 @@ module _ (o : Terms) (r : ℕ) where
   edition-second e h = rw (ne-eqb (o .change) 0 e, le-leb (o .change) r h) refl
 
 pub residual-day-shares : (o : Terms) (x : SettlementData) (r i : ℕ) → ResidualDayShares o x r i
-unfolding rvq editionShare shareBy share secondShare
+unfolding rvq editionShare
 residual-day-shares o x r i = record {
   keptShares = λ h a. rw (edition-first o r h) refl;
   keptTotal = λ h. rw (edition-first o r h) (share-total (residualLoadAt o x r i) (o .accounts) (uegqAt o x r i));
@@ -50,16 +52,17 @@ residual-day-shares o x r i = record {
   changedTotal = λ e h. rw (edition-second o r e h) (every-kwh (residualLoadAt o x r i) (o .accounts) (uegqAt o x r i) .total);
 }
 
--- ---- A statement's parts
-
-pub interval-parts : (o : Terms) (x : SettlementData) (a D i : ℕ) → IntervalParts o x a D i
-unfolding intervalAmount settlesResidual residualAmount
-interval-parts o x a D i = record {
-  settles = λ h. rw (le-leb (o .first + o .lag) D h) refl;
-  settlesNone = λ h. rw (lt-leb (o .first + o .lag) D h) (+ℤ-idr (vestingAmount (x .account a D i)));
-}
-
 -- ---- Posting
+
+pub posted-parts : (o : Terms) (x : SettlementData) (a D : ℕ) → PostedParts o x a D
+unfolding postedAmount exactAmount intervalAmount settlesResidual residualAmount
+posted-parts o x a D = record {
+  settles = λ h. near (λ i. rw (le-leb (o .first + o .lag) D h) refl);
+  settlesNone = λ h. near (λ i. rw (lt-leb (o .first + o .lag) D h) (+ℤ-idr (vestingAmount (x .account a D i))));
+}
+  where
+    near : {f : ℕ → ℤ} → ((i : ℕ) → intervalAmount o x a D i ≡ f i) → IsNearest (sumℤ intervals f) 1000 (postedAmount o x a D)
+    near {f} e = subst (λ (z : ℤ). IsNearest z 1000 (postedAmount o x a D)) (sumℤ-cong intervals (intervalAmount o x a D) f (λ i l. e i)) (nearest-is (exactAmount o x a D) 1000 (lit< tt))
 
 module _ (o : Terms) (x : SettlementData) (D : ℕ) where
   pub posted-within : (a : ℕ) → natAbs (pos thousandthsPerCent *ℤ postedAmount o x a D -ℤ exactAmount o x a D) ≤ 500

@@ -10,7 +10,7 @@ use Rattle.integer.specs.Below.{fold, sumℕ}
 use Rattle.integer.specs.laws.BelowLaws.{lt-or-le, fold-suc, sumℕ-cong, sumℕ-rises}
 use Rattle.rulebook.specs.declared.Edition.{Edition}
 use Rattle.rulebook.specs.declared.Edition.the-variants.{First, Second}
-use Rattle.rulebook.specs.Shares.{sharedOr, partOf, shareOf, share, runningSum, secondShareOf, secondShare, shareBy, editionShare, ShareTotal, EveryKwh}
+use Rattle.rulebook.specs.Shares.{sharedOr, partOf, shareOf, share, runningSum, secondShareOf, secondShare, editionShare, shareBy, spareOf, ShareTotal, EveryKwh}
 use Rattle.rulebook.specs.laws.SharesLaws.{shared-none, shared-full, shared-part, share-none, share-full, share-part, quotient-says, quotient-greatest, none-or-some, share-cap, share-total}
 
 -- ---- One share
@@ -20,17 +20,17 @@ pub second-is : (r : ℤ) (s before u : ℕ) → secondShareOf r s before u ≡ 
 unfolding secondShareOf
 second-is r s before u = ⊎-elim none-is (λ k. ⊎-elim (part-is (k .0)) (full-is (k .1)) (lt-or-le (positive r) s)) (none-or-some r s)
   where
-    rest : ℕ
-    rest = partOf r s (before + u) - partOf r s before
+    part : ℕ
+    part = partOf r s (before + u) - partOf r s before
 
-    none-is : (positive r ≡ 0) ⊎ (s ≡ 0) → sharedOr r s u rest ≡ shareOf r s (before + u) - shareOf r s before
-    none-is k = shared-none r s u rest k ∙ rw (share-none r s (before + u) k, share-none r s before k) refl
+    none-is : (positive r ≡ 0) ⊎ (s ≡ 0) → sharedOr r s u part ≡ shareOf r s (before + u) - shareOf r s before
+    none-is k = shared-none r s u part k ∙ rw (share-none r s (before + u) k, share-none r s before k) refl
 
-    full-is : 0 < s → s ≤ positive r → sharedOr r s u rest ≡ shareOf r s (before + u) - shareOf r s before
-    full-is h k = shared-full r s u rest h k ∙ omega (arith, share-full r s (before + u) h k, share-full r s before h k)
+    full-is : 0 < s → s ≤ positive r → sharedOr r s u part ≡ shareOf r s (before + u) - shareOf r s before
+    full-is h k = shared-full r s u part h k ∙ omega (arith, share-full r s (before + u) h k, share-full r s before h k)
 
-    part-is : 0 < positive r → positive r < s → sharedOr r s u rest ≡ shareOf r s (before + u) - shareOf r s before
-    part-is h k = shared-part r s u rest h k ∙ rw (share-part r s (before + u) h k, share-part r s before h k) refl
+    part-is : 0 < positive r → positive r < s → sharedOr r s u part ≡ shareOf r s (before + u) - shareOf r s before
+    part-is h k = shared-part r s u part h k ∙ rw (share-part r s (before + u) h k, share-part r s before h k) refl
 
 -- more UEGQ, no smaller share
 pub share-rises : (r : ℤ) (s u v : ℕ) → shareOf r s u ≤ shareOf r s (u + v)
@@ -59,7 +59,7 @@ share-all r s = ⊎-elim none-all (λ k. ⊎-elim (part-all (k .0)) (full-all (k
     part-all : 0 < positive r → positive r < s → shareOf r s s ≡ min s (positive r)
     part-all h k = let p : 0 < s = omega arith in share-part r s s h k ∙ mul-div-cancel (positive r) p ∙ omega arith
 
--- a part by running sums is within 1 of R × UEGQ / S, and no more than UEGQ
+-- a part by running sums is within 1 of R × UEGQ / S
 second-near : (r s before u : ℕ) → 0 < s
     → (r * u < (r * (before + u) / s - r * before / s + 1) * s) × ((r * (before + u) / s - r * before / s) * s < r * u + s)
 second-near r s before u h =
@@ -73,25 +73,26 @@ second-near r s before u h =
     let d : s * q ≡ s * p + s * (q - p) = ap (λ (n : ℕ). s * n) e ∙ mul-add s p (q - p) in
     (omega (arith, x .1, y .0, m, d, mul-comm s (q - p), suc-mul (q - p) s), omega (arith, x .0, y .1, m, d, mul-comm s (q - p)))
 
+-- no share is above its UEGQ
 second-cap : (r : ℤ) (s before u : ℕ) → secondShareOf r s before u ≤ u
 unfolding secondShareOf
 second-cap r s before u = ⊎-elim none-cap (λ k. ⊎-elim (part-cap (k .0)) (full-cap (k .1)) (lt-or-le (positive r) s)) (none-or-some r s)
   where
-    rest : ℕ
-    rest = partOf r s (before + u) - partOf r s before
+    part : ℕ
+    part = partOf r s (before + u) - partOf r s before
 
-    none-cap : (positive r ≡ 0) ⊎ (s ≡ 0) → sharedOr r s u rest ≤ u
-    none-cap k = omega (arith, shared-none r s u rest k)
+    none-cap : (positive r ≡ 0) ⊎ (s ≡ 0) → sharedOr r s u part ≤ u
+    none-cap k = omega (arith, shared-none r s u part k)
 
-    full-cap : 0 < s → s ≤ positive r → sharedOr r s u rest ≤ u
-    full-cap h k = omega (arith, shared-full r s u rest h k)
+    full-cap : 0 < s → s ≤ positive r → sharedOr r s u part ≤ u
+    full-cap h k = omega (arith, shared-full r s u part h k)
 
-    part-cap : 0 < positive r → positive r < s → sharedOr r s u rest ≤ u
+    part-cap : 0 < positive r → positive r < s → sharedOr r s u part ≤ u
     part-cap h k =
         let x = second-near (positive r) s before u (omega arith) .1 in
         let m : positive r * u ≤ s * u = mul-le-mul (omega arith) (le-refl u) in
-        let l : rest < u + 1 = lt-of-mul-lt-mul-left s {m = rest} {n = u + 1} (omega (arith, x, m, mul-comm s rest, mul-add s u 1)) in
-        omega (arith, shared-part r s u rest h k, l)
+        let l : part < u + 1 = lt-of-mul-lt-mul-left s {m = part} {n = u + 1} (omega (arith, x, m, mul-comm s part, mul-add s u 1)) in
+        omega (arith, shared-part r s u part h k, l)
 
 no-sum : (f : ℕ → ℕ) → sumℕ 0 f ≡ 0
 unfolding fold
@@ -130,17 +131,22 @@ unfolding shareBy
 share-by-cap First r s before u = share-cap r s u
 share-by-cap Second r s before u = second-cap r s before u
 
+-- account a's share goes by S, the running sum before it and its UEGQ
+pub edition-by : (e : Edition) (r : ℤ) (n : ℕ) (uegq : ℕ → ℕ) (a : ℕ) → editionShare e r n uegq a ≡ shareBy e r (spareOf n uegq) (runningSum uegq a) (uegq a)
+unfolding editionShare shareBy share secondShare
+edition-by First r n uegq a = refl
+edition-by Second r n uegq a = refl
+
 pub edition-cap : (e : Edition) (r : ℤ) (n : ℕ) (uegq : ℕ → ℕ) (a : ℕ) → editionShare e r n uegq a ≤ uegq a
-unfolding editionShare
-edition-cap e r n uegq a = share-by-cap e r (sumℕ n uegq) (runningSum uegq a) (uegq a)
+edition-cap e r n uegq a = rw (edition-by e r n uegq a) (share-by-cap e r (spareOf n uegq) (runningSum uegq a) (uegq a))
 
 -- the UEGQ of the n accounts decide
 pub edition-cong : (e : Edition) (r : ℤ) (n : ℕ) (f g : ℕ → ℕ) → ((b : ℕ) → b < n → f b ≡ g b) → (a : ℕ) → a < n → editionShare e r n f a ≡ editionShare e r n g a
-unfolding editionShare
-edition-cong e r n f g h a l = rw (sumℕ-cong n f g h, sumℕ-cong a f g (λ b k. h b (omega arith)), h a l)
+edition-cong e r n f g h a l =
+    edition-by e r n f a ∙ rw (sumℕ-cong n f g h, sumℕ-cong a f g (λ b k. h b (omega arith)), h a l) (sym (edition-by e r n g a))
 
 -- either edition's shares total as the buyer demands
 pub edition-total : (e : Edition) (r : ℤ) (n : ℕ) (uegq : ℕ → ℕ) → ShareTotal (editionShare e r n uegq) r n uegq
-unfolding editionShare shareBy share secondShare
+unfolding editionShare
 edition-total First r n uegq = share-total r n uegq
 edition-total Second r n uegq = let t = every-kwh r n uegq .total in record { spare = omega (arith, t); residual = omega (arith, t); short = λ l. omega (arith, t) }

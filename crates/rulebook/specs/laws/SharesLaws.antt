@@ -18,11 +18,11 @@ use Rattle.rulebook.specs.Shares.{sharedOr, partOf, shareOf, share, Rule
 -- ---- The three cases
 
 -- 0 if R ≤ 0 or S = 0
-pub shared-none : (r : ℤ) (s u rest : ℕ) → (positive r ≡ 0) ⊎ (s ≡ 0) → sharedOr r s u rest ≡ 0
-shared-none r s u rest (inl h) = rw (le-true r (pos 0) (omega int))
-shared-none r s u rest (inr h) = rw (eq-eqb s 0 h) (go (leZ r (pos 0)))
+pub shared-none : (r : ℤ) (s u part : ℕ) → (positive r ≡ 0) ⊎ (s ≡ 0) → sharedOr r s u part ≡ 0
+shared-none r s u part (inl h) = rw (le-true r (pos 0) (omega int))
+shared-none r s u part (inr h) = rw (eq-eqb s 0 h) (go (leZ r (pos 0)))
   where
-    go : (b : Bool) → cond (b || true) 0 (cond (leZ (pos s) r) u rest) ≡ 0
+    go : (b : Bool) → cond (b || true) 0 (cond (leZ (pos s) r) u part) ≡ 0
     go true = refl
     go false = refl
 
@@ -34,16 +34,16 @@ not-none : (r : ℤ) (s : ℕ) → 0 < positive r → 0 < s → (leZ r (pos 0) |
 not-none r s h k = rw (le-false r (pos 0) (omega (int, parts r)), ne-eqb s 0 (λ e. absurd (omega arith)))
 
 -- UEGQ if R ≥ S
-pub shared-full : (r : ℤ) (s u rest : ℕ) → 0 < s → s ≤ positive r → sharedOr r s u rest ≡ u
-shared-full r s u rest h k = rw (not-none r s (omega arith) h, le-true (pos s) r (omega (int, parts r)))
+pub shared-full : (r : ℤ) (s u part : ℕ) → 0 < s → s ≤ positive r → sharedOr r s u part ≡ u
+shared-full r s u part h k = rw (not-none r s (omega arith) h, le-true (pos s) r (omega (int, parts r)))
 
 pub share-full : (r : ℤ) (s u : ℕ) → 0 < s → s ≤ positive r → shareOf r s u ≡ u
 unfolding shareOf
 share-full r s u h k = shared-full r s u (partOf r s u) h k
 
 -- else a part
-pub shared-part : (r : ℤ) (s u rest : ℕ) → 0 < positive r → positive r < s → sharedOr r s u rest ≡ rest
-shared-part r s u rest h k = rw (not-none r s h (omega arith), le-false (pos s) r (omega (int, parts r)))
+pub shared-part : (r : ℤ) (s u part : ℕ) → 0 < positive r → positive r < s → sharedOr r s u part ≡ part
+shared-part r s u part h k = rw (not-none r s h (omega arith), le-false (pos s) r (omega (int, parts r)))
 
 pub share-part : (r : ℤ) (s u : ℕ) → 0 < positive r → positive r < s → shareOf r s u ≡ partOf r s u
 unfolding shareOf

@@ -1,11 +1,11 @@
 -- `first_share_at` meets its contract: `share` is `shareOf` with S and the account's UEGQ; it is at most the UEGQ, so it fits.
-use mathlib.Core.Path.{_≡_, sym, ap, _∙_}
+use mathlib.Core.Path.{_≡_}
 use native.Mathlib.Omega.{arith}
 use borrow.Author.Needs.{needs}
 use mir.Syntax.{w64}
 use mir.Val.{toZ, ofZ}
 use Rattle.integer.specs.Bits.{got}
-use Rattle.rulebook.specs.Shares.{shareBy, editionShare}
+use Rattle.rulebook.specs.Shares.{share, editionShare}
 use Rattle.rulebook.specs.laws.SharesLaws.{share-cap}
 use Rattle.rulebook.specs.declared.Kind.the-variants.{Quantity}
 use Rattle.rulebook.specs.Calls.{shareWord}
@@ -25,7 +25,7 @@ signed-requires c κs =
     omega (arith, share-cap (toZ w64 (ofZ w64 (a .r))) (a .s) (c .before .quantity-at .result))
 
 returns : tie.Need-returns
-unfolding shareWord editionShare shareBy
+unfolding shareWord editionShare share
 returns c =
     let s = c .before .before .before in
     let x : toZ w64 (ofZ w64 (s .args .r)) ≡ s .args .r = search needs in

@@ -1,6 +1,6 @@
 -- `put_first_shares` meets its contract: each turn fills one word more.
-use mathlib.Core.Path.{_≡_, sym, ap, _∙_}
-use Prim.Native.Nat.{ℕ, _-_, _≤_, _<_}
+use mathlib.Core.Path.{_≡_, ap, _∙_}
+use Prim.Native.Nat.{_-_, _≤_, _<_}
 use native.Mathlib.Omega.{arith}
 use borrow.Author.Needs.{needs}
 use lib.ListN.{length, length-set}
@@ -11,7 +11,7 @@ use Rattle.integer.specs.Bits.{got}
 use Rattle.integer.specs.Words.{filled}
 use Rattle.integer.specs.laws.WordsLaws.{filled-suc}
 use Rattle.rulebook.specs.declared.Edition.the-variants.{First}
-use Rattle.rulebook.specs.Calls.{spareIn, shareWord}
+use Rattle.rulebook.specs.Calls.{shareWord}
 use Rattle.rules.proofs.share.put_first_shares.Statement.{statement}
 use Rattle.rules.proofs.share.put_first_shares.Tie as tie
 

@@ -16,7 +16,7 @@ use Rattle.integer.specs.laws.WordsLaws.{filled-zero, filled-step}
 use Rattle.rulebook.specs.declared.Kind.the-variants.{Quantity}
 use Rattle.rulebook.specs.declared.Edition.the-variants.{Second}
 use Rattle.rulebook.specs.Units.{mostQuantity}
-use Rattle.rulebook.specs.Shares.{shareOf, shareBy, editionShare}
+use Rattle.rulebook.specs.Shares.{shareOf, secondShare, editionShare}
 use Rattle.rulebook.specs.laws.SharesLaws.{share-cap}
 use Rattle.rulebook.specs.laws.SecondShareLaws.{share-rises, second-is}
 use Rattle.rulebook.specs.Calls.{quantitiesIn, spareIn, shareWord}
@@ -89,7 +89,7 @@ loop-less c = omega arith
 -- what is shared up to account a, less what was given before it
 difference : (r : ℤ) (uegq : List ℤ) (a s sum shared given : ℕ) → s ≡ spareIn uegq → sum ≡ sumℕ a (quantitiesIn uegq) → shared ≡ shareOf r s (sum + quantitiesIn uegq a)
     → given ≡ shareOf r s sum → pos (shared - given) ≡ shareWord Second r uegq a
-unfolding shareWord editionShare shareBy
+unfolding shareWord editionShare secondShare
 difference r uegq a s sum shared given e f g h = ap pos (rw (g, h, e, f) (sym (second-is r (spareIn uegq) (sumℕ a (quantitiesIn uegq)) (quantitiesIn uegq a))))
 
 loop-again : tie.Need-loop-again Inv-loop μ-loop
