@@ -1,4 +1,4 @@
--- What accepted lists satisfy. Assumes nothing.
+-- What accepted lists satisfy, and what a share call writes. Assumes nothing.
 use mathlib.Core.Path.{_≡_, _∙_}
 use mathlib.Core.Bool.{Bool, true, false, cond, _&&_}
 use mathlib.Core.List.{List}
@@ -44,6 +44,21 @@ shares-in r uegq e =
     let b = between-true (minus leastResidual) (pos mostResidual) r (x .0) in
     record { residual = omega (int, b .0, b .1, parts r); few = leb-true (length uegq) mostAccounts (z .1); quantities = y .1 }
 
+pub prices-in : (mep ieq : List ℤ) → priceInput mep ieq ≡ true → PricesIn mep ieq
+unfolding priceInput
+prices-in mep ieq e =
+    let x = and-true (leb 1 (length mep) && leb (length mep) mostFacilities) _ e in
+    let y = and-true (leb 1 (length mep)) _ (x .0) in
+    let z = and-true (eqb (length ieq) (length mep)) _ (x .1) in
+    let w = and-true (allInRange Price mep) _ (z .1) in
+    record {
+      some = leb-true 1 (length mep) (y .0);
+      few = leb-true (length mep) mostFacilities (y .1);
+      same = eqb-true (length ieq) (length mep) (z .0);
+      prices = w .0;
+      injections = w .1;
+    }
+
 -- ---- What an accepted call of shares writes
 
 pub shares-called : (r : ℤ) (uegq output : List ℤ) → SharesCalled r uegq output
@@ -62,20 +77,3 @@ shares-called r uegq output = record {
         List·getD-append (tabulate (length uegq) (shareWord e r uegq)) _ (pos 0) a (omega (arith, n)) ∙ getD-tabulate (length uegq) (shareWord e r uegq) a (pos 0) l
     written e true false h a l = absurd (omega arith)
     written e false c h a l = absurd (omega arith)
-
--- ---- What an accepted call of prices is of
-
-pub prices-in : (mep ieq : List ℤ) → priceInput mep ieq ≡ true → PricesIn mep ieq
-unfolding priceInput
-prices-in mep ieq e =
-    let x = and-true (leb 1 (length mep) && leb (length mep) mostFacilities) _ e in
-    let y = and-true (leb 1 (length mep)) _ (x .0) in
-    let z = and-true (eqb (length ieq) (length mep)) _ (x .1) in
-    let w = and-true (allInRange Price mep) _ (z .1) in
-    record {
-      some = leb-true 1 (length mep) (y .0);
-      few = leb-true (length mep) mostFacilities (y .1);
-      same = eqb-true (length ieq) (length mep) (z .0);
-      prices = w .0;
-      injections = w .1;
-    }

@@ -19,7 +19,7 @@ use Rattle.rulebook.specs.declared.Edition.{Edition}
 use Rattle.rulebook.specs.declared.Edition.the-variants.{First, Second}
 use Rattle.rulebook.specs.Units.{intervals, thousandthsPerCent}
 use Rattle.rulebook.specs.Shares.{editionShare}
-use Rattle.rulebook.specs.DayAmount.{AccountData, SettlementData, residualLoad, rvq, IntervalShares, referencePriceOf, vestingAmount, shareAmount, residualAmount, settlesResidual, editionOf, residualLoadAt, uegqAt, shareAt, ResidualDayShares, intervalAmount, PostedParts, exactAmount, postedAmount, msslAmount, msslExact}
+use Rattle.rulebook.specs.DayAmount.{AccountData, SettlementData, residualLoad, rvq, IntervalShares, vestingAmount, residualAmount, settlesResidual, editionOf, residualLoadAt, uegqAt, ResidualDayShares, intervalAmount, PostedParts, exactAmount, postedAmount, msslAmount, msslExact}
 use Rattle.rulebook.specs.laws.SharesLaws.{share-total}
 use Rattle.rulebook.specs.laws.SecondShareLaws.{every-kwh, edition-total}
 
