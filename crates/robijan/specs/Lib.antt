@@ -1,3 +1,1 @@
 pub mod Returned
--- a list of calls that crosses X
-pub mod examples

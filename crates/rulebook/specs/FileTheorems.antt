@@ -21,7 +21,6 @@ use Rattle.rulebook.specs.Encoding.{encoded}
 use Rattle.rulebook.specs.Proper.{Bytes, ProperRows, AllAlike, LackingZero}
 use Rattle.rulebook.specs.FileTable.{fieldsOf, EndToEnd, checks, NoneStrikes, FirstStrikes}
 use Rattle.rulebook.specs.examples.EncodingExamples.{Written, written}
-use Rattle.rulebook.specs.examples.JudgingExamples.{FileWindows, file-windows, Keys, keys}
 use Rattle.rulebook.specs.laws.IntervalLaws.{lacking-zero}
 use Rattle.rulebook.specs.laws.EncodingLaws.{encoded-bytes, alike-bytes}
 use Rattle.rulebook.specs.laws.WholeLaws.{taken-whole}
@@ -62,10 +61,8 @@ pub record FileTheorems : Type 0 where
       → (ofSubmit (submitted w file .answer) ≡ numbered accepted 0) ↔ NoneStrikes (checks (termsOf w) (nextDay w) file)
   -- the fields stand end to end from 0
   pub fieldsAdjoin : (file : List ℕ) → EndToEnd 0 (fieldsOf file) (endPos file)
-  -- rows written out by hand; files at the ends of their windows, with accounts and keys
+  -- rows written out by hand
   pub written : Written
-  pub windows : FileWindows
-  pub keys : Keys
 
 pub file-theorems : FileTheorems
 file-theorems = record {
@@ -83,6 +80,4 @@ file-theorems = record {
   submitAccepted = submit-accepted;
   fieldsAdjoin = fields-adjoin;
   written = written;
-  windows = file-windows;
-  keys = keys;
 }

@@ -51,7 +51,7 @@ use Rattle.rulebook.specs.examples.LayoutExamples.{Places, places, NewHe
 use Rattle.rulebook.specs.examples.BookExamples.{Days, days}
 use Rattle.rulebook.specs.examples.FileExamples.{BytesRead, bytes-read, FiguresRead, figures-read}
 use Rattle.rulebook.specs.examples.DataExamples.{BookRead, book-read, RowsRead, rows-read}
-use Rattle.rulebook.specs.examples.NumberExamples.{Returned, returned, Table, table, Refusals, refusals, ThreeAccounts, three-accounts}
+use Rattle.rulebook.specs.examples.NumberExamples.{Returned, returned}
 use Rattle.rulebook.specs.examples.InputExamples.{CallsTold, calls-told}
 use Rattle.rulebook.specs.examples.ProfileExamples.{ProfilesTold, profiles-told}
 use Rattle.rulebook.specs.examples.CallExamples.{Openings, openings, LentBooks, lent-books}
@@ -190,9 +190,6 @@ pub record Theorems : Type 0 where
   pub rowsRead : RowsRead
   -- the table of numbers
   pub returned : Returned
-  pub table : Table
-  pub refusals : Refusals
-  pub threeAccounts : ThreeAccounts
   -- the calls on no book, and openings
   pub callsTold : CallsTold
   pub profilesTold : ProfilesTold
@@ -271,9 +268,6 @@ theorems = record {
   bookRead = book-read;
   rowsRead = rows-read;
   returned = returned;
-  table = table;
-  refusals = refusals;
-  threeAccounts = three-accounts;
   callsTold = calls-told;
   profilesTold = profiles-told;
   openings = openings;

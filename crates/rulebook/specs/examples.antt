@@ -16,4 +16,3 @@ pub mod HistoryExamples
 pub mod EditionExamples
 pub mod SearchExamples
 pub mod EncodingExamples
-pub mod JudgingExamples

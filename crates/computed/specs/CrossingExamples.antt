@@ -1,5 +1,4 @@
--- Document 02, P2: a list of the library's calls that crosses X = 9,498, with two accounts and L = 2. It stands here and not in the rule book since it reads whole files byte by
--- byte, which takes some seconds. Computed. Assumes nothing.
+-- Document 02, P2: a list of calls that crosses X = 9,498, with two accounts and L = 2, its files read byte by byte. Computed. Assumes nothing.
 use mathlib.Core.Path.{_≡_, refl, _∙_}
 use mathlib.Core.Bool.{cond}
 use mathlib.Core.List.{List, [], _∷_, _++_}

@@ -1,0 +1,4 @@
+pub mod TableExamples
+pub mod JudgingExamples
+pub mod CrossingExamples
+pub mod Computed
