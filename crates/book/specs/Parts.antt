@@ -1,24 +1,12 @@
--- What each test of the judge decides, of the part of the book that it is lent: the rule book's tests, at the words lent. Assumes nothing.
+-- What the judge decides of a slot, of the words that it is lent: the rule book's tests, at these words. Assumes nothing.
 use mathlib.Core.Bool.{Bool, cond}
 use mathlib.Core.List.{List}
 use Prim.Native.Nat.{ℕ, _+_, _*_}
 use lib.IntN.{ℤ}
-use lib.ListN.{length}
-use Rattle.integer.specs.Below.{all}
 use Rattle.integer.specs.Words.{word}
 use Rattle.rulebook.specs.Layout.{intervalLength}
 use Rattle.rulebook.specs.WellFormed as rule
-use Rattle.rulebook.specs.WellFormed.{isZero}
-
--- every word is zero
-unfoldable pub blank : List ℤ → Bool
-blank xs = all (length xs) (λ k. isZero (word xs k))
-
--- many zeros are tested in rows of so many words
-abbrev pub rowWords : ℕ
-rowWords = 64
-
--- ---- A slot
+use Rattle.opening.specs.Blank.{blank}
 
 -- the intervals of n accounts, one after another
 unfoldable pub intervalsFit : ℕ → Bool → List ℤ → Bool

@@ -1,8 +1,8 @@
 // Document 01, "The book": an account's 24 words at an interval. Each test is left at its first word that does not fit.
-use crate::words::above_at;
-use crate::words::between_at;
-use crate::words::in_range_at;
-use crate::words::zero_at;
+use opening::words::above_at;
+use opening::words::between_at;
+use opening::words::in_range_at;
+use opening::words::zero_at;
 use rulebook::Kind;
 use rulebook::layout::ACCOUNT_SPARE;
 use rulebook::layout::METER_FLAG;

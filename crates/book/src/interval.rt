@@ -1,9 +1,9 @@
 // Document 01, "The book": an interval's words, its own and those of each account.
 use crate::cell::account_fits;
-use crate::words::above_at;
-use crate::words::between_at;
-use crate::words::in_range_at;
-use crate::words::zero_at;
+use opening::words::above_at;
+use opening::words::between_at;
+use opening::words::in_range_at;
+use opening::words::zero_at;
 use rulebook::Kind;
 use rulebook::layout;
 ghost use mathlib.Core.Path.{_≡_};

@@ -1,11 +1,11 @@
 // Document 01, "The book": is a lent book well formed?
-use crate::header::balances_fit;
-use crate::header::book_size;
-use crate::header::header_fits;
-use crate::header::mssl_fits;
-use crate::header::next_day_of;
-use crate::header::terms_of;
 use crate::slots::slots_fit;
+use opening::header::balances_fit;
+use opening::header::book_size;
+use opening::header::header_fits;
+use opening::header::mssl_fits;
+use opening::header::next_day_of;
+use opening::header::terms_of;
 use rulebook::Terms;
 use rulebook::layout;
 ghost use mathlib.Core.Path.{_≡_};

@@ -1,7 +1,7 @@
 // Document 01, "The book": the slots, as they lie. A slot of a day of the window has 48 intervals that fit, every other is blank.
 use crate::interval::interval_fits;
-use crate::words::ROW;
-use crate::words::are_blank;
+use opening::words::ROW;
+use opening::words::are_blank;
 use rulebook::Terms;
 use rulebook::layout::interval_length;
 use rulebook::layout::slot_length;

@@ -1,6 +1,6 @@
 // Document 01, "Close": the search for an absent datum.
-use book::words::zero_at;
 use integer::Found;
+use opening::words::zero_at;
 use rulebook::layout::ACCOUNT_WORDS;
 use rulebook::layout::INTERVAL_WORDS;
 use rulebook::layout::METER_FLAG;

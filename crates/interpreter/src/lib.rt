@@ -1,7 +1,6 @@
 // Document 01, "Program `settle`": what it does with its input, item by item. Each call puts the line to print at the start of lent bytes.
 use answers::ACCEPTED;
 use answers::of_open;
-use book::open::open_book;
 use closing::close::close;
 use console::input::Item;
 use console::input::OPENING;
@@ -12,6 +11,7 @@ use console::lines::bad_line;
 use console::lines::close_line;
 use console::lines::open_line;
 use console::lines::submit_line;
+use opening::open::open_book;
 use rulebook::units::MOST_ACCOUNTS;
 use submission::submit::submit;
 ghost use mathlib.Core.Path.{_≡_};

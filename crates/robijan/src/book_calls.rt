@@ -1,10 +1,10 @@
 // The calls on a book.
-use book::header::book_size;
 use book::judge::Judged;
 use book::judge::judge;
-use book::open::open_book;
-use book::open::terms_fit;
 use closing::close::close;
+use opening::header::book_size;
+use opening::open::open_book;
+use opening::open::terms_fit;
 use rulebook::Answer;
 use rulebook::Terms;
 use submission::submit::submit;

@@ -7,16 +7,12 @@ use native.Mathlib.Omega.{arith}
 use borrow.Author.Tests.{le-leb, lt-leb}
 use lib.IntN.{ℤ}
 use lib.ListN.{length}
-use Rattle.rulebook.specs.declared.Terms.{Terms}
-use Rattle.rulebook.specs.Layout.{headerWords, balanceWord, base, size}
+use Rattle.rulebook.specs.Layout.{headerWords, size}
 use Rattle.rulebook.specs.BookData.{termsOf, nextDay}
 use Rattle.rulebook.specs.WellFormed.{headerFits, contentsFit, fits, wellFormed}
+use Rattle.opening.specs.laws.HeaderLaws.{header-inside}
 use Rattle.book.specs.declared.judge.Judged.the-variants.{IllFormed}
 use Rattle.book.specs.Judged.{judgedBook}
-
-pub header-inside : (o : Terms) → balanceWord (o .accounts) ≤ size o
-unfolding size base
-header-inside o = omega arith
 
 module _ (w : List ℤ) where
   -- left at the header, or at the size

@@ -16,9 +16,10 @@ use Rattle.rulebook.specs.Layout.{accountWords, cellPlace, accountPlace, interv
 use Rattle.rulebook.specs.laws.TestLaws.{all-same}
 use Rattle.rulebook.specs.laws.FitsLaws.{account-same, interval-same}
 use Rattle.rulebook.specs.WellFormed.{isZero, accountFits, intervalFits, intervalBlank, intervalAt, slotBlank, datedFits}
-use Rattle.book.specs.Parts.{blank, intervalsFit, slotFits}
-use Rattle.book.specs.laws.LoopLaws.{word-part}
-use Rattle.book.specs.laws.BlankLaws.{all-rows}
+use Rattle.opening.specs.Blank.{blank}
+use Rattle.opening.specs.laws.LoopLaws.{word-part}
+use Rattle.opening.specs.laws.BlankLaws.{all-rows}
+use Rattle.book.specs.Parts.{intervalsFit, slotFits}
 
 -- ---- Lent by an interval, and by a slot
 

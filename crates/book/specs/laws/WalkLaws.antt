@@ -18,9 +18,9 @@ use Rattle.rulebook.specs.WindowWalk.{windowSlot, windowPlace, placeDated, wind
 use Rattle.rulebook.specs.laws.RingLaws.{ring-some, turn-inside, turned, places-apart}
 use Rattle.rulebook.specs.laws.WalkLaws.{days-are-places}
 use Rattle.rulebook.specs.WellFormed.{daysFit}
+use Rattle.opening.specs.laws.LoopLaws.{word-part}
 use Rattle.book.specs.Parts.{slotFits}
 use Rattle.book.specs.Slots.{slotsFit}
-use Rattle.book.specs.laws.LoopLaws.{word-part}
 use Rattle.book.specs.laws.SlotLaws.{slot-is}
 
 -- the slots lie from base on to the size

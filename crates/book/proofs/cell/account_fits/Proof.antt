@@ -2,7 +2,7 @@
 use borrow.Author.Needs.{needs}
 use Rattle.integer.specs.Below.{fold}
 use Rattle.rulebook.specs.WellFormed.{paddingZero, accountFits}
-use Rattle.book.specs.laws.LoopLaws.{passed, left}
+use Rattle.opening.specs.laws.LoopLaws.{passed, left}
 use Rattle.book.proofs.cell.account_fits.Statement.{statement}
 use Rattle.book.proofs.cell.account_fits.Tie as tie
 

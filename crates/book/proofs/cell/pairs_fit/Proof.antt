@@ -10,7 +10,7 @@ use Rattle.rulebook.specs.Units.{between}
 use Rattle.rulebook.specs.WellFormed.{isZero}
 use Rattle.rulebook.specs.RowPairs.{rowPairs, pairsFit}
 use Rattle.rulebook.specs.laws.RowPairLaws.{absent-is, no-rest}
-use Rattle.book.specs.laws.LoopLaws.{passed, left}
+use Rattle.opening.specs.laws.LoopLaws.{passed, left}
 use Rattle.book.proofs.cell.pairs_fit.Statement.{statement}
 use Rattle.book.proofs.cell.pairs_fit.Tie as tie
 

@@ -8,7 +8,7 @@ use Rattle.integer.specs.Below.{fold, all}
 use Rattle.integer.specs.Words.{word}
 use Rattle.rulebook.specs.Units.{inRange}
 use Rattle.rulebook.specs.RowPairs.{rowPairs, pairsInRange}
-use Rattle.book.specs.laws.LoopLaws.{all-step}
+use Rattle.opening.specs.laws.LoopLaws.{all-step}
 use Rattle.book.proofs.cell.pairs_in_range.Statement.{statement}
 use Rattle.book.proofs.cell.pairs_in_range.Tie as tie
 

@@ -1,6 +1,6 @@
 -- `residual_fits` meets its contract: by `residual-is` the row fits exactly if its flag and its two pairs do.
 use borrow.Author.Needs.{needs}
-use Rattle.book.specs.laws.LoopLaws.{passed, left}
+use Rattle.opening.specs.laws.LoopLaws.{passed, left}
 use Rattle.book.specs.laws.RowLaws.{residual-is}
 use Rattle.book.proofs.cell.residual_fits.Statement.{statement}
 use Rattle.book.proofs.cell.residual_fits.Tie as tie

@@ -11,7 +11,7 @@ use Rattle.integer.specs.Bits.{holds-nat}
 use Rattle.integer.specs.Words.{word}
 use Rattle.rulebook.specs.WellFormed.{isZero}
 use Rattle.rulebook.specs.RowPairs.{rowPairs, restZero}
-use Rattle.book.specs.laws.LoopLaws.{all-step}
+use Rattle.opening.specs.laws.LoopLaws.{all-step}
 use Rattle.book.proofs.cell.rest_zero.Statement.{statement}
 use Rattle.book.proofs.cell.rest_zero.Tie as tie
 

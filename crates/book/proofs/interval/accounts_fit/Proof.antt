@@ -8,7 +8,7 @@ use Rattle.integer.specs.Below.{fold, all}
 use Rattle.integer.specs.Words.{word}
 use Rattle.rulebook.specs.Layout.{accountWords, accountPlace}
 use Rattle.rulebook.specs.WellFormed.{accountFits}
-use Rattle.book.specs.laws.LoopLaws.{all-step, length-lent}
+use Rattle.opening.specs.laws.LoopLaws.{all-step, length-lent}
 use Rattle.book.specs.laws.SlotLaws.{account-lent}
 use Rattle.book.proofs.interval.accounts_fit.Statement.{statement}
 use Rattle.book.proofs.interval.accounts_fit.Tie as tie

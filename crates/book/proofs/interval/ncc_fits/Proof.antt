@@ -5,7 +5,7 @@ use borrow.Author.Needs.{needs}
 use Rattle.integer.specs.Below.{fold}
 use Rattle.integer.specs.Words.{word}
 use Rattle.rulebook.specs.WellFormed.{isZero, paddingZero, nccFits}
-use Rattle.book.specs.laws.LoopLaws.{passed, left}
+use Rattle.opening.specs.laws.LoopLaws.{passed, left}
 use Rattle.book.specs.laws.RowLaws.{ncc-is}
 use Rattle.book.proofs.interval.ncc_fits.Statement.{statement}
 use Rattle.book.proofs.interval.ncc_fits.Tie as tie

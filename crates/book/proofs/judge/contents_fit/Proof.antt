@@ -7,8 +7,8 @@ use borrow.Author.Needs.{needs}
 use Rattle.integer.specs.laws.WordsLaws.{lent}
 use Rattle.rulebook.specs.Layout.{slotLength, ring}
 use Rattle.rulebook.specs.WellFormed.{daysFit, contentsFit}
-use Rattle.book.specs.laws.JudgeLaws.{header-inside}
-use Rattle.book.specs.laws.LoopLaws.{length-lent}
+use Rattle.opening.specs.laws.HeaderLaws.{header-inside}
+use Rattle.opening.specs.laws.LoopLaws.{length-lent}
 use Rattle.book.specs.laws.WalkLaws.{size-by-slots, slots-are-days}
 use Rattle.book.proofs.judge.contents_fit.Statement.{statement}
 use Rattle.book.proofs.judge.contents_fit.Tie as tie

@@ -8,10 +8,10 @@ use Rattle.rulebook.specs.BookData.{termsOf}
 use Rattle.rulebook.specs.Layout.{size}
 use Rattle.rulebook.specs.WellFormed.{wellFormed}
 use Rattle.rulebook.specs.declared.Terms.{Terms}
-use Rattle.book.specs.laws.HeaderLaws.{header-true}
+use Rattle.opening.specs.laws.HeaderLaws.{header-true}
+use Rattle.opening.specs.laws.LoopLaws.{passed, left}
 use Rattle.book.specs.laws.JudgeLaws.{header-left, length-left, size-left, contents-left}
 use Rattle.book.specs.Judged.{judgedBook}
-use Rattle.book.specs.laws.LoopLaws.{passed, left}
 use Rattle.book.proofs.judge.judge.Statement.{statement}
 use Rattle.book.proofs.judge.judge.Tie as tie
 

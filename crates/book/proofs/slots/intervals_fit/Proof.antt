@@ -14,7 +14,7 @@ use Rattle.integer.specs.Words.{word}
 use Rattle.rulebook.specs.Units.{intervals}
 use Rattle.rulebook.specs.Layout.{intervalLength}
 use Rattle.rulebook.specs.WellFormed.{intervalFits}
-use Rattle.book.specs.laws.LoopLaws.{all-step, length-lent}
+use Rattle.opening.specs.laws.LoopLaws.{all-step, length-lent}
 use Rattle.book.specs.laws.SlotLaws.{interval-lent}
 use Rattle.book.specs.Parts.{intervalsFit}
 use Rattle.book.proofs.slots.intervals_fit.Statement.{statement}

@@ -14,7 +14,7 @@ use Rattle.integer.specs.Words.{part}
 use Rattle.rulebook.specs.Layout.{slotLength, ring}
 use Rattle.rulebook.specs.declared.Terms.{Terms}
 use Rattle.rulebook.specs.WindowWalk.{windowPlace, placeDated}
-use Rattle.book.specs.laws.LoopLaws.{all-step, length-lent}
+use Rattle.opening.specs.laws.LoopLaws.{all-step, length-lent}
 use Rattle.book.specs.Parts.{slotFits}
 use Rattle.book.specs.Slots.{slotsFit}
 use Rattle.book.proofs.slots.slots_fit.Statement.{statement}

@@ -2,7 +2,7 @@
 use mathlib.Core.Path.{sym, _∙_}
 use mathlib.Core.List.{[]}
 use borrow.Author.Needs.{needs}
-use Rattle.book.specs.laws.OpenLaws.{terms-in}
+use Rattle.opening.specs.laws.OpenLaws.{terms-in}
 use Rattle.robijan.specs.Returned.{sizeReturned}
 use Rattle.robijan.proofs.book_calls.robijan_book_size.Statement.{statement}
 use Rattle.robijan.proofs.book_calls.robijan_book_size.Tie as tie

@@ -1,0 +1,3 @@
+pub mod Blank
+-- laws and proofs
+pub mod laws
