@@ -3,12 +3,14 @@
 use crate::book::{judge, judge_in, Header};
 use crate::day_amount::{residual_amount, vesting_amount, DayTotal};
 use crate::edition::Edition;
-use crate::layout::{CHANGE_DAY, MSSL_BALANCE, NEXT_DAY};
+use crate::layout::{Interval, CHANGE_DAY, MSSL_BALANCE, NEXT_DAY};
 use crate::numbers::{Answer, DATUM_ABSENT, FINISHED, NOT_WELL_FORMED, OUTPUT_TOO_SHORT};
+use crate::report::HedgeReport;
 use crate::share::write_shares;
 use crate::units::{INTERVALS, LAST_DAY, MOST_ACCOUNTS};
 use crate::variant::{Context, Variant};
 use crate::wrong_edition::{close_context, edition_in};
+use crate::wrong_report::WrongReport;
 use crate::wrong_share::WrongShares;
 
 /// Closes the book's next day and writes the accounts' cents, then the MSSL's,
@@ -121,72 +123,78 @@ fn amounts(context: Context, book: &[i64], header: &Header) -> [i64; MOST_ACCOUN
         return [0; MOST_ACCOUNTS];
     }
     let layout = header.layout();
-    let (accounts, closing_day) = (header.accounts(), header.next_day());
-    let residual_day = header.residual_day();
     let mut sharing = Sharing::of(context, header);
     let mut totals = [DayTotal::default(); MOST_ACCOUNTS];
-    let (mut uegqs, mut shares) = ([0; MOST_ACCOUNTS], [0; MOST_ACCOUNTS]);
-    for interval in 0..INTERVALS {
-        if let Some(day) = residual_day {
-            let uegqs = &mut uegqs[..accounts];
-            let remaining = residual_load(context, book, header, day, interval, uegqs);
-            sharing.write(remaining, uegqs, &mut shares[..accounts]);
-        }
-        for account in 0..accounts {
-            let closing = layout.entry(book, closing_day, interval, account);
-            let mut amount = vesting_amount(context, closing);
-            if let Some(day) = residual_day {
-                let residual = layout.entry(book, day, interval, account);
-                amount += residual_amount(context, residual, closing, shares[account]);
+    let mut settled = header.residual_day().map(|day| layout.intervals(book, day));
+    for closing in layout.intervals(book, header.next_day()) {
+        let totals = totals.iter_mut().zip(closing.entries());
+        let Some(residual) = settled.as_mut().and_then(Iterator::next) else {
+            for (total, closing) in totals {
+                total.absorb(context, vesting_amount(context, closing));
             }
-            totals[account].absorb(context, amount);
+            continue;
+        };
+        let shares = sharing.shares(residual, closing);
+        for (((total, closing), residual), rvq) in totals.zip(residual.entries()).zip(shares) {
+            let vesting = vesting_amount(context, closing);
+            let residual = residual_amount(context, residual, closing, *rvq);
+            total.absorb(context, vesting + residual);
         }
     }
     totals.map(DayTotal::cents)
 }
 
-/// R of day r, the load less all accounts' hedges of that day; `uegqs` gets the
-/// accounts' spare generation.
-fn residual_load(
-    context: Context,
-    book: &[i64],
-    header: &Header,
-    residual_day: i64,
-    interval: usize,
-    uegqs: &mut [i64],
-) -> i64 {
-    let layout = header.layout();
-    let hedged_day = if context.is(Variant::LoadsResidualWithClosingDayHedges) {
-        header.next_day()
-    } else {
-        residual_day
-    };
-    let mut remaining = book[layout.ncc_load_at(residual_day, interval)];
-    for (account, uegq) in uegqs.iter_mut().enumerate() {
-        let hedges = layout.entry(book, hedged_day, interval, account).hedges();
-        remaining -= hedges.map(|(quantity, _)| quantity).sum::<i64>();
-        *uegq = layout.entry(book, residual_day, interval, account).uegq();
-    }
-    remaining
-}
-
-/// How a close shares, interval after interval.
+/// How a close shares the load of day r, interval after interval.
 struct Sharing {
+    context: Context,
+    accounts: usize,
+    uegqs: [i64; MOST_ACCOUNTS],
+    shares: [i64; MOST_ACCOUNTS],
     edition: Edition,
-    wrong: Option<WrongShares>,
+    wrong_report: Option<WrongReport>,
+    wrong_shares: Option<WrongShares>,
 }
 
 impl Sharing {
     fn of(context: Context, header: &Header) -> Sharing {
         let edition = edition_in(context, header);
-        let wrong = WrongShares::of(context).filter(|_| edition == Edition::Second);
-        Sharing { edition, wrong }
+        Sharing {
+            context,
+            accounts: header.accounts(),
+            uegqs: [0; MOST_ACCOUNTS],
+            shares: [0; MOST_ACCOUNTS],
+            edition,
+            wrong_report: WrongReport::of(context),
+            wrong_shares: WrongShares::of(context).filter(|_| edition == Edition::Second),
+        }
     }
 
-    fn write(&mut self, remaining: i64, uegqs: &[i64], shares: &mut [i64]) {
-        match &mut self.wrong {
+    /// The accounts' shares of an interval of day r.
+    fn shares(&mut self, residual: Interval, closing: Interval) -> &[i64] {
+        let remaining = self.remaining(residual, closing);
+        let uegqs = &mut self.uegqs[..self.accounts];
+        let shares = &mut self.shares[..self.accounts];
+        for (uegq, entry) in uegqs.iter_mut().zip(residual.entries()) {
+            *uegq = entry.uegq();
+        }
+        match &mut self.wrong_shares {
             Some(wrong) => wrong.write(remaining, uegqs, shares),
             None => write_shares(self.edition, remaining, uegqs, shares),
         }
+        shares
+    }
+
+    /// R of day r, the load less the hedge total of that day.
+    fn remaining(&mut self, residual: Interval, closing: Interval) -> i64 {
+        let hedged = if self.context.is(Variant::LoadsResidualWithClosingDayHedges) {
+            closing
+        } else {
+            residual
+        };
+        let hedge_total = match &mut self.wrong_report {
+            Some(wrong) => wrong.total(hedged),
+            None => HedgeReport::of(hedged).total(),
+        };
+        residual.ncc_load() - hedge_total
     }
 }

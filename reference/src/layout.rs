@@ -128,25 +128,47 @@ impl Layout {
         self.entry_at(day, interval, account) + RESIDUAL_FLAG
     }
 
-    pub(crate) fn entry<'a>(
-        &self,
-        book: &'a [i64],
-        day: i64,
-        interval: usize,
-        account: usize,
-    ) -> Entry<'a> {
-        let start = self.entry_at(day, interval, account);
-        Entry(&book[start..start + ENTRY_WORDS])
+    /// The intervals of a day, one after another.
+    pub fn intervals<'a>(&self, book: &'a [i64], day: i64) -> impl Iterator<Item = Interval<'a>> {
+        let slot = &book[self.slot_range(day)];
+        slot.chunks_exact(self.interval_words()).map(Interval)
+    }
+}
+
+/// One interval's words.
+#[derive(Clone, Copy)]
+pub struct Interval<'a>(&'a [i64]);
+
+impl<'a> Interval<'a> {
+    pub(crate) fn ncc_load(self) -> i64 {
+        self.0[NCC_VALUE]
+    }
+
+    /// The entries, accounts ascending.
+    pub(crate) fn entries(self) -> impl Iterator<Item = Entry<'a>> {
+        let (entries, _) = self.0[NCC_WORDS..].as_chunks();
+        entries.iter().map(Entry)
     }
 }
 
 /// One account's words of one interval.
 #[derive(Clone, Copy)]
-pub(crate) struct Entry<'a>(&'a [i64]);
+pub(crate) struct Entry<'a>(&'a [i64; ENTRY_WORDS]);
 
 impl<'a> Entry<'a> {
     pub(crate) fn bvq(self) -> i64 {
         self.0[VESTING_FLAG + 1]
+    }
+
+    /// How many TVQ there are.
+    pub(crate) fn tranches(self) -> usize {
+        (self.0[VESTING_FLAG] as usize).saturating_sub(1)
+    }
+
+    /// The quantity that a round of a report reads: BVQ in round 0, then a TVQ in
+    /// each of rounds 1 to 3.
+    pub(crate) fn hedged(self, round: usize) -> i64 {
+        self.0[VESTING_FLAG + 1 + 2 * round]
     }
 
     /// BVQ with BVP, then each TVQ with its TVP; none if absent.

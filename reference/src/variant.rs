@@ -1,5 +1,6 @@
-//! Wrong ways to keep the book and its editions, to share, to reckon the calendar,
-//! to check a profile and to run `settle`. The stored cases must show each of them.
+//! Wrong ways to keep the book and its editions, to share, to report the hedges,
+//! to reckon the calendar, to check a profile and to run `settle`. The stored cases
+//! must show each of them.
 
 #[derive(Clone, Copy, Debug, Default, PartialEq, Eq)]
 pub enum Variant {
@@ -164,6 +165,40 @@ pub enum Variant {
     WritesBeforeTooShort,
     ClearsRefusedOutput,
     ClearsWordsBeyond,
+
+    // The hedge total of a residual day: its rounds.
+    LeavesOutFirstTranches,
+    LeavesOutSecondTranches,
+    LeavesOutThirdTranches,
+    /// Takes the figure after the base round.
+    LeavesOutTranches,
+    /// The base round counts BVQ and TVQ.
+    CountsTendersInBaseRound,
+    /// The third tranches alone.
+    StartsAnewAtEachRound,
+    /// Base quantities and third tranches.
+    StartsFromBaseAtEachRound,
+    /// A close's figure goes on from one interval to the next.
+    FigureOfEarlierIntervals,
+    /// There are as many rounds as the first account has quantities.
+    AsManyRoundsAsFirstAccount,
+
+    // The hedge total of a residual day: what a round reads.
+    /// Reads the first tranche for the second.
+    ReadsFirstTranchesTwice,
+    /// Reads the second tranche for the third.
+    ReadsSecondTranchesTwice,
+    ReadsTranchePrices,
+    /// Reads no tranche of an account with BVQ 0.
+    SkipsTranchesWithoutBase,
+    /// Reads no tranche of an account with MQ 0.
+    SkipsTranchesWithoutMq,
+    /// Reads one tranche less of each account than it has.
+    LeavesOutEachLastTranche,
+    /// A tranche's round ends at the first account without it.
+    RoundEndsWithoutTranche,
+    BaseRoundWithoutLastAccount,
+    TrancheRoundsWithoutLastAccount,
 
     // The calendar.
     /// The day of a date of year −2026 is that of 2026.
@@ -480,6 +515,28 @@ pub const WRONG_SHARE_CALLS: [Variant; 19] = [
     Variant::ClearsWordsBeyond,
 ];
 
+/// The wrong hedge totals of a close.
+pub const WRONG_REPORTS: [Variant; 18] = [
+    Variant::LeavesOutFirstTranches,
+    Variant::LeavesOutSecondTranches,
+    Variant::LeavesOutThirdTranches,
+    Variant::LeavesOutTranches,
+    Variant::CountsTendersInBaseRound,
+    Variant::StartsAnewAtEachRound,
+    Variant::StartsFromBaseAtEachRound,
+    Variant::FigureOfEarlierIntervals,
+    Variant::AsManyRoundsAsFirstAccount,
+    Variant::ReadsFirstTranchesTwice,
+    Variant::ReadsSecondTranchesTwice,
+    Variant::ReadsTranchePrices,
+    Variant::SkipsTranchesWithoutBase,
+    Variant::SkipsTranchesWithoutMq,
+    Variant::LeavesOutEachLastTranche,
+    Variant::RoundEndsWithoutTranche,
+    Variant::BaseRoundWithoutLastAccount,
+    Variant::TrancheRoundsWithoutLastAccount,
+];
+
 /// The wrong calendars, of which the book and `settle` know nothing.
 pub const WRONG_CALENDARS: [Variant; 4] = [
     Variant::TakesMagnitudeOfYear,
@@ -616,6 +673,7 @@ pub fn wrong() -> impl Iterator<Item = Variant> {
         .chain(WRONG_WORDS)
         .chain(WRONG_SHARES)
         .chain(WRONG_SHARE_CALLS)
+        .chain(WRONG_REPORTS)
         .chain(WRONG_CALENDARS)
         .chain(WRONG_PROFILES)
         .chain(WRONG_SETTLES)

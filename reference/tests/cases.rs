@@ -128,11 +128,21 @@ fn later_cases_come_last() {
         frames.len() - frames.iter().filter(is_poke).count()
     };
     assert_eq!(lines(before), 10_704);
-    let count = lines(after);
-    assert!((500..=1_000).contains(&count), "{count}");
+    // The editions, then the reports.
+    let ends_editions = |end: &usize| lines(&after[..*end]) == 999;
+    let end = (0..after.len()).find(ends_editions).unwrap();
+    let (editions, reports) = after.split_at(end);
+    assert!(bytes(editions) < 1_000_000);
+    assert!(matches!(reports[0], Frame::Open { .. }));
+    assert_eq!(lines(reports), 80);
+    assert!(bytes(reports) < 400_000);
+}
+
+/// The bytes of frames in the program's input.
+fn bytes(frames: &[Frame]) -> usize {
     let mut bytes = Vec::new();
-    after.iter().for_each(|frame| frame.write(&mut bytes));
-    assert!(bytes.len() < 1_000_000, "{}", bytes.len());
+    frames.iter().for_each(|frame| frame.write(&mut bytes));
+    bytes.len()
 }
 
 /// The share calls of the second edition: R and UEGQ.

@@ -2,8 +2,8 @@
 
 use reference::stored::{is_shown_by_replay_alone, Cases, Stored};
 use reference::variant::{
-    wrong, Context, Variant, WRONG_BOOKS, WRONG_CHANGE_DAYS, WRONG_EDITIONS, WRONG_SHARES,
-    WRONG_SHARE_CALLS, WRONG_WITHOUT_CHANGE_DAY, WRONG_WORDS,
+    wrong, Context, Variant, WRONG_BOOKS, WRONG_CHANGE_DAYS, WRONG_EDITIONS, WRONG_REPORTS,
+    WRONG_SHARES, WRONG_SHARE_CALLS, WRONG_WITHOUT_CHANGE_DAY, WRONG_WORDS,
 };
 use std::collections::BTreeSet;
 use std::fs;
@@ -92,6 +92,13 @@ fn every_wrong_variant_is_shown() {
             // No run leaves an odd kWh to two accounts.
             Variant::ChangesOnFirstDay => &["replay_settle/"],
             Variant::NeverIsAlways | Variant::SecondAlwaysUsed => &["replay/", "replay_settle/"],
+            Variant::StartsAnewAtEachRound
+            | Variant::FigureOfEarlierIntervals
+            | Variant::BaseRoundWithoutLastAccount => {
+                &["replay/", "replay_settle/", "settle/runs/"]
+            }
+            // No run's shares depend on its tenders.
+            _ if WRONG_REPORTS.contains(&variant) => &["replay/", "replay_settle/"],
             _ if WRONG_BOOKS.contains(&variant) || WRONG_WITHOUT_CHANGE_DAY.contains(&variant) => {
                 &["replay/", "replay_settle/", "settle/runs/"]
             }

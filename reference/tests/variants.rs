@@ -19,8 +19,8 @@ use reference::share::{second_share, second_share_in, share_in};
 use reference::submission::submit_in;
 use reference::tranche::tranche_in;
 use reference::variant::{
-    Context, Variant, WRONG_BOOKS, WRONG_CHANGE_DAYS, WRONG_EDITIONS, WRONG_PROFILES, WRONG_SHARES,
-    WRONG_SHARE_CALLS, WRONG_WORDS,
+    Context, Variant, WRONG_BOOKS, WRONG_CHANGE_DAYS, WRONG_EDITIONS, WRONG_PROFILES,
+    WRONG_REPORTS, WRONG_SHARES, WRONG_SHARE_CALLS, WRONG_WORDS,
 };
 use reference::wrong_profile::wrong_profile;
 use reference::wrong_share::wrong_second_share;
@@ -114,13 +114,14 @@ fn calls_on_no_book_show_their_wrong_variants() {
     assert_eq!(profile_in(refusing, &[1; 48], 48, 2).number, 1);
 }
 
-/// Books that share in the wrong edition or in a wrong way have wrong balances, or
-/// at least a wrong statement.
+/// Books that share in the wrong edition, in a wrong way or a wrong load have wrong
+/// balances, or at least a wrong statement.
 #[test]
-fn each_wrong_edition_and_share_is_rejected() {
+fn each_wrong_edition_share_and_report_is_rejected() {
     let mut rng = Rng::new(0x2EE);
     let lists: Vec<List> = (0..400).map(|_| list(&mut rng)).collect();
-    for variant in WRONG_EDITIONS.into_iter().chain(WRONG_SHARES) {
+    let wrong = WRONG_EDITIONS.into_iter().chain(WRONG_SHARES);
+    for variant in wrong.chain(WRONG_REPORTS) {
         // Lists have no numbers that large.
         if variant == Variant::DividesInDoubles {
             continue;

@@ -12,6 +12,7 @@ mod large;
 mod lists;
 mod openings;
 mod profiles;
+mod reports;
 mod second_shares;
 mod words;
 
@@ -36,6 +37,7 @@ pub fn cases() -> Vec<Frame> {
     profiles::write(&mut script);
     second_shares::write(&mut script);
     change_days::write(&mut script);
+    reports::write(&mut script);
     script.frames
 }
 
