@@ -1,18 +1,18 @@
--- An interval of a slot, as the code reads it cell by cell. Assumes nothing.
+-- An interval of a slot, as the code reads it, in rounds over its accounts. Assumes nothing.
 use mathlib.Core.Path.{_≡_}
 use mathlib.Core.Bool.{true}
 use mathlib.Core.List.{List}
-use Prim.Native.Nat.{ℕ, _+_, _-_, _*_, _≤_, _<_}
+use Prim.Native.Nat.{ℕ, _<_}
 use lib.IntN.{ℤ}
 use lib.ListN.{length}
+use Rattle.integer.specs.Below.{sumℕ}
 use Rattle.integer.specs.Words.{word}
-use Rattle.rulebook.specs.declared.Kind.the-variants.{Load}
-use Rattle.rulebook.specs.Units.{inRange, mostQuantity}
-use Rattle.rulebook.specs.Shares.{mostAccounts}
+use Rattle.rulebook.specs.declared.Kind.the-variants.{Quantity, Load}
+use Rattle.rulebook.specs.Units.{inRange, asQuantity}
 use Rattle.rulebook.specs.Sections.{NccLoad, loadBy}
-use Rattle.rulebook.specs.DayAmount.{AccountData, tenders, vestedQuantity, hedgeTotal, spareGeneration, residualLoad}
-use Rattle.rulebook.specs.Layout.{intervalLength, cellOf, figureAt}
-use Rattle.amounts.specs.declared.interval.Totals.{Totals}
+use Rattle.rulebook.specs.DayAmount.{AccountData, reportFigure, spareGeneration, residualLoad}
+use Rattle.rulebook.specs.Layout.{intervalLength, accountWords, cellOf, figureAt}
+use Rattle.amounts.specs.declared.interval.HedgeReport.{HedgeReport}
 use Rattle.amounts.specs.declared.interval.ResidualAndSpare.{ResidualAndSpare}
 use Rattle.amounts.specs.Cell.{cellData, RangedCell}
 
@@ -34,14 +34,20 @@ dataIn x b = cellData (cellOf x b)
 abbrev pub residualAt : ℕ → List ℤ → ResidualAndSpare
 residualAt n x = record { load = residualLoad (loadIn x) n (dataIn x); spare = spareGeneration n (dataIn x) }
 
--- what R is formed of, and S
-abbrev pub totalsOf : ℕ → List ℤ → Totals
-totalsOf n x = record { vested = hedgeTotal n (dataIn x); spare = spareGeneration n (dataIn x) }
+-- the figures of the holders' report
+abbrev pub reportOf : ℕ → List ℤ → HedgeReport
+reportOf n x = record {
+  base = reportFigure n (dataIn x) 0;
+  first = reportFigure n (dataIn x) 1;
+  second = reportFigure n (dataIn x) 2;
+  third = reportFigure n (dataIn x) 3;
+}
 
--- with one cell more
-abbrev pub withCell : Totals → List ℤ → Totals
-withCell t c = record { vested = t .vested + vestedQuantity (cellData c); spare = t .spare + cellData c .uegq }
+-- a word of the cells at which every account has a quantity, and all these together
+pub record QuantityWord (n : ℕ) (x : List ℤ) (at : ℕ) : Type 0 where
+  pub whole : length x ≡ intervalLength n
+  pub within : at < accountWords
+  pub ranged : (b : ℕ) → b < n → inRange Quantity (word (cellOf x b) at) ≡ true
 
--- there is room for one cell more
-abbrev pub Room : Totals → Type 0
-Room t = (t .vested ≤ (mostAccounts - 1) * ((1 + tenders) * mostQuantity)) × (t .spare ≤ (mostAccounts - 1) * mostQuantity)
+abbrev pub quantitiesAt : ℕ → List ℤ → ℕ → ℕ
+quantitiesAt n x at = sumℕ n (λ b. asQuantity (word (cellOf x b) at))

@@ -20,12 +20,12 @@ use rules::price::with_facility;
 use rules::ranges::quantity_at;
 use rules::tranche::first_tranche;
 ghost use mathlib.Core.Path.{_≡_};
-ghost use Prim.Native.Nat.{_+_, _*_, _≤_, _<_};
+ghost use Prim.Native.Nat.{_≤_, _<_};
 ghost use lib.IntN.{pos, natAbs, _-ℤ_, _*ℤ_};
 ghost use lib.ListN.{length};
 ghost use Rattle.integer.specs.Words.{word};
 ghost use Rattle.rulebook.specs.Units.{mostPrice, mostQuantity};
-ghost use Rattle.rulebook.specs.DayAmount.{tenders, referencePriceOf, vestedQuantity, tenderAmount, vestingAmount, shareAmount};
+ghost use Rattle.rulebook.specs.DayAmount.{referencePriceOf, tenderAmount, vestingAmount, shareAmount};
 ghost use Rattle.rules.specs.PriceSums.{sumsOf};
 ghost use Rattle.amounts.specs.Cell.{cellData, RangedCell};
 
@@ -76,18 +76,6 @@ pub fn price_at(c: &[i64]) -> i64
     ensures { λ r. ⌜ r ≡ referencePriceOf (cellData (now (c .entry))) ⌝ }
 {
     price_of(sums_of(c))
-}
-
-// BVQ and all TVQ.
-pub fn vested_quantity(c: &[i64]) -> u64
-    requires { ⌜ RangedCell (now c) ⌝ }
-    ensures { λ r. ⌜ (r ≡ vestedQuantity (cellData (now (c .entry)))) × (r ≤ (1 + tenders) * mostQuantity) ⌝ }
-{
-    let mut total = quantity_at(c, BVQ);
-    for t in 0..TENDERS {
-        total += quantity_at(c, TVQ + 2 * t);
-    }
-    total
 }
 
 // Σ (TVP - V) × TVQ.

@@ -11,7 +11,7 @@ ghost use Prim.Native.Nat.{_*_, _≤_, _<_};
 ghost use lib.ListN.{length};
 ghost use Rattle.rulebook.specs.Units.{intervals, lastDay};
 ghost use Rattle.rulebook.specs.Shares.{mostAccounts};
-ghost use Rattle.rulebook.specs.Layout.{intervalLength, slotLength, ring};
+ghost use Rattle.rulebook.specs.Layout.{slotLength, ring};
 ghost use Rattle.rulebook.specs.Terms.{InTerms};
 ghost use Rattle.rulebook.specs.WindowWalk.{windowPlace, placeDated};
 ghost use Rattle.book.specs.Parts.{intervalsFit, slotFits};

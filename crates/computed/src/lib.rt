@@ -1,1 +1,1 @@
-// Whole files and lists of calls, computed from the rule book's definitions, in specs/. They take seconds, so they stand where no edit checks them again.
+// Whole files and a list of calls, computed from the rule book's definitions, in specs/. They take seconds, so they stand where no edit checks them again.

@@ -1,4 +1,5 @@
--- Document 01, "Day amount": the data by name, and the formula over them; document 02, P2: the edition of a residual day. Assumes nothing.
+-- Document 01, "Day amount": the data by name, and the formula over them; document 02, P2: the edition of a residual day; P3: the figures of the holders'
+-- reports. Assumes nothing.
 use mathlib.Core.Path.{_≡_}
 use mathlib.Core.Bool.{Bool, cond, not, _&&_}
 use mathlib.Core.Logic.{_≢_, _⊎_}
@@ -74,6 +75,11 @@ module _ (n : ℕ) (x : ℕ → AccountData) where
   unfoldable pub hedgeTotal : ℕ
   hedgeTotal = sumℕ n (λ b. vestedQuantity (x b))
 
+  -- the holders' report reads all accounts' BVQ first, then all first tranches (here TVQ 0, 1 and 2 of a vesting row), the second, the third: its figure after the base round
+  -- and the rounds of m tranches
+  unfoldable pub reportFigure : ℕ → ℕ
+  reportFigure m = sumℕ n (λ b. x b .bvq) + sumℕ m (λ t. sumℕ n (λ b. x b .tvq t))
+
   -- S, the sum of UEGQ
   unfoldable pub spareGeneration : ℕ
   spareGeneration = spareOf n (λ b. x b .uegq)
@@ -91,6 +97,15 @@ module _ (load n : ℕ) (x : ℕ → AccountData) where
   -- (RVP1 − V) × tranche 1 + (RVP2 − V) × tranche 2 of the share
   unfoldable pub residualAmount : Edition → ℕ → ℤ
   residualAmount e a = shareAmount (x a) (referencePriceOf (x a)) (rvq e a)
+
+-- the report's figures: after the base round all accounts' BVQ; after each later round that plus all accounts' tranches read so far, the round of tranche t
+-- adding the accounts' TVQ of it alone; after the last what R takes from the load, which is the hedge total
+pub record ReportFigures (n : ℕ) (x : ℕ → AccountData) : Type 0 where
+  pub base : reportFigure n x 0 ≡ sumℕ n (λ b. x b .bvq)
+  pub soFar : (m : ℕ) → reportFigure n x m ≡ sumℕ n (λ b. x b .bvq) + sumℕ n (λ b. sumℕ m (x b .tvq))
+  pub round : (t : ℕ) → reportFigure n x (t + 1) ≡ reportFigure n x t + sumℕ n (λ b. x b .tvq t)
+  pub total : reportFigure n x tenders ≡ hedgeTotal n x
+  pub residual : (load : ℕ) → residualLoad load n x ≡ pos load -ℤ pos (reportFigure n x tenders)
 
 -- what these shares total
 abbrev pub IntervalShares : ℕ → ℕ → (ℕ → AccountData) → Edition → Type 0

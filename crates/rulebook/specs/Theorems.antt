@@ -17,7 +17,7 @@ use Rattle.rulebook.specs.declared.Verdict.the-variants.{Accepted}
 use Rattle.rulebook.specs.Units.{lastDay, intervals, nearest}
 use Rattle.rulebook.specs.Shares.{shareOf, share, secondShare, ShareTotal, RuleShare, EveryKwh}
 use Rattle.rulebook.specs.Tranches.{TrancheSplit}
-use Rattle.rulebook.specs.DayAmount.{AccountData, SettlementData, exactAmount, postedAmount, msslAmount, IntervalShares, ResidualDayShares, PostedParts, msslExact}
+use Rattle.rulebook.specs.DayAmount.{AccountData, SettlementData, exactAmount, postedAmount, msslAmount, ReportFigures, IntervalShares, ResidualDayShares, PostedParts, msslExact}
 use Rattle.rulebook.specs.Terms.{InTerms}
 use Rattle.rulebook.specs.Sections.{accountsOf}
 use Rattle.rulebook.specs.Layout.{ring, slot, size, width, rowWord, InWindow}
@@ -46,7 +46,7 @@ use Rattle.rulebook.specs.FileTheorems.{FileTheorems, file-theorems}
 use Rattle.rulebook.specs.examples.Figures.{Right, starred, starred-right}
 use Rattle.rulebook.specs.examples.WorkedDay.{WorkedDay, worked-day}
 use Rattle.rulebook.specs.examples.Examples.{RowExamples, row-examples, Headers, headers, Balances, balances, AccountWords, account-words, Ranges, ranges}
-use Rattle.rulebook.specs.examples.AmountExamples.{BoundReached, bound-reached, ResidualOfThree, residual-of-three, LagOfTwo, lag-of-two}
+use Rattle.rulebook.specs.examples.AmountExamples.{BoundReached, bound-reached, ResidualOfThree, residual-of-three, ReportOfThree, report-of-three, LagOfTwo, lag-of-two}
 use Rattle.rulebook.specs.examples.LayoutExamples.{Places, places, NewHeader, new-header, Windows, windows}
 use Rattle.rulebook.specs.examples.BookExamples.{Days, days}
 use Rattle.rulebook.specs.examples.FileExamples.{BytesRead, bytes-read, FiguresRead, figures-read}
@@ -63,6 +63,7 @@ use Rattle.rulebook.specs.laws.SharesLaws.{share-total, share-rule}
 use Rattle.rulebook.specs.laws.SecondShareLaws.{every-kwh}
 use Rattle.rulebook.specs.laws.CallsLaws.{shares-called}
 use Rattle.rulebook.specs.laws.TranchesLaws.{tranche-split}
+use Rattle.rulebook.specs.laws.ReportLaws.{report-figures}
 use Rattle.rulebook.specs.laws.DayAmountLaws.{interval-shares, residual-day-shares, posted-parts, posted-within, mssl-within}
 use Rattle.rulebook.specs.laws.WalkLaws.{days-are-places}
 use Rattle.rulebook.specs.laws.WindowLaws.{window-days-apart, slot-day}
@@ -151,6 +152,8 @@ pub record Theorems : Type 0 where
   pub shareTotal : (r : ℤ) (n : ℕ) (uegq : ℕ → ℕ) → ShareTotal (share r n uegq) r n uegq
   -- the second edition's use every kWh
   pub everyKwh : (r : ℤ) (n : ℕ) (uegq : ℕ → ℕ) → EveryKwh (secondShare r n uegq) r n uegq
+  -- the partial figures of the holders' reports, the last of which R takes from the load
+  pub reportFigures : (n : ℕ) (x : ℕ → AccountData) → ReportFigures n x
   -- an interval's, of either edition; and of each residual day by its own
   pub intervalShares : (load n : ℕ) (x : ℕ → AccountData) (e : Edition) → IntervalShares load n x e
   pub residualDayShares : (o : Terms) (x : SettlementData) (r i : ℕ) → ResidualDayShares o x r i
@@ -168,8 +171,9 @@ pub record Theorems : Type 0 where
   pub starredRight : Each Right starred
   pub workedDay : WorkedDay
   pub boundReached : BoundReached
-  -- R of three accounts; the residual day two days back
+  -- R of three accounts, and the figures of their report; the residual day two days back
   pub residualOfThree : ResidualOfThree
+  pub reportOfThree : ReportOfThree
   pub lagOfTwo : LagOfTwo
   -- shares of the second edition, residual days on each side of X
   pub secondShares : SecondShares
@@ -240,6 +244,7 @@ theorems = record {
   shareRule = share-rule;
   shareTotal = share-total;
   everyKwh = every-kwh;
+  reportFigures = report-figures;
   intervalShares = interval-shares;
   residualDayShares = residual-day-shares;
   sharesCalled = shares-called;
@@ -251,6 +256,7 @@ theorems = record {
   workedDay = worked-day;
   boundReached = bound-reached;
   residualOfThree = residual-of-three;
+  reportOfThree = report-of-three;
   lagOfTwo = lag-of-two;
   secondShares = second-shares;
   editions = editions;

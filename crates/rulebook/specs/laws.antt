@@ -4,6 +4,7 @@ pub mod ReferencePriceLaws
 pub mod SharesLaws
 pub mod SecondShareLaws
 pub mod TranchesLaws
+pub mod ReportLaws
 pub mod DayAmountLaws
 pub mod CallsLaws
 pub mod ProfileLaws

@@ -15,7 +15,7 @@ use Rattle.rulebook.specs.declared.Section.the-variants.{Vesting, Meter, Residu
 use Rattle.rulebook.specs.declared.Terms.{Terms}
 use Rattle.rulebook.specs.Terms.{InTerms}
 use Rattle.rulebook.specs.DayAmount.{settlesResidual}
-use Rattle.rulebook.specs.Layout.{width, ring, size, slot, intervalSize, intervalWord, rowWord, place, cellPlace, accountWords, intervalLength, slotLength, slotStart, intervalOf, accountPlace, flagAt}
+use Rattle.rulebook.specs.Layout.{width, ring, size, slot, intervalSize, intervalWord, rowWord, place, accountWords, intervalLength, slotLength, slotStart, intervalOf, accountPlace, flagAt}
 use Rattle.rulebook.specs.Units.{intervals}
 use Rattle.rulebook.specs.BookData.{termsOf}
 use Rattle.rulebook.specs.WellFormed.{wellFormed}
@@ -24,6 +24,7 @@ use Rattle.rulebook.specs.laws.FormLaws.{ring-pos}
 use Rattle.rulebook.specs.laws.FormedLaws.{formed-holds, opened-of}
 use Rattle.rulebook.specs.laws.IndexLaws.{place-run}
 use Rattle.amounts.specs.Day.{cellAt}
+use Rattle.amounts.specs.laws.IntervalLaws.{interval-word}
 use Rattle.closing.specs.Slots.{slotWords, thenDay}
 
 -- ---- The slot in the book
@@ -70,7 +71,7 @@ module _ (o : Terms) (w : List ℤ) (d : ℕ) where
     pub cell-word : (k : ℕ) → k < accountWords → word (cellAt (o .accounts) (slotWords o w d) a i) k ≡ word w (intervalWord o (slot o d) i (accountPlace a k))
     cell-word k hk =
         let n = o .accounts in
-        getD-part (intervalOf n (slotWords o w d) i) (cellPlace a) accountWords k (pos 0) hk
+        interval-word (intervalOf n (slotWords o w d) i) a k hk
         ∙ getD-part (slotWords o w d) (i * intervalLength n) (intervalLength n) (accountPlace a k) (pos 0) (omega arith)
         ∙ getD-part w (slotStart o d) (slotLength n) (i * intervalLength n + accountPlace a k) (pos 0) (omega (arith, row-fits i intervals (intervalLength n) hi))
         ∙ ap (word w) (slot-index i (accountPlace a k))

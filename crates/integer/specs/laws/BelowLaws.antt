@@ -83,6 +83,15 @@ fold-by-two op e assoc (suc n) f =
     let next : suc (2 * n) ≡ 2 * n + 1 = omega arith in
     rw (twice, next, fold-by-two op e assoc n f) (assoc (fold op e n (λ b. op (f (2 * b)) (f (2 * b + 1)))) (f (2 * n)) (f (2 * n + 1)))
 
+-- two joined turn by turn, where the order of joining does not matter
+pub fold-zip {ℓ} : {A : Type ℓ} (op : A → A → A) (e : A) → op e e ≡ e → ((a b c d : A) → op (op a b) (op c d) ≡ op (op a c) (op b d))
+    → (n : ℕ) (f g : ℕ → A) → op (fold op e n f) (fold op e n g) ≡ fold op e n (λ i. op (f i) (g i))
+unfolding fold
+fold-zip op e u mid zero f g = u
+fold-zip op e u mid (suc n) f g =
+    let x = fold-zip op e u mid n f g in
+    mid (fold op e n f) (f n) (fold op e n g) (g n) ∙ ap (λ z. op z (op (f n) (g n))) x
+
 -- a test that passes of what is joined exactly if it passes of both
 pub fold-test {ℓ} : {A : Type ℓ} (op : A → A → A) (e : A) (test : A → Bool) → test e ≡ true → ((x y : A) → test (op x y) ≡ (test x && test y))
     → (n : ℕ) (f : ℕ → A) → test (fold op e n f) ≡ all n (λ i. test (f i))
@@ -128,11 +137,18 @@ unfolding fold
 abs-sumℤ zero m f h = omega arith
 abs-sumℤ (suc n) m f h = omega (arith, abs-add (sumℤ n f) (f n), abs-sumℤ n m f (λ i l. h i (omega arith)), h n (omega arith), suc-mul n m)
 
+pub sumℕ-add : (n : ℕ) (f g : ℕ → ℕ) → sumℕ n f + sumℕ n g ≡ sumℕ n (λ i. f i + g i)
+sumℕ-add = fold-zip _+_ 0 refl (λ a b c d. omega arith)
+
 pub sumℤ-add : (n : ℕ) (f g : ℕ → ℤ) → sumℤ n f +ℤ sumℤ n g ≡ sumℤ n (λ i. f i +ℤ g i)
+sumℤ-add = fold-zip _+ℤ_ (pos 0) refl (λ a b c d. rw (as-diff a, as-diff b, as-diff c, as-diff d) (simp diffs (omega ring)))
+
+-- sums of sums, by columns and by rows
+pub sumℕ-swap : (m n : ℕ) (f : ℕ → ℕ → ℕ) → sumℕ m (λ t. sumℕ n (λ b. f b t)) ≡ sumℕ n (λ b. sumℕ m (f b))
 unfolding fold
-sumℤ-add zero f g = refl
-sumℤ-add (suc n) f g =
-    rw (← sumℤ-add n f g, as-diff (sumℤ n f), as-diff (sumℤ n g), as-diff (f n), as-diff (g n)) (simp diffs (omega ring))
+sumℕ-swap zero n f = sym (fold-unit _+_ 0 refl n (λ b. 0) (λ b l. refl))
+sumℕ-swap (suc m) n f =
+    ap (λ (z : ℕ). z + sumℕ n (λ b. f b m)) (sumℕ-swap m n f) ∙ sumℕ-add n (λ b. sumℕ m (f b)) (λ b. f b m)
 
 pub sumℤ-mono : (n : ℕ) (f g : ℕ → ℤ) → ((i : ℕ) → i < n → f i ≤ℤ g i) → sumℤ n f ≤ℤ sumℤ n g
 unfolding fold

@@ -1,19 +1,21 @@
--- Document 01, "Day amount" and "The book": the bound of a day's amount is reached, either way; R of three accounts; r with L = 2. Computed.
+-- Document 01, "Day amount" and "The book": the bound of a day's amount is reached, either way; R of three accounts, and the figures of their report
+-- (document 02, P3); r with L = 2. Computed.
 -- Assumes nothing.
 use mathlib.Core.Path.{_≡_, refl}
 use mathlib.Core.Bool.{true, false, cond}
-use mathlib.Core.List.{[], _∷_}
-use Prim.Native.Nat.{_*_, _^_}
+use mathlib.Core.List.{List, [], _∷_}
+use Prim.Native.Nat.{ℕ, _*_, _^_}
 use lib.Dec.{eqb, ltb}
 use lib.IntN.{ℤ, pos}
+use lib.ListN.{getD}
 use Rattle.integer.specs.Integer.{minus, withSign}
-use Rattle.integer.specs.Below.{fold}
+use Rattle.integer.specs.Below.{fold, tabulate}
 use Rattle.rulebook.specs.declared.Terms.{Terms}
 use Rattle.rulebook.specs.Units.{nearest}
 use Rattle.rulebook.specs.ReferencePrice.{average, referencePrice}
 use Rattle.rulebook.specs.Shares.{mostAccounts, share, shareOf, editionShare}
 use Rattle.rulebook.specs.Tranches.{tranche1, tranche2}
-use Rattle.rulebook.specs.DayAmount.{AccountData, SettlementData, referencePriceOf, vestedQuantity, tenderAmount, vestingAmount, shareAmount, hedgeTotal, spareGeneration, residualLoad, rvq, residualAmount, settlesResidual, editionOf, intervalAmount, exactAmount, postedAmount, msslAmount}
+use Rattle.rulebook.specs.DayAmount.{AccountData, SettlementData, referencePriceOf, vestedQuantity, tenderAmount, vestingAmount, shareAmount, hedgeTotal, reportFigure, spareGeneration, residualLoad, rvq, residualAmount, settlesResidual, editionOf, intervalAmount, exactAmount, postedAmount, msslAmount}
 use Rattle.rulebook.specs.WellFormed.{dayBound}
 use Rattle.rulebook.specs.Bounds.{mostDays}
 use Rattle.rulebook.specs.examples.Figures.{accountData, nothing}
@@ -38,13 +40,30 @@ pub bound-reached : BoundReached
 unfolding fold share shareOf editionShare tranche1 tranche2 referencePrice average nearest withSign msslAmount postedAmount exactAmount intervalAmount settlesResidual editionOf tenderAmount vestingAmount vestedQuantity hedgeTotal spareGeneration residualLoad rvq shareAmount residualAmount referencePriceOf
 bound-reached = record { most = refl; least = refl; mssl = refl; fitsWord = refl }
 
+-- an account of which only the hedges count
+abbrev hedged : ℕ → List ℕ → AccountData
+hedged bvq tvq = accountData bvq (pos 0) tvq [] (pos 0 ∷ []) (pos 0 ∷ []) 0 0 (pos 0) (pos 0)
+
 -- 1000 less three times 10 + 1 + 2 + 4
 pub record ResidualOfThree : Type 0 where
-  pub left : residualLoad 1000 3 (λ b. accountData 10 (pos 0) (1 ∷ 2 ∷ 4 ∷ []) [] (pos 0 ∷ []) (pos 0 ∷ []) 0 0 (pos 0) (pos 0)) ≡ pos 949
+  pub left : residualLoad 1000 3 (λ b. hedged 10 (1 ∷ 2 ∷ 4 ∷ [])) ≡ pos 949
 
 pub residual-of-three : ResidualOfThree
 unfolding fold residualLoad hedgeTotal vestedQuantity
 residual-of-three = record { left = refl }
+
+-- three accounts, the second without a base contract and with one tender
+abbrev reported : ℕ → AccountData
+reported b = getD (hedged 100 (1 ∷ 20 ∷ 300 ∷ []) ∷ hedged 0 (4 ∷ []) ∷ hedged 3000 (50 ∷ 0 ∷ 7000 ∷ []) ∷ []) b nothing
+
+pub record ReportOfThree : Type 0 where
+  -- after the base round, the first, the second and the third tranches
+  pub figures : tabulate 4 (reportFigure 3 reported) ≡ 3100 ∷ 3155 ∷ 3175 ∷ 10475 ∷ []
+  pub left : residualLoad 12000 3 reported ≡ pos 1525
+
+pub report-of-three : ReportOfThree
+unfolding fold tabulate reportFigure residualLoad hedgeTotal vestedQuantity
+report-of-three = record { figures = refl; left = refl }
 
 -- ---- L = 2
 

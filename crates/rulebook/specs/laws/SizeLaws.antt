@@ -15,7 +15,7 @@ use Rattle.rulebook.specs.declared.Edition.{Edition}
 use Rattle.rulebook.specs.Units.{mostQuantity, mostLoad, mostPrice, nearest, positive}
 use Rattle.rulebook.specs.ReferencePrice.{weight}
 use Rattle.rulebook.specs.Tranches.{tranche1, tranche2}
-use Rattle.rulebook.specs.DayAmount.{AccountData, SettlementData, referencePriceOf, vestedQuantity, tenderAmount, vestingAmount, shareAmount, hedgeTotal, spareGeneration, residualLoad, rvq, residualAmount, settlesResidual, residualDay, editionOf, intervalAmount, exactAmount, postedAmount}
+use Rattle.rulebook.specs.DayAmount.{AccountData, SettlementData, referencePriceOf, vestedQuantity, tenderAmount, vestingAmount, shareAmount, hedgeTotal, reportFigure, residualLoad, rvq, residualAmount, settlesResidual, residualDay, editionOf, intervalAmount, exactAmount, postedAmount}
 use Rattle.rulebook.specs.WellFormed.{dayBound}
 use Rattle.rulebook.specs.Bounds.{Sized, SizedDay}
 use Rattle.rulebook.specs.laws.ReferencePriceLaws.{price-size}
@@ -128,14 +128,18 @@ module _ (x : AccountData) (h : Sized x) where
 -- ---- All accounts' interval
 
 module _ (n : ℕ) (x : ℕ → AccountData) (h : (b : ℕ) → b < n → Sized (x b)) where
-  -- the first m accounts: vested quantities, UEGQ
-  pub all-vested-size : (m : ℕ) → m ≤ n → hedgeTotal m x ≤ m * 40000000
+  pub hedge-size : hedgeTotal n x ≤ n * 40000000
   unfolding hedgeTotal
-  all-vested-size m l = sumℕ-le m 40000000 (λ b. vestedQuantity (x b)) (λ b k. vested-size (x b) (h b (omega arith)))
+  hedge-size = sumℕ-le n 40000000 (λ b. vestedQuantity (x b)) (λ b k. vested-size (x b) (h b k))
 
-  pub spare-size : (m : ℕ) → m ≤ n → spareGeneration m x ≤ m * 10000000
-  unfolding spareGeneration
-  spare-size m l = sumℕ-le m 10000000 (λ b. x b .uegq) (λ b k. h b (omega arith) .uegq)
+  -- the report's figure after m rounds of tranches
+  pub report-size : n ≤ 32 → (m : ℕ) → m ≤ 3 → reportFigure n x m ≤ (1 + m) * 320000000
+  unfolding reportFigure
+  report-size few m l =
+      let base = sumℕ-le n 10000000 (λ b. x b .bvq) (λ b k. h b k .bvq) in
+      let rounds = sumℕ-le m 320000000 (λ t. sumℕ n (λ b. x b .tvq t))
+      (λ t k. omega (arith, sumℕ-le n 10000000 (λ b. x b .tvq t) (λ b j. h b j .tvq t (omega arith)))) in
+      omega arith
 
 module _ (load n : ℕ) (x : ℕ → AccountData) (h : (b : ℕ) → b < n → Sized (x b)) where
   -- R, from −1,280,000,000 to 1,000,000,000
@@ -143,7 +147,7 @@ module _ (load n : ℕ) (x : ℕ → AccountData) (h : (b : ℕ) → b < n → S
   unfolding residualLoad
   residual-load-size few l =
       let s : ℕ = hedgeTotal n x in
-      let b = all-vested-size n x h n (omega arith) in
+      let b = hedge-size n x h in
       let p = sub-parts (pos load) (pos s) in
       let q = parts (pos load -ℤ pos s) in
       (omega arith, omega arith)
