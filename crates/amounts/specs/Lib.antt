@@ -4,3 +4,4 @@ pub mod Total
 pub mod Day
 -- laws and proofs
 pub mod laws
+pub mod examples

@@ -1,0 +1,2 @@
+-- an interval's words in figures
+pub mod IntervalExamples
