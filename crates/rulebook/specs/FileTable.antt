@@ -1,12 +1,12 @@
--- Document 01, "Numbers returned", 4 to 8: the fields of a file in file order, the table's conditions, and the first that strikes. Assumes nothing.
+-- Document 01, "Numbers returned", 4 to 8: the fields of a file in file order, and the table's conditions at each. Assumes nothing.
 use mathlib.Core.Path.{_≡_}
-use mathlib.Core.Bool.{Bool, true, false, _||_}
+use mathlib.Core.Bool.{Bool, _||_}
 use mathlib.Core.List.{List, [], _∷_, _++_, map, flatMap}
 use Prim.Native.Nat.{ℕ, _+_, _*_}
 use lib.Dec.{ltb, leb}
 use lib.ListN.{length}
 use lib.Signed.{ltZ}
-use Rattle.integer.specs.Below.{any, tabulate, Each}
+use Rattle.integer.specs.Below.{any, tabulate}
 use Rattle.rulebook.specs.declared.Section.{Section}
 use Rattle.rulebook.specs.declared.Section.the-variants.{Vesting, Meter, Residual, Ncc}
 use Rattle.rulebook.specs.declared.Terms.{Terms}
@@ -14,6 +14,7 @@ use Rattle.rulebook.specs.Units.{intervals}
 use Rattle.rulebook.specs.Sections.{perInterval}
 use Rattle.rulebook.specs.File.{Figure, figurePlace, num, valueAt, valuesPos, countAt, rowAt, rowPos, rowsIn, meterPos, residualPos, nccPos, endPos}
 use Rattle.rulebook.specs.Numbers.{fieldNotWhole, fieldOutOfRange, dayNotOpen, rowRepeated, bytesAfterEnd}
+use Rattle.rulebook.specs.Checks.{Check}
 use Rattle.rulebook.specs.NamedRows.{NamedRow, named}
 use Rattle.rulebook.specs.Encoding.{figures}
 use Rattle.rulebook.specs.Proper.{least, most, sameKey}
@@ -96,16 +97,10 @@ shut o C Meter d = ltb d C || late o C d
 shut o C Residual d = (ltb d (o .first) || ltb (d + o .lag) C) || late o C d
 shut o C Ncc d = (ltb d (o .first) || ltb (d + o .lag) C) || late o C d
 
--- a number of the table at a field: does its condition hold there?
-pub record Check : Type 0 where
-  pub field : Field
-  pub number : ℕ
-  pub holds : Bool
-
--- the same, at a field to be named
+-- a number of the table at the first byte of a field to be named
 infixl 70 _strikesIf_
 abbrev pub _strikesIf_ : ℕ → Bool → Field → Check
-(number strikesIf condition) f = record { field = f; number = number; holds = condition }
+(number strikesIf condition) f = record { number = number; position = start f; holds = condition }
 
 module _ (o : Terms) (C : ℕ) (s : List ℕ) where
   -- 4, of every field: field or count not whole
@@ -130,20 +125,3 @@ module _ (o : Terms) (C : ℕ) (s : List ℕ) where
   -- those of the file, in file order
   abbrev pub checks : List Check
   checks = flatMap checksOf (fieldsOf s)
-
--- ---- The first that strikes
-
--- no check of a list strikes
-abbrev pub NoneStrikes : List Check → Type 0
-NoneStrikes cs = Each (λ c. c .holds ≡ false) cs
-
--- "each is given if its condition holds and no earlier check struck": of these checks number n's strikes first, at a field that starts at p
-pub record FirstStrikes (cs : List Check) (n p : ℕ) : Type 0 where
-  pub before : List Check
-  pub check : Check
-  pub after : List Check
-  pub order : cs ≡ before ++ (check ∷ after)
-  pub passed : NoneStrikes before
-  pub struck : check .holds ≡ true
-  pub number : check .number ≡ n
-  pub position : start (check .field) ≡ p

@@ -19,7 +19,8 @@ use Rattle.rulebook.specs.Numbers.{accepted, notWellFormed, numbered, of
 use Rattle.rulebook.specs.NamedRows.{NamedRow, named, namedRows}
 use Rattle.rulebook.specs.Encoding.{encoded}
 use Rattle.rulebook.specs.Proper.{Bytes, ProperRows, AllAlike, LackingZero}
-use Rattle.rulebook.specs.FileTable.{fieldsOf, EndToEnd, checks, NoneStrikes, FirstStrikes}
+use Rattle.rulebook.specs.Checks.{NoneStrikes, FirstStrikes}
+use Rattle.rulebook.specs.FileTable.{fieldsOf, EndToEnd, checks}
 use Rattle.rulebook.specs.examples.EncodingExamples.{Written, written}
 use Rattle.rulebook.specs.laws.IntervalLaws.{lacking-zero}
 use Rattle.rulebook.specs.laws.EncodingLaws.{encoded-bytes, alike-bytes}

@@ -19,6 +19,7 @@ pub mod Judging
 pub mod Submit
 pub mod Close
 pub mod Numbers
+pub mod Checks
 pub mod Calls
 -- submission files written out, the rows that a book can take, the table at a file's fields
 pub mod NamedRows

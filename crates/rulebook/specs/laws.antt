@@ -12,6 +12,7 @@ pub mod AmountLaws
 pub mod SizeLaws
 pub mod TestLaws
 pub mod CheckedLaws
+pub mod FirstCheckLaws
 pub mod ProfileTableLaws
 pub mod SectionsLaws
 pub mod RowWordLaws

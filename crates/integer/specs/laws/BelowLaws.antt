@@ -2,7 +2,7 @@
 use mathlib.Core.Path.{_≡_, refl, sym, ap, _∙_}
 use mathlib.Core.Bool.{Bool, true, false, _&&_, and-false}
 use mathlib.Core.Logic.{_⊎_, inl, inr, ⊎-elim}
-use mathlib.Core.List.{List, [], _∷_, _++_}
+use mathlib.Core.List.{List, [], _∷_, _++_, flatMap}
 use Prim.Native.Nat.{ℕ, zero, suc, _+_, _*_, _-_, _≤_, _<_}
 use native.Mathlib.Nat.{not-suc-le-zero, le-of-suc-le-suc, suc-mul, zero-mul}
 use native.Mathlib.Numerals.{add-one}
@@ -318,3 +318,8 @@ each-tabulate P (suc n) f h = (h 0 (omega arith), each-tabulate P n (λ k. f (su
 pub each-append {ℓ} : {A : Type ℓ} (P : A → Type 0) (xs ys : List A) → Each P xs → Each P ys → Each P (xs ++ ys)
 each-append P [] ys p q = q
 each-append P (x ∷ xs) ys p q = (p .0, each-append P xs ys (p .1) q)
+
+pub each-flat {ℓ} : {A B : Type ℓ} (P : A → Type 0) (f : B → List A) → ((b : B) → Each P (f b)) → (bs : List B) → Each P (flatMap f bs)
+unfolding flatMap
+each-flat P f h [] = tt
+each-flat P f h (b ∷ bs) = each-append P (f b) (flatMap f bs) (h b) (each-flat P f h bs)

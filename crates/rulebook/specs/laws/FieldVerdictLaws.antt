@@ -25,7 +25,8 @@ use Rattle.rulebook.specs.File.{Figure, num, valueAt}
 use Rattle.rulebook.specs.Judging.{require, _andThen_, openFrom, limitsOf, whole, fieldIn}
 use Rattle.rulebook.specs.Numbers.{Answer, numbered, whyNumber}
 use Rattle.rulebook.specs.Proper.{least, most, sameKey}
-use Rattle.rulebook.specs.FileTable.{Field, RowCount, Account, Day, TrancheCount, FacilityCount, Value, EndOfFile, start, late, shut, Check, checksOf}
+use Rattle.rulebook.specs.FileTable.{Field, RowCount, Account, Day, TrancheCount, FacilityCount, Value, EndOfFile, late, shut, checksOf}
+use Rattle.rulebook.specs.laws.FirstCheckLaws.{firstOr, first-append}
 use Rattle.rulebook.specs.laws.IntervalLaws.{kindOfFigure}
 use Rattle.rulebook.specs.laws.FigureRangeLaws.{kind-range}
 
@@ -36,11 +37,6 @@ unfoldable pub toldOr : Verdict → Answer → Answer
 toldOr Accepted a = a
 toldOr (Refused w p) a = numbered (whyNumber w) p
 
--- the answer of the first check that strikes, and a where none does
-unfoldable pub firstOr : List Check → Answer → Answer
-firstOr [] a = a
-firstOr (c ∷ cs) a = cond (c .holds) (numbered (c .number) (start (c .field))) (firstOr cs a)
-
 pub told-then : (x y : Verdict) (a : Answer) → toldOr (x andThen y) a ≡ toldOr x (toldOr y a)
 unfolding toldOr
 told-then Accepted y a = refl
@@ -50,11 +46,6 @@ told-require : (b : Bool) (w : Why) (p : ℕ) (a : Answer) → toldOr (require b
 unfolding toldOr
 told-require true w p a = refl
 told-require false w p a = refl
-
-pub first-append : (xs ys : List Check) (a : Answer) → firstOr (xs ++ ys) a ≡ firstOr xs (firstOr ys a)
-unfolding firstOr
-first-append [] ys a = refl
-first-append (c ∷ xs) ys a = ap (λ x. cond (c .holds) (numbered (c .number) (start (c .field))) x) (first-append xs ys a)
 
 -- ---- Tests
 
@@ -122,7 +113,7 @@ module _ (o : Terms) (C : ℕ) (s : List ℕ) where
   verdictAt (Value g at) = whole 4 s at andThen require (inRange (kindOfFigure g) (valueAt s at)) OutOfRange at
   verdictAt (EndOfFile at) = whole 0 s at andThen require (leb (length s) at) Excess at
 
-  pub field-told : InTerms o → (f : Field) (a : Answer) → firstOr (checksOf o C s f) a ≡ toldOr (verdictAt f) a
+  pub field-told : InTerms o → (f : Field) (a : Answer) → firstOr numbered (checksOf o C s f) a ≡ toldOr (verdictAt f) a
   unfolding firstOr verdictAt fieldIn
   field-told t (RowCount at) a = rw (told-require, ltb-not (length s) (at + 2))
   field-told t (Account at) a =
@@ -141,8 +132,8 @@ module _ (o : Terms) (C : ℕ) (s : List ℕ) where
   verdicts [] = Accepted
   verdicts (f ∷ fs) = verdictAt f andThen verdicts fs
 
-  pub fields-told : InTerms o → (fs : List Field) (a : Answer) → firstOr (flatMap (checksOf o C s) fs) a ≡ toldOr (verdicts fs) a
+  pub fields-told : InTerms o → (fs : List Field) (a : Answer) → firstOr numbered (flatMap (checksOf o C s) fs) a ≡ toldOr (verdicts fs) a
   unfolding flatMap verdicts
   fields-told t [] a = unfold firstOr toldOr in refl
   fields-told t (f ∷ fs) a =
-      first-append (checksOf o C s f) _ a ∙ field-told t f _ ∙ ap (toldOr (verdictAt f)) (fields-told t fs a) ∙ sym (told-then (verdictAt f) (verdicts fs) a)
+      first-append numbered (checksOf o C s f) _ a ∙ field-told t f _ ∙ ap (toldOr (verdictAt f)) (fields-told t fs a) ∙ sym (told-then (verdictAt f) (verdicts fs) a)

@@ -17,7 +17,8 @@ use Rattle.rulebook.specs.WellFormed.{wellFormed}
 use Rattle.rulebook.specs.Judging.{limitsOf, judged}
 use Rattle.rulebook.specs.Submit.{taken, submitted}
 use Rattle.rulebook.specs.Numbers.{Answer, accepted, notWellFormed, numbered, whyNumber, ofVerdict, ofSubmit}
-use Rattle.rulebook.specs.FileTable.{checks, NoneStrikes, FirstStrikes}
+use Rattle.rulebook.specs.Checks.{NoneStrikes, FirstStrikes}
+use Rattle.rulebook.specs.FileTable.{checks}
 use Rattle.rulebook.specs.laws.TestLaws.{T-path}
 use Rattle.rulebook.specs.laws.FormedLaws.{opened-of}
 use Rattle.rulebook.specs.laws.StrikeLaws.{told-accepted, refused-exactly, accepted-clear}
