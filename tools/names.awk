@@ -43,8 +43,8 @@ antt && holder != "" && constructors && /^ +[a-z][A-Za-z0-9]* : / { name = $1; s
 
 antt && /^[^ -]/ { holder = "" }
 
-!antt && /^(pub )?(extern "C" )?(fn|struct|enum|const) / {
-    name = $0; sub(/^(pub )?(extern "C" )?(fn|struct|enum|const) /, "", name)
+!antt && /^(pub(\(crate\))? )?(extern "C" )?(fn|struct|enum|const) / {
+    name = $0; sub(/^(pub(\(crate\))? )?(extern "C" )?(fn|struct|enum|const) /, "", name)
     variants = $0 ~ /enum /
     sub(/[^A-Za-z0-9_].*/, "", name)
     say(name); say(module "::" name); say(crate "::" name)

@@ -41,6 +41,8 @@ pub const PAST_LAST_DAY: u64 = 14;
 
 pub const TOTAL_IMPOSSIBLE: u64 = 15;
 
+pub const PACKED_FIELD_WRONG: u64 = 16;
+
 // Every other figure is 0.
 fn numbered(number: u64, position: usize) -> Answer
     ensures { λ r. ⌜ r ≡ Numbers·numbered number position ⌝ }

@@ -31,7 +31,7 @@ use Rattle.rulebook.specs.declared.ProfileAnswer.the-variants.{Judged, T
 abbrev pub accepted : ℕ
 accepted = 0
 
--- opening, share, tranche, price or profile parameter, or a list's length, outside its range; MEP and IEQ lists of unequal length
+-- opening, share, tranche, price or profile parameter, amount of packed decimal, or a list's length, outside its range; MEP and IEQ lists of unequal length
 abbrev pub outsideRange : ℕ
 outsideRange = 1
 
@@ -88,6 +88,10 @@ pastLastDay = 14
 -- profile: no 48 quantities keep the limits of this T and D (document 02, P1)
 abbrev pub totalImpossible : ℕ
 totalImpossible = 15
+
+-- packed decimal: a wrong digit or sign, zero with the sign of less, or a cut last field (document 02, P4)
+abbrev pub packedFieldWrong : ℕ
+packedFieldWrong = 16
 
 -- ---- One check after another, in the order in which they are tried: a check that is not met refuses, else the rest decides
 

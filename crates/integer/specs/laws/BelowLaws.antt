@@ -73,6 +73,14 @@ fold-stop op e x stays zero f i l t = absurd (not-suc-le-zero l)
 fold-stop op e x stays (suc n) f i l t =
     ⊎-elim (λ h. rw (fold-stop op e x stays n f i h t) (stays (f n))) (λ h. let q : i ≡ n = omega arith in rw (← q) t) (lt-or-le i n)
 
+-- the first turn taken apart, where joining is associative and e its unit
+pub fold-front {ℓ} : {A : Type ℓ} (op : A → A → A) (e : A) → ((x : A) → op e x ≡ x) → ((x : A) → op x e ≡ x) → ((x y z : A) → op (op x y) z ≡ op x (op y z))
+    → (n : ℕ) (f : ℕ → A) → fold op e (suc n) f ≡ op (f 0) (fold op e n (λ k. f (suc k)))
+unfolding fold
+fold-front op e left right assoc zero f = left (f 0) ∙ sym (right (f 0))
+fold-front op e left right assoc (suc n) f =
+    ap (λ x. op x (f (suc n))) (fold-front op e left right assoc n f) ∙ assoc (f 0) (fold op e n (λ k. f (suc k))) (f (suc n))
+
 -- two turns at a time, where joining is associative
 pub fold-by-two {ℓ} : {A : Type ℓ} (op : A → A → A) (e : A) → ((x y z : A) → op (op x y) z ≡ op x (op y z))
     → (n : ℕ) (f : ℕ → A) → fold op e (2 * n) f ≡ fold op e n (λ b. op (f (2 * b)) (f (2 * b + 1)))
@@ -229,6 +237,16 @@ pub nothing-orElse : (o y : Found) → o ≡ Nothing → y ≡ Nothing → orEls
 unfolding orElse
 nothing-orElse o y e f = rw e f
 
+pub orElse-right : (o : Found) → orElse o Nothing ≡ o
+unfolding orElse
+orElse-right (At i) = refl
+orElse-right Nothing = refl
+
+pub orElse-assoc : (o y z : Found) → orElse (orElse o y) z ≡ orElse o (orElse y z)
+unfolding orElse
+orElse-assoc (At i) y z = refl
+orElse-assoc Nothing y z = refl
+
 pub first-cong : (n : ℕ) (f g : ℕ → Found) → ((i : ℕ) → i < n → f i ≡ g i) → first n f ≡ first n g
 first-cong = fold-cong orElse Nothing
 
@@ -264,6 +282,20 @@ first-front (suc n) f h = ap (λ (x : Found). orElse x (f (suc n))) (first-front
 pub turns-suc {ℓ} : {A : Type ℓ} (n : ℕ) (f : ℕ → A → A) (x : A) → turns (n + 1) f x ≡ f n (turns n f x)
 unfolding turns
 turns-suc n f x = rw add-one
+
+pub turns-cong {ℓ} : {A : Type ℓ} (n : ℕ) (f g : ℕ → A → A) (x : A) → ((h : ℕ) (y : A) → h < n → f h y ≡ g h y) → turns n f x ≡ turns n g x
+unfolding turns
+turns-cong zero f g x h = refl
+turns-cong (suc n) f g x h = ap (f n) (turns-cong n f g x (λ i y l. h i y (omega arith))) ∙ h n (turns n g x) (omega arith)
+
+-- two turns at a time
+pub turns-by-two {ℓ} : {A : Type ℓ} (n : ℕ) (f : ℕ → A → A) (x : A) → turns (2 * n) f x ≡ turns n (λ b y. f (2 * b + 1) (f (2 * b) y)) x
+unfolding turns
+turns-by-two zero f x = refl
+turns-by-two (suc n) f x =
+    let twice : 2 * suc n ≡ suc (suc (2 * n)) = omega arith in
+    let next : suc (2 * n) ≡ 2 * n + 1 = omega arith in
+    rw (twice, next, turns-by-two n f x)
 
 -- what holds at first, and which each turn keeps, holds at the end
 pub turns-inv {ℓ ℓ′} : {A : Type ℓ} (P : A → Type ℓ′) (n : ℕ) (f : ℕ → A → A) (x : A) → P x → ((h : ℕ) (y : A) → h < n → P y → P (f h y)) → P (turns n f x)

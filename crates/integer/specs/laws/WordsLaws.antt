@@ -62,6 +62,15 @@ filled-step i f xs l e q = rw (e, q) (sym (filled-suc i f xs l))
 pub filled-whole {ℓ} : {A : Type ℓ} (i n : ℕ) (f : ℕ → A) (xs : List A) {ys : List A} → length xs ≡ n → i ≡ n → ys ≡ filled i f xs → ys ≡ tabulate n f
 filled-whole i n f xs l e q = q ∙ rw (e, ← l) (filled-all f xs)
 
+-- ---- A fill from the back
+
+-- one more word of ys, before those from m + 1 on
+pub filled-back {ℓ} : {A : Type ℓ} (m : ℕ) (xs ys : List A) (d : A) → length xs ≡ length ys → m < length xs → set (take (suc m) xs ++ drop (suc m) ys) m (getD ys m d) ≡ take m xs ++ drop m ys
+filled-back m [] ys d e l = absurd (not-suc-le-zero l)
+filled-back m (x ∷ xs) [] d e l = absurd (omega arith)
+filled-back zero (x ∷ xs) (y ∷ ys) d e l = refl
+filled-back (suc m) (x ∷ xs) (y ∷ ys) d e l = ap (λ t. x ∷ t) (filled-back m xs ys d (omega arith) (le-of-suc-le-suc l))
+
 -- ---- A part that is lent: `&xs[i..i + n]`
 
 pub lent {ℓ} : {A : Type ℓ} (xs : List A) (i n : ℕ) → take (i + n - i) (drop i xs) ≡ part xs i n

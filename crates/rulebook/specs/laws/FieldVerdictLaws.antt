@@ -1,7 +1,7 @@
 -- At each field the judge says what the first of the table's conditions says. Assumes nothing.
 use mathlib.Core.Path.{_≡_, refl, sym, ap, _∙_}
 use mathlib.Core.Bool.{Bool, true, false, cond, not, _&&_, _||_}
-use mathlib.Core.List.{List, [], _∷_, _++_, flatMap}
+use mathlib.Core.List.{List, [], _∷_, flatMap}
 use mathlib.Core.Logic.{⊎-elim}
 use Prim.Native.Nat.{ℕ, _+_, _-_, _≤_}
 use native.Mathlib.Omega.{arith}
@@ -49,7 +49,7 @@ told-require false w p a = refl
 
 -- ---- Tests
 
-ltb-not : (a b : ℕ) → ltb a b ≡ not (leb b a)
+pub ltb-not : (a b : ℕ) → ltb a b ≡ not (leb b a)
 ltb-not a b = ⊎-elim (λ l. rw (lt-ltb a b l, lt-leb b a l)) (λ l. rw (le-ltb a b l, le-leb b a l)) (lt-or-le a b)
 
 ltZ-not : (a b : ℤ) → ltZ a b ≡ not (leZ b a)
@@ -58,7 +58,7 @@ ltZ-not (pos a) (negsuc b) = refl
 ltZ-not (negsuc a) (pos b) = refl
 ltZ-not (negsuc a) (negsuc b) = ltb-not b a
 
-not-and : (a b : Bool) → not (a && b) ≡ not a || not b
+pub not-and : (a b : Bool) → not (a && b) ≡ not a || not b
 not-and true b = refl
 not-and false b = refl
 

@@ -5,7 +5,7 @@ use mathlib.Core.List.{List, [], _∷_, map}
 use mathlib.Core.Option.{none, some}
 use Prim.Native.Nat.{ℕ, zero, suc, _+_, _-_, _*_, _≤_, _<_}
 use native.Mathlib.Omega.{arith}
-use borrow.Author.Tests.{lt-leb, le-leb}
+use borrow.Author.Tests.{lt-leb, le-leb, ltb-false}
 use lib.IntN.{ℤ, pos, negℤ, _+ℤ_}
 use lib.Dec.{T, eqb, eqb-refl, ltb, leb→le, le→leb, nltb→le}
 use lib.ListN.{length, getD}
@@ -51,13 +51,14 @@ use Rattle.rulebook.specs.laws.StateLaws.{never-accepted}
 
 -- ---- A close
 
--- a close that returned 0 was of a well-formed book, with room, and found no datum missing
-record Settled (w st : List ℤ) : Type 0 where
-  formed : T (wellFormed w)
-  room : termsOf w .accounts + 1 ≤ length st
-  settles : closed w st ≡ settled (termsOf w) w (nextDay w) st Nothing
+-- a close that returned 0 was of a well-formed book with a day left, had room, and found no datum missing
+pub record Settled (w st : List ℤ) : Type 0 where
+  pub formed : T (wellFormed w)
+  pub left : nextDay w ≤ lastDay
+  pub room : termsOf w .accounts + 1 ≤ length st
+  pub settles : closed w st ≡ settled (termsOf w) w (nextDay w) st Nothing
 
-accepted-settled : (w st : List ℤ) → ofClose (closed w st .answer) .number ≡ accepted → Settled w st
+pub accepted-settled : (w st : List ℤ) → ofClose (closed w st .answer) .number ≡ accepted → Settled w st
 unfolding closed settled
 accepted-settled w st n = go (wellFormed w) (ltb lastDay (nextDay w)) (ltb (length st) (termsOf w .accounts + 1)) (firstMissing (termsOf w) w (nextDay w)) refl refl refl refl n
   where
@@ -72,6 +73,7 @@ accepted-settled w st n = go (wellFormed w) (ltb lastDay (nextDay w)) (ltb (leng
     go true false false (At n) e f g h y = absurd (omega arith)
     go true false false Nothing e f g h y = record {
       formed = subst T (sym e) tt;
+      left = ltb-false lastDay (nextDay w) f;
       room = nltb→le (length st) (termsOf w .accounts + 1) (rw g tt);
       settles = rw (e, f, g, h) refl;
     }

@@ -1,0 +1,2 @@
+-- figures and examples
+pub mod PackedExamples
