@@ -124,6 +124,24 @@ static void print_balances(const int64_t *book)
     printf(", MSSL %" PRId64 "\n", book[ROBIJAN_WORD_MSSL_BALANCE]);
 }
 
+/* The statement for a ledger that takes packed decimal, a field an amount, and read back from there. */
+static void print_packed(const int64_t *statement)
+{
+    uint8_t fields[ROBIJAN_PACKED_FIELD_BYTES * (ACCOUNTS + 1)];
+    int64_t amounts[ACCOUNTS + 1];
+    if (robijan_pack(statement, ACCOUNTS + 1, fields, sizeof fields) != ROBIJAN_ACCEPTED)
+        exit(1);
+    for (const uint8_t *field = fields; field < fields + sizeof fields; field += ROBIJAN_PACKED_FIELD_BYTES) {
+        printf("  packed");
+        for (int i = 0; i < ROBIJAN_PACKED_FIELD_BYTES; i++)
+            printf(" %02X", field[i]);
+        printf("\n");
+    }
+    robijan_unpack_answer answer = robijan_unpack(fields, sizeof fields, amounts, ACCOUNTS + 1);
+    int same = answer.number == ROBIJAN_ACCEPTED && memcmp(amounts, statement, sizeof amounts) == 0;
+    printf("  read back: %" PRIu64 " amounts, %s\n", answer.count, same ? "the same" : "others");
+}
+
 /* ---- The book's file
  *
  * The calls are made on a copy in memory. It becomes the file's content by a rename, and only when it is whole on the disk: a process that
@@ -197,6 +215,8 @@ int main(int count, char **arguments)
     if (answer.number == ROBIJAN_ACCEPTED)
         keep(path, book, size.words);
     print_close("closed", answer, book, statement);
+    if (answer.number == ROBIJAN_ACCEPTED)
+        print_packed(statement);
     print_balances(book);
     print_date("final statement of the first day", robijan_final_statement(first, no_holidays, 0).day);
     free(copy);

@@ -27,11 +27,11 @@
  * MEMORY. The caller owns all memory. The library allocates none, keeps no pointer after a call returns and has no state of its own, so a
  * book may be copied, stored in a file, mapped and moved between calls. A list is a pointer and then its length in elements:
  *   - the pointer is not NULL and is aligned to its element (8 bytes for int64_t), even where the length is 0;
- *   - so many elements are there; words to be written may hold anything, as malloc gives them;
+ *   - so many elements are there; those to be written may hold anything, as malloc gives them;
  *   - a list that a call writes (one without const) overlaps no other list of that call. Lists that are only read may overlap.
  * These are all the demands there are. Every value of every argument is answered: numbers out of range, books with any content, files of
- * any bytes. No call reads or writes outside its lists, fails to end, or aborts the program; a refused call has changed no lent word, an
- * accepted one only what is said below. A call takes less than 16 KiB of stack.
+ * any bytes. No call reads or writes outside its lists, fails to end, or aborts the program; a refused call has changed no lent word or
+ * byte, an accepted one only what is said below. A call takes less than 16 KiB of stack.
  *
  * A PROCESS THAT DIES. An accepted call changes its words one after another. Where the process dies in the midst of it, the words are neither
  * the book before nor the book after, and no call can tell. So never lend the only copy: copy the book (or keep its file as it is), make the
@@ -50,6 +50,8 @@
  *   P2   robijan_second_share; robijan_terms has a fifth field, `change`: every program that passes it (robijan_open, robijan_book_size) is compiled
  *        again and sets the field. 0, as an initialiser that leaves the field out gives it, opens the book of before. Word 7 of a book, zero until
  *        then, holds it: a book opened before P2 is one whose `change` is 0, and keeps the first edition.
+ *   P3   nothing that a program sees
+ *   P4   robijan_pack, robijan_unpack, number 16
  */
 #ifndef ROBIJAN_H
 #define ROBIJAN_H
@@ -77,7 +79,8 @@ enum {
     ROBIJAN_NO_SUCH_DATE = 12,       /* no such date or month in 2000 to 2099, or day outside 0 to 36,524 */
     ROBIJAN_BAD_HOLIDAYS = 13,       /* holidays are not strictly ascending days */
     ROBIJAN_PAST_LAST_DAY = 14,      /* the day asked for is past 31 December 2099 */
-    ROBIJAN_TOTAL_IMPOSSIBLE = 15    /* no profile could have this total within the limits */
+    ROBIJAN_TOTAL_IMPOSSIBLE = 15,   /* no profile could have this total within the limits */
+    ROBIJAN_PACKED_FIELD_WRONG = 16  /* a digit or the sign in byte `position` of packed fields is wrong, or the last field, from there on, is cut */
 };
 
 typedef struct { uint64_t number, position, day, count; } robijan_answer; /* open, submit, close; day and count 0 but for a close */
@@ -85,6 +88,7 @@ typedef struct { uint64_t number, words; } robijan_size_answer;
 typedef struct { uint64_t number; int64_t price; } robijan_price_answer;
 typedef struct { uint64_t number; int64_t first, second; } robijan_tranche_answer;
 typedef struct { uint64_t number, keeps; } robijan_profile_answer;
+typedef struct { uint64_t number, position, count; } robijan_unpack_answer;
 typedef struct { uint64_t number, year, month, day; } robijan_date_answer;
 typedef struct { uint64_t number, day; } robijan_day_answer;
 typedef struct { uint64_t number, weekday; } robijan_weekday_answer;
@@ -196,6 +200,22 @@ robijan_tranche_answer robijan_tranche(int64_t rvq, int64_t bvq, int64_t mq);
  * daily contracted quantity in kWh for one such period, 0 to 10,000,000; `total` is 0 to 480,000,000. `keeps` is 1 if all of this is so, else
  * 0. Refused: 1, for a list not of 48 too; then 15 where no 48 quantities could keep these limits, whatever those given are. */
 robijan_profile_answer robijan_profile(const int64_t *profile, size_t intervals, int64_t total, int64_t contracted);
+
+/* ---- Statements in packed decimal: no book
+ *
+ * A statement here is 2 to 33 amounts; its fields stand one after another. A field is an amount in 8 bytes: 15 digits, most significant first,
+ * two a byte, and a last half byte for the sign, hex C for zero and above, hex D below zero. 2,400 is 00 00 00 00 00 02 40 0C, -1 is
+ * 00 00 00 00 00 00 00 1D. Only one field stands for each amount, so zero with D is wrong. */
+enum { ROBIJAN_PACKED_FIELD_BYTES = 8 };
+
+/* Writes a statement as `count` fields; bytes beyond are kept. Every statement that robijan_close writes fits. Returns the number. Refused: 1,
+ * for fewer than 2 or more than 33 amounts, and for an amount of more than 15 digits; then 10, for fewer than 8 * count bytes. */
+uint64_t robijan_pack(const int64_t *amounts, size_t count, uint8_t *output, size_t output_bytes);
+
+/* Reads such fields back: `count` is how many amounts were written, words beyond are kept. Refused: 1, for fewer than 2 or more than 33 whole
+ * fields (15 bytes are one); 10, for fewer words than whole fields; then 16, `position` being, field by field, the byte of the first digit or
+ * sign that is wrong, or the last byte of a zero with D, and after all whole fields the first byte of one that is cut. */
+robijan_unpack_answer robijan_unpack(const uint8_t *fields, size_t field_bytes, int64_t *output, size_t output_words);
 
 /* ---- The trading calendar: no book. Holidays are days, strictly ascending. */
 

@@ -209,6 +209,45 @@ static void profiles(void)
     NUMBER(ROBIJAN_OUTSIDE_RANGE, robijan_profile(profile, 48, 2400, 100 + wide).number);
 }
 
+/* Written and read back: every byte, each figure of the answer, each refusal. */
+static void packed(void)
+{
+    static const int64_t amounts[] = {-1, INT64_C(4294967297), 2400}, large[] = {0, INT64_C(1000000000000000)};
+    static const uint8_t wanted[] = {0, 0, 0, 0, 0, 0, 0, 0x1D, 0, 0, 0x04, 0x29, 0x49, 0x67, 0x29, 0x7C, 0, 0, 0, 0, 0, 0x02, 0x40, 0x0C};
+    uint8_t fields[3 * ROBIJAN_PACKED_FIELD_BYTES + 1] = {0};
+    fields[24] = 0xAA;
+    NUMBER(8, ROBIJAN_PACKED_FIELD_BYTES);
+    NUMBER(ROBIJAN_ACCEPTED, robijan_pack(amounts, 3, fields, sizeof fields));
+    for (int i = 0; i < 24; i++)
+        same("packed byte", wanted[i], fields[i]);
+    same("byte beyond", 0xAA, fields[24]);
+    NUMBER(ROBIJAN_OUTSIDE_RANGE, robijan_pack(amounts, 1, fields, 24));
+    NUMBER(ROBIJAN_OUTSIDE_RANGE, robijan_pack(large, 2, fields, 16));
+    NUMBER(ROBIJAN_OUTPUT_TOO_SHORT, robijan_pack(amounts, 3, fields, 23));
+
+    output[0] = output[1] = output[2] = 7;
+    robijan_unpack_answer read = robijan_unpack(fields, 16, output, 3);
+    NUMBER(ROBIJAN_ACCEPTED, read.number);
+    same("position of fields read", 0, (int64_t)read.position);
+    same("amounts read", 2, (int64_t)read.count);
+    same("first amount read", -1, output[0]);
+    same("second amount read", amounts[1], output[1]);
+    same("word beyond", 7, output[2]);
+    same("all amounts read", 3, (int64_t)robijan_unpack(fields, 24, output, 3).count);
+    same("last amount read", 2400, output[2]);
+    NUMBER(ROBIJAN_OUTSIDE_RANGE, robijan_unpack(fields, 15, output, 3).number);
+    NUMBER(ROBIJAN_OUTPUT_TOO_SHORT, robijan_unpack(fields, 24, output, 2).number);
+    read = robijan_unpack(fields, 23, output, 3);
+    NUMBER(ROBIJAN_PACKED_FIELD_WRONG, read.number);
+    NUMBER(16, ROBIJAN_PACKED_FIELD_WRONG);
+    same("position of a cut field", 16, (int64_t)read.position);
+    same("amounts of a cut field", 0, (int64_t)read.count);
+    fields[11] = 0x2A;
+    same("position of a wrong digit", 11, (int64_t)robijan_unpack(fields, 23, output, 3).position);
+    fields[7] = 0x0D;
+    same("position of a zero with D", 7, (int64_t)robijan_unpack(fields, 23, output, 3).position);
+}
+
 static void calendar(void)
 {
     static const int64_t none[1], friday[] = {9575}, bad[] = {5, 5}; /* 20 March 2026 */
@@ -240,6 +279,7 @@ int main(void)
     places();
     rules();
     profiles();
+    packed();
     calendar();
     return wrong;
 }

@@ -82,7 +82,8 @@ static void write_file(uint32_t day, int residuals)
 static uint64_t number;
 static const int64_t list[ACCOUNTS] = {1, 2, 3, 4};
 static const int64_t profile[48];
-static int64_t output[ACCOUNTS];
+static int64_t output[ACCOUNTS + 1];
+static uint8_t fields[ROBIJAN_PACKED_FIELD_BYTES * (ACCOUNTS + 1)];
 
 static void nothing(void) { number = ROBIJAN_ACCEPTED; }
 static const robijan_terms terms = {.accounts = ACCOUNTS, .lag = 1, .horizon = 1, .first = FIRST, .change = FIRST};
@@ -96,6 +97,8 @@ static void share(void) { number = robijan_share(5, list, ACCOUNTS, output, ACCO
 static void second_share(void) { number = robijan_second_share(5, list, ACCOUNTS, output, ACCOUNTS); }
 static void tranche(void) { number = robijan_tranche(3, 2, 1).number; }
 static void check_profile(void) { number = robijan_profile(profile, 48, 0, 0).number; }
+static void pack(void) { number = robijan_pack(statement, ACCOUNTS + 1, fields, sizeof fields); }
+static void unpack(void) { number = robijan_unpack(fields, sizeof fields, output, ACCOUNTS + 1).number; }
 static void date(void) { number = robijan_date(36524).number; }
 static void day(void) { number = robijan_day(2099, 12, 31).number; }
 static void weekday(void) { number = robijan_weekday(36524).number; }
@@ -133,6 +136,8 @@ int main(void)
     measure("second share", second_share);
     measure("tranche", tranche);
     measure("profile", check_profile);
+    measure("pack", pack);
+    measure("unpack", unpack);
     measure("date", date);
     measure("day", day);
     measure("weekday", weekday);

@@ -56,6 +56,10 @@ fn no_book(rng: &mut Rng) {
         .collect();
     rows.extend(measures::days(rng, 500));
     rows.extend(measures::profiles(rng));
+    for amounts in [33, 3] {
+        rows.extend(measures::packed(rng, amounts));
+    }
+    rows.push(measures::any_packed(rng));
     println!("\n## No book: 1,000 calls\n");
     tables::plain(&rows);
 }

@@ -3,11 +3,14 @@
 use crate::large::{self, Rows, Sections, Terms};
 use crate::timing::{interleaved, timed, Times};
 use crate::{plain, robijan};
+use ::robijan::PACKED_FIELD_BYTES;
 use reference::book::{open, well_formed};
 use reference::calendar;
 use reference::close::close;
+use reference::generate::packed::{statement, unpack_case, PackCase, UnpackCase};
 use reference::generate::profiles::{keeping_profile, profile_case, ProfileCase};
 use reference::generate::Rng;
+use reference::packed::{pack, unpack};
 use reference::profile::profile;
 use reference::share::{second_share, share};
 use reference::submission::submit;
@@ -253,34 +256,112 @@ pub fn profiles(rng: &mut Rng) -> [Measured; 2] {
 }
 
 fn checking(name: &str, cases: &[ProfileCase]) -> Measured {
+    answering(
+        name,
+        cases,
+        |case| {
+            let told = robijan::profile(&case.quantities, case.total, case.contracted);
+            told.number + told.keeps
+        },
+        |case| {
+            let answer = profile(&case.quantities, case.total, case.contracted);
+            u64::from(answer.number) + u64::from(answer.keeps)
+        },
+    )
+}
+
+/// A call of each case; the figures that the calls answer, added up, are alike.
+fn answering<C>(
+    name: &str,
+    cases: &[C],
+    mut call: impl FnMut(&C) -> u64,
+    mut reference: impl FnMut(&C) -> u64,
+) -> Measured {
     let (mut ours, mut theirs) = (0, 0);
     let times = interleaved(
         501,
         &mut [
-            &mut || {
-                ours = 0;
-                timed(|| {
-                    for case in cases {
-                        let list = black_box(&case.quantities[..]);
-                        let told = robijan::profile(list, case.total, case.contracted);
-                        ours += told.number + told.keeps;
-                    }
-                })
-            },
-            &mut || {
-                theirs = 0;
-                timed(|| {
-                    for case in cases {
-                        let list = black_box(&case.quantities[..]);
-                        let answer = profile(list, case.total, case.contracted);
-                        theirs += u64::from(answer.number) + u64::from(answer.keeps);
-                    }
-                })
-            },
+            &mut || timed(|| ours = cases.iter().map(|case| call(black_box(case))).sum()),
+            &mut || timed(|| theirs = cases.iter().map(|case| reference(black_box(case))).sum()),
         ],
     );
     assert_eq!(ours, theirs);
     Measured::of(name, times, &["reference"], 0)
+}
+
+/// Statements of so many amounts written in packed decimal, and read back.
+pub fn packed(rng: &mut Rng, amounts: usize) -> [Measured; 2] {
+    let statements: Vec<PackCase> = (0..BATCH)
+        .map(|_| PackCase {
+            amounts: statement(rng, amounts),
+            output: vec![0; PACKED_FIELD_BYTES * amounts],
+        })
+        .collect();
+    let fields: Vec<UnpackCase> = statements
+        .iter()
+        .map(|case| {
+            let mut fields = case.output.clone();
+            assert_eq!(pack(&case.amounts, &mut fields), 0);
+            UnpackCase {
+                fields,
+                output: vec![0; amounts],
+            }
+        })
+        .collect();
+    [
+        packing(&format!("pack {amounts} amounts"), &statements),
+        unpacking(&format!("unpack {amounts} fields"), &fields),
+    ]
+}
+
+/// Fields of every answer.
+pub fn any_packed(rng: &mut Rng) -> Measured {
+    let any: Vec<UnpackCase> = (0..BATCH).map(|_| unpack_case(rng)).collect();
+    unpacking("unpack, every answer", &any)
+}
+
+fn packing(name: &str, cases: &[PackCase]) -> Measured {
+    let [mut ours, mut theirs] = outputs(cases.iter().map(|case| case.output.len()));
+    let measured = answering(
+        name,
+        cases,
+        |case| {
+            let output = &mut ours[..case.output.len()];
+            robijan::pack(&case.amounts, black_box(output))
+        },
+        |case| {
+            let output = &mut theirs[..case.output.len()];
+            pack(&case.amounts, black_box(output)).into()
+        },
+    );
+    assert!(ours == theirs);
+    measured
+}
+
+fn unpacking(name: &str, cases: &[UnpackCase]) -> Measured {
+    let [mut ours, mut theirs] = outputs(cases.iter().map(|case| case.output.len()));
+    let measured = answering(
+        name,
+        cases,
+        |case| {
+            let output = &mut ours[..case.output.len()];
+            let told = robijan::unpack(&case.fields, black_box(output));
+            told.number + told.position + told.count
+        },
+        |case| {
+            let output = &mut theirs[..case.output.len()];
+            let answer = unpack(&case.fields, black_box(output));
+            u64::from(answer.number) + (answer.position + answer.count) as u64
+        },
+    );
+    assert!(ours == theirs);
+    measured
+}
+
+/// Two lists to be written, each as long as the longest of these lengths.
+fn outputs<T: Clone + Default>(lengths: impl Iterator<Item = usize>) -> [Vec<T>; 2] {
+    let longest = vec![T::default(); lengths.max().unwrap_or(0)];
+    [longest.clone(), longest]
 }
 
 /// Final statement days, with a list of so many holidays, and dates.

@@ -16,6 +16,8 @@ pub const BOOK_WORDS: usize = 802_000;
 pub const LIST_WORDS: usize = 40;
 /// The most words of a profile.
 pub const PROFILE_WORDS: usize = 64;
+/// The most bytes of packed fields, written or read.
+pub const PACKED_BYTES: usize = 512;
 pub const MOST_HOLIDAYS: usize = 1_200;
 pub const LONGEST_FILE: usize = 131_072;
 
@@ -63,6 +65,17 @@ pub enum Frame {
         contracted: i64,
         quantities: Vec<i64>,
     },
+    /// The output's bytes are those before the call.
+    Pack {
+        amounts: Vec<i64>,
+        output: Vec<u8>,
+    },
+    /// The output's words are all `fill` before the call.
+    Unpack {
+        fields: Vec<u8>,
+        fill: i64,
+        output: usize,
+    },
     DayToDate(i64),
     DateToDay([i64; 3]),
     Weekday(i64),
@@ -80,6 +93,11 @@ impl Frame {
             Frame::Share { edition, .. } => *edition == Edition::Second,
             _ => false,
         }
+    }
+
+    /// Whether it writes or reads packed decimal.
+    pub fn is_packed(&self) -> bool {
+        matches!(self, Frame::Pack { .. } | Frame::Unpack { .. })
     }
 
     pub fn write(&self, input: &mut Vec<u8>) {
@@ -106,8 +124,7 @@ impl Frame {
             Frame::Submit { lent, file } => {
                 input.push(b'S');
                 write_count(input, *lent);
-                write_count(input, file.len());
-                input.extend(file);
+                write_file(input, file);
             }
             Frame::Close {
                 lent,
@@ -151,6 +168,21 @@ impl Frame {
                 input.push(b'Q');
                 write_words(input, &[*total, *contracted]);
                 write_list(input, quantities);
+            }
+            Frame::Pack { amounts, output } => {
+                input.push(b'K');
+                write_list(input, amounts);
+                write_file(input, output);
+            }
+            Frame::Unpack {
+                fields,
+                fill,
+                output,
+            } => {
+                input.push(b'U');
+                write_file(input, fields);
+                write_words(input, &[*fill]);
+                write_count(input, *output);
             }
             Frame::DayToDate(day) => {
                 input.push(b'd');
@@ -198,4 +230,9 @@ fn write_words(input: &mut Vec<u8>, words: &[i64]) {
 fn write_list(input: &mut Vec<u8>, list: &[i64]) {
     write_count(input, list.len());
     write_words(input, list);
+}
+
+fn write_file(input: &mut Vec<u8>, file: &[u8]) {
+    write_count(input, file.len());
+    input.extend(file);
 }

@@ -10,9 +10,9 @@
 //! `history` tells a list of calls from their arguments and answers alone,
 //! `generate` makes cases from a fixed seed, `checker` runs one against the
 //! other, and `variant` holds the wrong books, editions, shares, reports,
-//! calendars, profile checks and programs which the cases have to show. `frames`
-//! and `player` are the form of the test program `replay`'s input and output,
-//! `stored` has all the cases that are kept as files.
+//! calendars, profile checks, packed fields and programs which the cases have to
+//! show. `frames` and `player` are the form of the test program `replay`'s input
+//! and output, `stored` has all the cases that are kept as files.
 
 pub mod book;
 pub mod calendar;
@@ -25,6 +25,7 @@ pub mod generate;
 pub mod history;
 pub mod layout;
 pub mod numbers;
+pub mod packed;
 pub mod player;
 pub mod profile;
 pub mod reference_price;
@@ -37,6 +38,7 @@ pub mod tranche;
 pub mod units;
 pub mod variant;
 mod wrong_edition;
+pub mod wrong_packed;
 pub mod wrong_profile;
 pub mod wrong_report;
 pub mod wrong_share;

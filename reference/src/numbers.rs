@@ -22,6 +22,8 @@ pub const BAD_HOLIDAYS: u8 = 13;
 pub const PAST_LAST_DAY: u8 = 14;
 /// No profile that keeps the limits adds to the day's total.
 pub const IMPOSSIBLE_TOTAL: u8 = 15;
+/// A packed field with a wrong digit or sign, of a negative zero, or cut short.
+pub const BAD_FIELD: u8 = 16;
 
 /// The answer of an opening, a submission or a close.
 #[derive(Clone, Copy, Debug, PartialEq, Eq)]

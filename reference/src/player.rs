@@ -12,6 +12,7 @@ use crate::calendar::{
 use crate::close::close_in;
 use crate::edition::Edition;
 use crate::frames::{Frame, BOOK_WORDS};
+use crate::packed::{pack_in, unpack_in};
 use crate::profile::profile_in;
 use crate::reference_price::reference_price_in;
 use crate::share::{second_share_in, share_in};
@@ -121,9 +122,36 @@ impl Player {
                     .figures([answer.number, u8::from(answer.keeps)])
                     .digest(quantities)
             }
+            packed if packed.is_packed() => packed_line(context, packed),
             calendar => calendar_line(context, calendar),
         };
         Some(line.0)
+    }
+}
+
+fn packed_line(context: Context, frame: &Frame) -> Line {
+    match frame {
+        Frame::Pack { amounts, output } => {
+            let mut output = output.clone();
+            let number = pack_in(context, amounts, &mut output);
+            Line::of("pack")
+                .figures([number])
+                .digest(amounts)
+                .figures([file_digest(&output)])
+        }
+        Frame::Unpack {
+            fields,
+            fill,
+            output,
+        } => {
+            let mut output = vec![*fill; *output];
+            let answer = unpack_in(context, fields, &mut output);
+            Line::of("unpack")
+                .figures([answer.number as usize, answer.position, answer.count])
+                .figures([file_digest(fields)])
+                .figures(output)
+        }
+        _ => Line::of(""),
     }
 }
 

@@ -7,8 +7,9 @@ use crate::generate::settle_inputs::settle_inputs;
 use crate::player::Player;
 use crate::settle::settle_in;
 use crate::variant::{
-    Context, Variant, WRONG_CALENDARS, WRONG_CHANGE_DAYS, WRONG_EDITIONS, WRONG_PROFILES,
-    WRONG_SETTLES, WRONG_SHARES, WRONG_SHARE_CALLS, WRONG_WITHOUT_CHANGE_DAY, WRONG_WORDS,
+    Context, Variant, WRONG_CALENDARS, WRONG_CHANGE_DAYS, WRONG_EDITIONS, WRONG_PACKED,
+    WRONG_PROFILES, WRONG_SETTLES, WRONG_SHARES, WRONG_SHARE_CALLS, WRONG_WITHOUT_CHANGE_DAY,
+    WRONG_WORDS,
 };
 
 /// A file, by its path in the folder.
@@ -94,11 +95,9 @@ impl Cases {
         files
     }
 
-    /// What the test program `replay` prints. Only profiles are played by a
-    /// wrong profile check, and only the editions' frames by what is wrong in them
-    /// alone, as no other line changes.
+    /// What the test program `replay` prints. Only the editions' frames are played
+    /// by what is wrong in them alone, as no other line changes.
     fn replay(&self, context: Context) -> Vec<u8> {
-        let profiles_alone = WRONG_PROFILES.contains(&context.variant);
         let (first, mut player) = if is_of_editions_alone(context.variant) {
             let player = Player::with_book(context, self.book.clone());
             (self.editions, player)
@@ -106,11 +105,12 @@ impl Cases {
             (0, Player::new(context))
         };
         let lines = self.frames.iter().zip(&self.lines).enumerate();
-        let lines = lines.filter_map(|(at, (frame, right))| match frame {
-            _ if at < first => right.clone(),
-            Frame::Profile { .. } => player.play(frame),
-            _ if profiles_alone => right.clone(),
-            _ => player.play(frame),
+        let lines = lines.filter_map(|(at, (frame, right))| {
+            if at >= first && is_played(context.variant, frame) {
+                player.play(frame)
+            } else {
+                right.clone()
+            }
         });
         let mut output = Vec::new();
         for line in lines {
@@ -144,7 +144,7 @@ impl Cases {
 
 /// Whether `settle`, which opens with X = 0, has no use for what is wrong.
 pub fn is_shown_by_replay_alone(variant: Variant) -> bool {
-    let unused: [&[Variant]; 7] = [
+    let unused: [&[Variant]; 8] = [
         &WRONG_EDITIONS,
         &WRONG_CHANGE_DAYS,
         &WRONG_WORDS,
@@ -152,9 +152,22 @@ pub fn is_shown_by_replay_alone(variant: Variant) -> bool {
         &WRONG_SHARE_CALLS,
         &WRONG_CALENDARS,
         &WRONG_PROFILES,
+        &WRONG_PACKED,
     ];
     unused.iter().any(|wrong| wrong.contains(&variant))
         && !WRONG_WITHOUT_CHANGE_DAY.contains(&variant)
+}
+
+/// Whether a variant can change the line of such a frame. A wrong profile check
+/// changes those of profiles alone, wrong packed decimal its own.
+fn is_played(variant: Variant, frame: &Frame) -> bool {
+    if WRONG_PROFILES.contains(&variant) {
+        matches!(frame, Frame::Profile { .. })
+    } else if WRONG_PACKED.contains(&variant) {
+        frame.is_packed()
+    } else {
+        true
+    }
 }
 
 /// Whether frames of X = 0 and of the first edition have no use for what is wrong.

@@ -20,6 +20,12 @@ pub const DAY_TOTAL: RangeInclusive<i64> = 0..=480_000_000;
 /// profile call.
 pub const CONTRACTED: RangeInclusive<i64> = 0..=10_000_000;
 
+/// The cents of a packed field, which has 15 digits.
+pub const PACKED_AMOUNT: RangeInclusive<i64> = -999_999_999_999_999..=999_999_999_999_999;
+/// The amounts of a statement: one an account, and the MSSL's.
+pub const STATEMENT_AMOUNTS: RangeInclusive<usize> = 2..=MOST_AMOUNTS;
+pub const MOST_AMOUNTS: usize = MOST_ACCOUNTS + 1;
+
 /// 31 December 2099, in days since 1 January 2000.
 pub const LAST_DAY: i64 = 36_524;
 pub const DAY: RangeInclusive<i64> = 0..=LAST_DAY;

@@ -1,6 +1,6 @@
 //! Wrong ways to keep the book and its editions, to share, to report the hedges,
-//! to reckon the calendar, to check a profile and to run `settle`. The stored cases
-//! must show each of them.
+//! to reckon the calendar, to check a profile, to write and read packed decimal and
+//! to run `settle`. The stored cases must show each of them.
 
 #[derive(Clone, Copy, Debug, Default, PartialEq, Eq)]
 pub enum Variant {
@@ -286,6 +286,118 @@ pub enum Variant {
     TotalUpTo300Million,
     ContractedUnjudged,
     RefusesContractedOfZero,
+
+    // Packed decimal: the form of a field, written and read.
+    /// Digits least significant first.
+    DigitsFromLeast,
+    /// The sign is the first half byte.
+    SignInFirstHalf,
+    /// A field's bytes in reverse order.
+    BytesReversed,
+    /// Hex D for zero and above, hex C below zero.
+    ExchangesSigns,
+    DigitsOfBase16,
+
+    // Packed decimal: both calls.
+    TakesNoAmounts,
+    TakesOneAmount,
+    RefusesTwoAmounts,
+    Refuses33Amounts,
+    Takes34Amounts,
+    /// Gives 10 before any 1.
+    TooShortBeforeNumber,
+    /// Gives 10 where the output is longer than what is written.
+    NeedsExactRoom,
+    /// Writes what has room, then gives 10.
+    FillsRoomBeforeTooShort,
+    /// Clears the output beyond what is written.
+    ClearsBeyondStatement,
+
+    // Packed decimal: writing.
+    /// Takes −1,000,000,000,000,000, which has 16 digits.
+    TakesMinusTenTo15,
+    /// Drops the first of 16 digits.
+    Takes16Digits,
+    /// The magnitude of the least word is negative.
+    WrapsLeastAmount,
+    /// Refuses 999,999,999,999,999 either way.
+    Refuses15Nines,
+    FirstAmountAloneJudged,
+    LastAmountUnjudged,
+    /// Gives 10 before the 1 of an amount.
+    TooShortBeforeAmounts,
+    /// Writes the amounts before the one that it refuses.
+    WritesUpToBadAmount,
+    WritesZeroWithD,
+    WritesPlusAsF,
+    WritesNegativeAsPositive,
+
+    // Packed decimal: numbers 1 and 10 of reading.
+    /// Counts a cut field as a whole one.
+    RoundsFieldsUp,
+    /// Gives 10 where a cut field has no word.
+    RoomForCutField,
+    /// Gives 10 after any 16.
+    TooShortAfterFields,
+    /// Gives 10 after the 16 of whole fields, before that of a cut one.
+    TooShortBeforeCutAlone,
+
+    // Packed decimal: a field that is read.
+    TakesNegativeZero,
+    /// Takes hex F for zero and above.
+    TakesSignF,
+    /// Takes hex A and E for zero and above.
+    TakesSignsAAndE,
+    /// Takes hex B for below zero.
+    TakesSignB,
+    /// Every half byte but hex D is for zero and above.
+    SignsUnjudged,
+    UpperHalvesUnjudged,
+    /// Leaves digits in lower half bytes unjudged.
+    LowerHalvesUnjudged,
+    LastDigitUnjudged,
+    ReadsNegativeAsPositive,
+
+    // Packed decimal: which wrong half byte is named, and where.
+    /// Judges a field's sign before its digits.
+    SignBeforeDigits,
+    /// Names a field's last wrong half byte.
+    LastWrongOfField,
+    /// Names the last wrong field.
+    LastWrongField,
+    /// Judges the digits of all fields before their signs.
+    DigitsOfAllFieldsFirst,
+    /// Judges negative zeros after all digits and signs.
+    NegativeZerosAfterAllFields,
+    WrongDigitAtFieldStart,
+    WrongSignAtFieldStart,
+    NegativeZeroAtFieldStart,
+    /// Names the last byte of digits alone.
+    NegativeZeroAtByteBefore,
+    PositionsInHalfBytes,
+    PositionsInFields,
+    /// Counts positions from the field's first byte.
+    PositionsWithinField,
+
+    // Packed decimal: a cut last field.
+    /// Names a cut field before a wrong one.
+    CutBeforeFields,
+    /// Takes the whole fields before it.
+    IgnoresCutField,
+    /// Judges the digits that are there.
+    JudgesCutField,
+    CutAtLastByte,
+    /// Names the first byte that is not there.
+    CutAtFileEnd,
+    CutGives1,
+
+    // Packed decimal: what is read.
+    /// Writes the amounts before a wrong field.
+    ReadsUpToWrongField,
+    /// Counts 0 amounts where it accepts.
+    CountsNothing,
+    /// Counts the amounts before a wrong field.
+    CountsBeforeWrongField,
 
     // `settle`: its opening.
     ExchangesLagAndHorizon,
@@ -595,6 +707,70 @@ pub const WRONG_PROFILES: [Variant; 46] = [
     Variant::RefusesContractedOfZero,
 ];
 
+/// The wrong ways to write and read packed decimal, of which the book and `settle`
+/// know nothing.
+pub const WRONG_PACKED: [Variant; 59] = [
+    Variant::DigitsFromLeast,
+    Variant::SignInFirstHalf,
+    Variant::BytesReversed,
+    Variant::ExchangesSigns,
+    Variant::DigitsOfBase16,
+    Variant::TakesNoAmounts,
+    Variant::TakesOneAmount,
+    Variant::RefusesTwoAmounts,
+    Variant::Refuses33Amounts,
+    Variant::Takes34Amounts,
+    Variant::TooShortBeforeNumber,
+    Variant::NeedsExactRoom,
+    Variant::FillsRoomBeforeTooShort,
+    Variant::ClearsBeyondStatement,
+    Variant::TakesMinusTenTo15,
+    Variant::Takes16Digits,
+    Variant::WrapsLeastAmount,
+    Variant::Refuses15Nines,
+    Variant::FirstAmountAloneJudged,
+    Variant::LastAmountUnjudged,
+    Variant::TooShortBeforeAmounts,
+    Variant::WritesUpToBadAmount,
+    Variant::WritesZeroWithD,
+    Variant::WritesPlusAsF,
+    Variant::WritesNegativeAsPositive,
+    Variant::RoundsFieldsUp,
+    Variant::RoomForCutField,
+    Variant::TooShortAfterFields,
+    Variant::TooShortBeforeCutAlone,
+    Variant::TakesNegativeZero,
+    Variant::TakesSignF,
+    Variant::TakesSignsAAndE,
+    Variant::TakesSignB,
+    Variant::SignsUnjudged,
+    Variant::UpperHalvesUnjudged,
+    Variant::LowerHalvesUnjudged,
+    Variant::LastDigitUnjudged,
+    Variant::ReadsNegativeAsPositive,
+    Variant::SignBeforeDigits,
+    Variant::LastWrongOfField,
+    Variant::LastWrongField,
+    Variant::DigitsOfAllFieldsFirst,
+    Variant::NegativeZerosAfterAllFields,
+    Variant::WrongDigitAtFieldStart,
+    Variant::WrongSignAtFieldStart,
+    Variant::NegativeZeroAtFieldStart,
+    Variant::NegativeZeroAtByteBefore,
+    Variant::PositionsInHalfBytes,
+    Variant::PositionsInFields,
+    Variant::PositionsWithinField,
+    Variant::CutBeforeFields,
+    Variant::IgnoresCutField,
+    Variant::JudgesCutField,
+    Variant::CutAtLastByte,
+    Variant::CutAtFileEnd,
+    Variant::CutGives1,
+    Variant::ReadsUpToWrongField,
+    Variant::CountsNothing,
+    Variant::CountsBeforeWrongField,
+];
+
 /// The wrong programs `settle`, which keep the right book.
 pub const WRONG_SETTLES: [Variant; 65] = [
     Variant::ExchangesLagAndHorizon,
@@ -676,6 +852,7 @@ pub fn wrong() -> impl Iterator<Item = Variant> {
         .chain(WRONG_REPORTS)
         .chain(WRONG_CALENDARS)
         .chain(WRONG_PROFILES)
+        .chain(WRONG_PACKED)
         .chain(WRONG_SETTLES)
 }
 

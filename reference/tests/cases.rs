@@ -2,7 +2,7 @@
 
 use reference::edition::Edition;
 use reference::frames::{
-    Frame, BOOK_WORDS, LIST_WORDS, LONGEST_FILE, MOST_HOLIDAYS, PROFILE_WORDS,
+    Frame, BOOK_WORDS, LIST_WORDS, LONGEST_FILE, MOST_HOLIDAYS, PACKED_BYTES, PROFILE_WORDS,
 };
 use reference::generate::cases::cases;
 use reference::player::Player;
@@ -30,7 +30,7 @@ fn every_call_gives_every_number_it_can() {
             .or_default()
             .insert(position);
     }
-    let expected: [(&str, &[u8]); 15] = [
+    let expected: [(&str, &[u8]); 17] = [
         ("open", &[0, 1, 2]),
         ("submit", &[0, 3, 4, 5, 6, 7, 8]),
         ("close", &[0, 3, 9, 10, 11]),
@@ -39,6 +39,8 @@ fn every_call_gives_every_number_it_can() {
         ("second-share", &[0, 1, 10]),
         ("tranche", &[0, 1]),
         ("profile", &[0, 1, 15]),
+        ("pack", &[0, 1, 10]),
+        ("unpack", &[0, 1, 10, 16]),
         ("date", &[0, 12]),
         ("day", &[0, 12]),
         ("weekday", &[0, 12]),
@@ -61,6 +63,7 @@ fn every_call_gives_every_number_it_can() {
         ("close", 11, 100),
         // Yes and no.
         ("profile", 0, 2),
+        ("unpack", 16, 100),
     ] {
         let found = positions[&(name.to_owned(), number)].len();
         assert!(found >= least, "{name} {number}: {found} positions");
@@ -86,6 +89,12 @@ fn frames_fit_the_program() {
                 assert!(uegqs.len() <= LIST_WORDS && output <= LIST_WORDS);
             }
             Frame::Profile { quantities, .. } => assert!(quantities.len() <= PROFILE_WORDS),
+            Frame::Pack { amounts, output } => {
+                assert!(amounts.len() <= LIST_WORDS && output.len() <= PACKED_BYTES);
+            }
+            Frame::Unpack { fields, output, .. } => {
+                assert!(fields.len() <= PACKED_BYTES && output <= LIST_WORDS);
+            }
             Frame::BusinessDay(_, holidays)
             | Frame::FinalStatement(_, holidays)
             | Frame::ResidualDue(_, holidays) => assert!(holidays.len() <= MOST_HOLIDAYS),
@@ -131,11 +140,17 @@ fn later_cases_come_last() {
     // The editions, then the reports.
     let ends_editions = |end: &usize| lines(&after[..*end]) == 999;
     let end = (0..after.len()).find(ends_editions).unwrap();
-    let (editions, reports) = after.split_at(end);
+    let (editions, after) = after.split_at(end);
     assert!(bytes(editions) < 1_000_000);
+    let first = after.iter().position(Frame::is_packed).unwrap();
+    let (reports, packed) = after.split_at(first);
     assert!(matches!(reports[0], Frame::Open { .. }));
     assert_eq!(lines(reports), 80);
     assert!(bytes(reports) < 400_000);
+    // Packed decimal.
+    assert!(packed.iter().all(Frame::is_packed));
+    assert!((1_500..=2_500).contains(&packed.len()), "{}", packed.len());
+    assert!(bytes(packed) < 600_000);
 }
 
 /// The bytes of frames in the program's input.
@@ -254,4 +269,24 @@ fn each_pair_alone_is_beside_each_limit() {
         }
     }
     assert_eq!(seen.len(), 48, "{seen:?}");
+}
+
+/// Each half byte of three fields alone has each wrong value.
+#[test]
+fn each_half_byte_alone_is_wrong() {
+    let mut seen = BTreeSet::new();
+    for frame in cases() {
+        let Frame::Unpack { fields, .. } = frame else {
+            continue;
+        };
+        let halves = fields.iter().flat_map(|byte| [byte >> 4, byte & 15]);
+        let mut wrong = halves.enumerate().filter(|(half, value)| match half % 16 {
+            15 => ![0xC, 0xD].contains(value),
+            _ => *value > 9,
+        });
+        if let (24, Some(only), None) = (fields.len(), wrong.next(), wrong.next()) {
+            seen.insert(only);
+        }
+    }
+    assert_eq!(seen.len(), 3 * (15 * 6 + 14));
 }

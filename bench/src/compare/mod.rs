@@ -6,6 +6,7 @@ pub mod calendar;
 pub mod closing;
 pub mod judging;
 pub mod lists;
+pub mod packed;
 pub mod rules;
 pub mod submitting;
 pub mod tally;
@@ -19,7 +20,7 @@ use tally::Tally;
 /// Runs so many cases of one call; on a difference, the case in words.
 pub type Cases = fn(&mut Rng, usize, &mut Tally) -> Result<(), String>;
 
-pub const CALLS: [(&str, Cases); 10] = [
+pub const CALLS: [(&str, Cases); 12] = [
     ("judge", judging::judge),
     ("submit", submitting::submit),
     ("close", closing::close),
@@ -29,6 +30,8 @@ pub const CALLS: [(&str, Cases); 10] = [
     ("share", rules::share),
     ("tranche", rules::tranche),
     ("profile", rules::profile),
+    ("pack", packed::pack),
+    ("unpack", packed::unpack),
     ("calendar", calendar::calendar),
 ];
 
@@ -58,7 +61,7 @@ fn told_by(answer: numbers::Answer) -> Answer {
     }
 }
 
-/// The answers, and the words after, of both implementations.
+/// The answers, and the words or bytes after, of both implementations.
 fn same<T: PartialEq + std::fmt::Debug>(
     ours: T,
     theirs: T,
@@ -73,14 +76,18 @@ fn same<T: PartialEq + std::fmt::Debug>(
     ))
 }
 
-fn same_words(ours: &[i64], theirs: &[i64], case: impl Fn() -> String) -> Result<(), String> {
+fn same_words<T: PartialEq + std::fmt::Debug>(
+    ours: &[T],
+    theirs: &[T],
+    case: impl Fn() -> String,
+) -> Result<(), String> {
     if ours == theirs {
         return Ok(());
     }
     let at = ours.iter().zip(theirs).position(|(a, b)| a != b);
     let at = at.unwrap_or(ours.len().min(theirs.len()));
     Err(format!(
-        "{}\nfirst different word {at}\nRobijan:   {:?}\nreference: {:?}",
+        "{}\nfirst different at {at}\nRobijan:   {:?}\nreference: {:?}",
         case(),
         ours.get(at),
         theirs.get(at)

@@ -4,7 +4,7 @@
 //! words that the caller lends, takes submission files with the data of each account and day, and is closed day by day; a close posts whole
 //! cents that total zero. `include/robijan.h` of the repository has the units, the format of a file and the words of a book that may be read.
 //!
-//! Every input is answered: a call either does what it says or returns a [`Refusal`] and leaves every lent word as it was. No call allocates,
+//! Every input is answered: a call either does what it says or returns a [`Refusal`] and leaves all that is lent as it was. No call allocates,
 //! panics or keeps anything, and each may be made from any thread. Where the process dies within an accepted call, the words lent are neither
 //! the book before nor the book after: so never lend the only copy (copy, call, sync, rename; the example of the repository does so).
 //!
@@ -45,7 +45,7 @@ impl fmt::Display for Refusal {
     fn fmt(&self, f: &mut fmt::Formatter) -> fmt::Result {
         write!(f, "{}: {}", self.number, numbers::text(self.number))?;
         match self.number {
-            4..=8 => write!(f, ", at byte {}", self.position),
+            4..=8 | numbers::PACKED_FIELD_WRONG => write!(f, ", at byte {}", self.position),
             numbers::DATUM_ABSENT => write!(f, ", at word {}", self.position),
             _ => Ok(()),
         }
@@ -380,6 +380,46 @@ pub fn tranches(rvq: i64, bvq: i64, mq: i64) -> Result<Tranches, Refusal> {
 pub fn keeps_limits(profile: &[i64], total: i64, contracted: i64) -> Result<bool, Refusal> {
     let answer = raw::profile(profile, total, contracted);
     told(answer.number, 0, answer.keeps == 1)
+}
+
+/// The bytes of an amount in packed decimal: 15 digits, most significant first, two a byte, and a last half byte for the sign, hex C for zero and
+/// above, hex D below zero.
+pub const PACKED_FIELD_BYTES: usize = 8;
+
+/// Writes a statement of 2 to 33 amounts as packed decimal, a field of [`PACKED_FIELD_BYTES`] an amount; bytes beyond are kept. Every statement
+/// that [`close`] writes fits; an amount of more than 15 digits is [`numbers::OUTSIDE_RANGE`].
+///
+/// ```
+/// use robijan::PACKED_FIELD_BYTES;
+///
+/// let mut fields = [0xFF; 2 * PACKED_FIELD_BYTES + 1];
+/// robijan::pack(&[2_400, -1], &mut fields)?;
+/// assert_eq!(fields, [0, 0, 0, 0, 0, 0x02, 0x40, 0x0C, 0, 0, 0, 0, 0, 0, 0, 0x1D, 0xFF]);
+///
+/// let refusal = robijan::pack(&[1_000_000_000_000_000, -1], &mut fields).unwrap_err();
+/// assert_eq!(refusal.number, robijan::numbers::OUTSIDE_RANGE);
+/// # Ok::<(), robijan::Refusal>(())
+/// ```
+pub fn pack(amounts: &[i64], output: &mut [u8]) -> Result<(), Refusal> {
+    told(raw::pack(amounts, output), 0, ())
+}
+
+/// Reads such fields back and says how many amounts were written; words beyond are kept. Only one field stands for each amount: zero with D is
+/// [`numbers::PACKED_FIELD_WRONG`], as a wrong digit, another sign or a cut last field is.
+///
+/// ```
+/// let mut fields = [0, 0, 0, 0, 0, 0x02, 0x40, 0x0C, 0, 0, 0, 0, 0, 0, 0, 0x1D];
+/// let mut amounts = [7; 3];
+/// assert_eq!(robijan::unpack(&fields, &mut amounts), Ok(2));
+/// assert_eq!(amounts, [2_400, -1, 7]);
+///
+/// fields[15] = 0x0D;
+/// let refusal = robijan::unpack(&fields, &mut amounts).unwrap_err();
+/// assert_eq!(refusal.to_string(), "16: packed field wrong or cut, at byte 15");
+/// ```
+pub fn unpack(fields: &[u8], output: &mut [i64]) -> Result<usize, Refusal> {
+    let answer = raw::unpack(fields, output);
+    told(answer.number, answer.position, answer.count as usize)
 }
 
 /// The date of a day.

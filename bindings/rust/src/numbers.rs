@@ -31,6 +31,8 @@ pub const BAD_HOLIDAYS: u64 = 13;
 pub const PAST_LAST_DAY: u64 = 14;
 /// No profile could have this total within the limits.
 pub const TOTAL_IMPOSSIBLE: u64 = 15;
+/// A digit or the sign of a packed field is wrong, or the last field is cut; its byte, or the cut field's first.
+pub const PACKED_FIELD_WRONG: u64 = 16;
 
 /// A number in words.
 pub fn text(number: u64) -> &'static str {
@@ -51,6 +53,7 @@ pub fn text(number: u64) -> &'static str {
         BAD_HOLIDAYS => "holidays not strictly ascending days",
         PAST_LAST_DAY => "past 31 December 2099",
         TOTAL_IMPOSSIBLE => "total impossible within the limits",
+        PACKED_FIELD_WRONG => "packed field wrong or cut",
         _ => "unknown number",
     }
 }

@@ -60,6 +60,14 @@ pub struct Profile {
 
 #[repr(C)]
 #[derive(Clone, Copy, Debug, PartialEq, Eq)]
+pub struct Unpacked {
+    pub number: u64,
+    pub position: u64,
+    pub count: u64,
+}
+
+#[repr(C)]
+#[derive(Clone, Copy, Debug, PartialEq, Eq)]
 pub struct Date {
     pub number: u64,
     pub year: u64,
@@ -90,7 +98,8 @@ pub struct Business {
 
 mod library {
     use super::{
-        Answer, BookSize, Business, Date, Day, Profile, ReferencePrice, Terms, Tranches, Weekday,
+        Answer, BookSize, Business, Date, Day, Profile, ReferencePrice, Terms, Tranches, Unpacked,
+        Weekday,
     };
 
     extern "C" {
@@ -136,6 +145,18 @@ mod library {
             total: i64,
             contracted: i64,
         ) -> Profile;
+        pub fn robijan_pack(
+            amounts: *const i64,
+            count: usize,
+            output: *mut u8,
+            output_bytes: usize,
+        ) -> u64;
+        pub fn robijan_unpack(
+            fields: *const u8,
+            field_bytes: usize,
+            output: *mut i64,
+            output_words: usize,
+        ) -> Unpacked;
         pub fn robijan_date(day: i64) -> Date;
         pub fn robijan_day(year: i64, month: i64, day: i64) -> Day;
         pub fn robijan_weekday(day: i64) -> Weekday;
@@ -212,6 +233,28 @@ pub fn tranche(rvq: i64, bvq: i64, mq: i64) -> Tranches {
 
 pub fn profile(profile: &[i64], total: i64, contracted: i64) -> Profile {
     unsafe { library::robijan_profile(profile.as_ptr(), profile.len(), total, contracted) }
+}
+
+pub fn pack(amounts: &[i64], output: &mut [u8]) -> u64 {
+    unsafe {
+        library::robijan_pack(
+            amounts.as_ptr(),
+            amounts.len(),
+            output.as_mut_ptr(),
+            output.len(),
+        )
+    }
+}
+
+pub fn unpack(fields: &[u8], output: &mut [i64]) -> Unpacked {
+    unsafe {
+        library::robijan_unpack(
+            fields.as_ptr(),
+            fields.len(),
+            output.as_mut_ptr(),
+            output.len(),
+        )
+    }
 }
 
 pub fn date(day: i64) -> Date {

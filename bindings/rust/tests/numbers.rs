@@ -223,6 +223,162 @@ fn profiles() {
     assert_eq!(refused(keeps_limits(&profile, 2_400, 100 + wide)), (1, 0));
 }
 
+/// The largest amount of 15 digits.
+const MOST: i64 = 999_999_999_999_999;
+
+/// The fields of these amounts.
+fn packed(amounts: &[i64]) -> Vec<u8> {
+    let mut fields = vec![0xAA; PACKED_FIELD_BYTES * amounts.len()];
+    pack(amounts, &mut fields).unwrap();
+    fields
+}
+
+/// The number and position with which these fields are refused; no word is written, and none is counted.
+fn unpack_refused(fields: &[u8], words: usize) -> (u64, u64) {
+    let mut output = vec![7; words];
+    let refusal = refused(unpack(fields, &mut output));
+    assert_eq!(raw::unpack(fields, &mut output).count, 0);
+    assert!(output.iter().all(|word| *word == 7));
+    refusal
+}
+
+#[test]
+fn packing() {
+    let mut fields = [0xAA; 17];
+    for (amounts, wanted) in [
+        (
+            [2_400, -1],
+            [0, 0, 0, 0, 0, 0x02, 0x40, 0x0C, 0, 0, 0, 0, 0, 0, 0, 0x1D],
+        ),
+        // Most significant first, and no word is cut on its way.
+        (
+            [123_456_789_012_345, -(1 + (1 << 32))],
+            [
+                0x12, 0x34, 0x56, 0x78, 0x90, 0x12, 0x34, 0x5C, 0, 0, 0x04, 0x29, 0x49, 0x67, 0x29,
+                0x7D,
+            ],
+        ),
+        (
+            [0, -10],
+            [0, 0, 0, 0, 0, 0, 0, 0x0C, 0, 0, 0, 0, 0, 0, 0x01, 0x0D],
+        ),
+        (
+            [MOST, -MOST],
+            [
+                0x99, 0x99, 0x99, 0x99, 0x99, 0x99, 0x99, 0x9C, 0x99, 0x99, 0x99, 0x99, 0x99, 0x99,
+                0x99, 0x9D,
+            ],
+        ),
+    ] {
+        pack(&amounts, &mut fields).unwrap();
+        assert_eq!(fields[..16], wanted);
+        assert_eq!(fields[16], 0xAA);
+    }
+    assert_eq!(PACKED_FIELD_BYTES, 8);
+    assert_eq!(packed(&[-5; 33]), [0, 0, 0, 0, 0, 0, 0, 0x5D].repeat(33));
+}
+
+#[test]
+fn packing_refused() {
+    let mut fields = [0xAA; 272];
+    // 1, before 10 too.
+    for amounts in [
+        &[][..],
+        &[5],
+        &[5; 34],
+        &[0, MOST + 1],
+        &[-MOST - 1, 0],
+        &[i64::MAX, 0],
+        &[0, i64::MIN],
+        &[5, 5, i64::MIN],
+    ] {
+        for length in [0, 272] {
+            assert_eq!(refused(pack(amounts, &mut fields[..length])), (1, 0));
+        }
+    }
+    for (amounts, length) in [(2, 0), (2, 8), (2, 15), (3, 16), (33, 263)] {
+        let refusal = refused(pack(&[5; 33][..amounts], &mut fields[..length]));
+        assert_eq!(refusal, (10, 0));
+    }
+    assert_eq!(fields, [0xAA; 272]);
+}
+
+#[test]
+fn unpacking() {
+    let some = [0, 1, -1, 9, -10, 2_400, -(1 << 32), MOST, -MOST];
+    let statement: Vec<i64> = some.iter().copied().cycle().take(33).collect();
+    for count in 2..=33 {
+        let fields = packed(&statement[..count]);
+        let mut output = [7; 34];
+        assert_eq!(unpack(&fields, &mut output), Ok(count));
+        assert_eq!(output[..count], statement[..count]);
+        assert!(output[count..].iter().all(|word| *word == 7));
+        assert_eq!(packed(&output[..count]), fields);
+        // As many words as fields do.
+        assert_eq!(unpack(&fields, &mut output[..count]), Ok(count));
+        assert_eq!(unpack_refused(&fields, count - 1), (10, 0));
+    }
+}
+
+#[test]
+fn wrong_fields() {
+    assert_eq!(numbers::PACKED_FIELD_WRONG, 16);
+    let good = packed(&[123_456_789_012_345, -123_456_789_012_345, 5]);
+    // Each half byte of two fields with each value.
+    for (half, value) in (0..32).flat_map(|half| (0..16).map(move |value| (half, value))) {
+        let (mut fields, at) = (good.clone(), half / 2);
+        fields[at] = match half % 2 {
+            0 => value << 4 | fields[at] & 0x0F,
+            _ => fields[at] & 0xF0 | value,
+        };
+        let right = match half % 16 {
+            15 => value == 0xC || value == 0xD,
+            _ => value < 10,
+        };
+        match right {
+            true => assert_eq!(unpack(&fields, &mut [0; 3]), Ok(3)),
+            false => assert_eq!(unpack_refused(&fields, 3), (16, at as u64)),
+        }
+    }
+    // A cut field comes last of all, whatever its bytes; of the others the first, a zero with D among them.
+    let mut fields = good[..23].to_vec();
+    for (at, byte) in [(16, 0xFF), (15, 0x5E), (12, 0x1A), (8, 0xA1)] {
+        fields[at] = byte;
+        assert_eq!(unpack_refused(&fields, 2), (16, at as u64));
+    }
+    for (sign, at) in [(0x0D, 7), (0x0C, 8), (0x0E, 7)] {
+        fields[..8].copy_from_slice(&[0, 0, 0, 0, 0, 0, 0, sign]);
+        assert_eq!(unpack_refused(&fields, 2), (16, at));
+    }
+    // 10 comes before 16.
+    assert_eq!(unpack_refused(&fields, 1), (10, 0));
+}
+
+#[test]
+fn lengths_of_fields() {
+    // So many bytes of good fields, and of fields that are all wrong.
+    let (good, wrong) = (packed(&[5; 33]), [0xFF; 280]);
+    for length in [0, 1, 7, 8, 15] {
+        for words in [0, 33] {
+            assert_eq!(unpack_refused(&good[..length], words), (1, 0));
+            assert_eq!(unpack_refused(&wrong[..length], words), (1, 0));
+        }
+    }
+    for length in [272, 279, 280] {
+        assert_eq!(unpack_refused(&wrong[..length], 0), (1, 0));
+        assert_eq!(unpack_refused(&wrong[..length], 34), (1, 0));
+    }
+    // A cut field, at its first byte; it needs no word.
+    for cut in 1..8 {
+        assert_eq!(unpack_refused(&good[..16 + cut], 2), (16, 16));
+        assert_eq!(unpack_refused(&good[..16 + cut], 1), (10, 0));
+        let longest = [&good[..], &wrong[..cut]].concat();
+        assert_eq!(unpack_refused(&longest, 33), (16, 264));
+        assert_eq!(unpack_refused(&longest, 32), (10, 0));
+        assert_eq!(unpack_refused(&wrong[..264 + cut], 33), (16, 0));
+    }
+}
+
 #[test]
 fn calendar() {
     assert_eq!(refused(day(2026, 2, 29)), (12, 0));
@@ -235,7 +391,20 @@ fn calendar() {
 
 #[test]
 fn texts() {
-    for number in 0..=numbers::TOTAL_IMPOSSIBLE {
+    for number in 0..=numbers::PACKED_FIELD_WRONG {
         assert_ne!(numbers::text(number), "unknown number");
+    }
+    // Where the position is a byte or a word, it is said.
+    let told = |number| {
+        Refusal {
+            number,
+            position: 9,
+        }
+        .to_string()
+    };
+    for number in 0..=numbers::PACKED_FIELD_WRONG {
+        let byte = matches!(number, 4..=8 | 16);
+        assert_eq!(told(number).ends_with(", at byte 9"), byte);
+        assert_eq!(told(number).ends_with(", at word 9"), number == 11);
     }
 }

@@ -13,6 +13,7 @@ use Rattle.rulebook.specs.Opening.{opened}
 use Rattle.rulebook.specs.Submit.{submitted}
 use Rattle.rulebook.specs.Close.{closed}
 use Rattle.rulebook.specs.Calls.{shareCall}
+use Rattle.packed.specs.Packed.{packCall, unpackCall}
 use Rattle.replay.specs.Commands.{starts}
 
 -- ---- The first words of a list, lent
@@ -94,3 +95,21 @@ pub record SharedFrom (e : Edition) (r : ℤ) (uegqs space uegqsAfter spaceAfter
   pub within : count ≤ length space
   pub words : take count spaceAfter ≡ shareCall e r (take listed uegqsAfter) (take count space) .output
   pub beyond : drop count spaceAfter ≡ drop count space
+
+-- a statement that was read to the start of one space, in packed decimal in the first bytes of another, as they were read
+pub record PackedFrom (words : List ℤ) (bytes : List ℕ) (wordsAfter : List ℤ) (bytesAfter : List ℕ) : Type 0 where
+  pub listed : ℕ
+  pub listed-within : listed ≤ length wordsAfter
+  pub listed-beyond : drop listed wordsAfter ≡ drop listed words
+  pub count : ℕ
+  pub within : count ≤ length bytesAfter
+  pub lent : List ℕ
+  pub written : take count bytesAfter ≡ packCall (take listed wordsAfter) lent .output
+  pub beyond : drop count bytesAfter ≡ drop count bytes
+
+-- the amounts of fields, in the first words of a space
+pub record UnpackedFrom (fields : List ℕ) (words wordsAfter : List ℤ) : Type 0 where
+  pub count : ℕ
+  pub within : count ≤ length words
+  pub read : take count wordsAfter ≡ unpackCall fields (take count words) .output
+  pub beyond : drop count wordsAfter ≡ drop count words

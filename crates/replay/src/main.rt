@@ -2,15 +2,17 @@
 // that was lent to it. Its files stdin and stdout are what the second implementation, reference/, generated.
 //
 // A frame is a byte and its fields, little-endian: counts of 4 bytes; N, L, H, F, X and words of 8; a list after its count, a file after its
-// length. `lent` counts the words lent of the book, which stays from frame to frame; `fill` is each word of a statement or output before.
+// length. `lent` counts the words lent of the book, which stays from frame to frame; `fill` is each word of a statement or output before; fields,
+// and an output of bytes before, are files.
 //
 //     P index, word               the book's word is written      V MEP, IEQ                  price
 //     O lent, N, L, H, F, X       open                            R R, fill, UEGQ, count      share
 //     S lent, file                submit                          E R, fill, UEGQ, count      share of the second edition
 //     C lent, fill, count         close                           T RVQ, BVQ, MQ              tranche
 //     Q T, D, quantities          profile                         d, w, s: day                date, weekday, statement day
-//     y year, month, day          day                             b, f: day, holidays         business day, final statement
-//                                                                 m year, month, holidays     residual due day
+//     K amounts, output           pack                            b, f: day, holidays         business day, final statement
+//     U fields, fill, count       unpack                          m year, month, holidays     residual due day
+//                                                                 y year, month, day          day
 //
 // A line has the call's name, number and figures, then what was lent: the digest of the book, a file or a list, the words of a statement or
 // an output.
@@ -18,6 +20,7 @@ mod input; // input.rt: fields of standard input
 mod output; // output.rt: lines of standard output, digests
 mod book_calls; // book_calls.rt: open, submit, close
 mod rules_calls; // rules_calls.rt: price, share, tranche, profile
+mod packed_calls; // packed_calls.rt: pack, unpack
 mod calendar_calls; // calendar_calls.rt: the seven calendar calls
 
 use book_calls::close;
@@ -25,6 +28,8 @@ use book_calls::open;
 use book_calls::poke;
 use book_calls::submit;
 use calendar_calls::calendar_call;
+use packed_calls::pack;
+use packed_calls::unpack;
 use rulebook::Edition;
 use rules_calls::price;
 use rules_calls::profile;
@@ -48,6 +53,8 @@ fn call_without_book(command: u8) -> bool
         b'E' => share(Edition::Second),
         b'T' => tranche(),
         b'Q' => profile(),
+        b'K' => pack(),
+        b'U' => unpack(),
         _ => return calendar_call(command),
     }
     true

@@ -4,7 +4,7 @@
 
 use robijan::{
     balance, book_words, close, date, day, final_statement, missing, mssl_balance, numbers, open,
-    residual_due, submit, Closed, Refusal, Terms,
+    pack, residual_due, submit, unpack, Closed, Refusal, Terms, PACKED_FIELD_BYTES,
 };
 use std::error::Error;
 use std::io::Write;
@@ -134,6 +134,27 @@ fn print_balances(book: &[i64]) {
     println!(", MSSL {}", mssl_balance(book).unwrap_or(0));
 }
 
+/// The statement for a ledger that takes packed decimal, a field an amount, and read back from there.
+fn print_packed(statement: &[i64; ACCOUNTS + 1]) -> Result<(), Refusal> {
+    let mut fields = [0; PACKED_FIELD_BYTES * (ACCOUNTS + 1)];
+    let mut amounts = [0; ACCOUNTS + 1];
+    pack(statement, &mut fields)?;
+    for field in fields.chunks_exact(PACKED_FIELD_BYTES) {
+        print!("  packed");
+        for byte in field {
+            print!(" {byte:02X}");
+        }
+        println!();
+    }
+    let count = unpack(&fields, &mut amounts)?;
+    let same = amounts == *statement;
+    println!(
+        "  read back: {count} amounts, {}",
+        if same { "the same" } else { "others" }
+    );
+    Ok(())
+}
+
 /// The book becomes the file's content by a rename, and only when it is whole on the disk: a process that dies at any time leaves the book
 /// before or the book after, never something between.
 fn keep(path: &Path, book: &[i64]) -> std::io::Result<()> {
@@ -202,6 +223,9 @@ fn main() -> Result<(), Box<dyn Error>> {
         keep(&path, &book)?;
     }
     print_close("closed", answer, &book, &statement)?;
+    if answer.is_ok() {
+        print_packed(&statement)?;
+    }
     print_balances(&book);
     let last = final_statement(first, &[])?;
     print_date("final statement of the first day", last)?;

@@ -5,6 +5,7 @@ pub mod cases;
 pub mod files;
 pub mod inputs;
 pub mod lists;
+pub mod packed;
 pub mod profiles;
 pub mod runs;
 pub mod settle_inputs;

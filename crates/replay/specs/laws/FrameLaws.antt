@@ -9,8 +9,9 @@ use lib.Seq.{take-at, drop-at, length-take-le}
 use Rattle.rulebook.specs.declared.Edition.{Edition}
 use Rattle.rulebook.specs.Close.{closed}
 use Rattle.rulebook.specs.Calls.{shareCall}
+use Rattle.packed.specs.Packed.{packCall, unpackCall}
 use Rattle.replay.specs.Fields.{wordsIn, ListRead}
-use Rattle.replay.specs.Frames.{Lent, Submits, Closes, SubmittedFrom, ClosedWith, SharedFrom}
+use Rattle.replay.specs.Frames.{Lent, Submits, Closes, SubmittedFrom, ClosedWith, SharedFrom, PackedFrom, UnpackedFrom}
 
 -- n first words, or bytes, of xs came back as ys
 module _ {A : Type 0} (n : ℕ) (xs ys : List A) (within : n ≤ length xs) (same : length (ys ++ drop n xs) ≡ length xs) where
@@ -57,6 +58,25 @@ module _ (n : ℕ) (xs ys : List ℤ) (within : n ≤ length xs) (same : length 
         words = first-back n xs ys within same ∙ w ∙ ap (λ x. shareCall k x (take m uegqsAfter) (take n xs) .output) e;
         beyond = beyond-back n xs ys within same;
       }
+
+  pub unpacked-of : (fields : List ℕ) → ys ≡ unpackCall fields (take n xs) .output → UnpackedFrom fields xs (ys ++ drop n xs)
+  unpacked-of fields e = record { count = n; within = within; read = first-back n xs ys within same ∙ e; beyond = beyond-back n xs ys within same }
+
+-- bytes xs, read over others before, of which n came back as ys
+pub packed-of : (n : ℕ) (before xs ys : List ℕ) → n ≤ length xs → length (ys ++ drop n xs) ≡ length xs → (m : ℕ) (words wordsAfter : List ℤ)
+    → m ≤ length wordsAfter → drop m wordsAfter ≡ drop m words → drop n xs ≡ drop n before → ys ≡ packCall (take m wordsAfter) (take n xs) .output
+    → PackedFrom words before wordsAfter (ys ++ drop n xs)
+packed-of n before xs ys within same m words wordsAfter h b k w =
+    record {
+      listed = m;
+      listed-within = h;
+      listed-beyond = b;
+      count = n;
+      within = counts-back n xs ys within same .0;
+      lent = take n xs;
+      written = first-back n xs ys within same ∙ w;
+      beyond = beyond-back n xs ys within same ∙ k;
+    }
 
 -- some statement was there
 pub closes-of : {book space after spaceAfter : List ℤ} → ClosedWith book space after spaceAfter → Closes book after

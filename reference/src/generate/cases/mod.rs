@@ -11,9 +11,11 @@ mod figures;
 mod large;
 mod lists;
 mod openings;
+mod packs;
 mod profiles;
 mod reports;
 mod second_shares;
+mod unpacks;
 mod words;
 
 use super::Rng;
@@ -38,6 +40,8 @@ pub fn cases() -> Vec<Frame> {
     second_shares::write(&mut script);
     change_days::write(&mut script);
     reports::write(&mut script);
+    packs::write(&mut script);
+    unpacks::write(&mut script);
     script.frames
 }
 

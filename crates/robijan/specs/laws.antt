@@ -1,0 +1,2 @@
+-- laws and proofs
+pub mod ClosePackedLaws
