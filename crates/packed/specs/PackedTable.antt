@@ -6,12 +6,12 @@ use mathlib.Core.Logic.{_↔_}
 use Prim.Native.Nat.{ℕ, _+_, _*_, _/_, _%_, _≤_, _<_}
 use lib.Dec.{ltb, eqb}
 use lib.IntN.{ℤ, natAbs}
-use lib.ListN.{length, take, drop}
+use lib.ListN.{length, getD, take, drop}
 use Rattle.integer.specs.Below.{all, tabulate}
 use Rattle.integer.specs.Words.{word}
 use Rattle.integer.specs.declared.Found.the-variants.{Nothing}
 use Rattle.rulebook.specs.Checks.{Check, NoneStrikes, FirstStrikes}
-use Rattle.packed.specs.Packed.{field, fieldsOf, halfAt, amountAt, wrongIn, packCall, unpackAccepted, unpackRefused, unpackCall}
+use Rattle.packed.specs.Packed.{fieldByte, field, fieldsOf, halfAt, amountAt, wrongIn, packCall, unpackAccepted, unpackRefused, unpackCall}
 
 -- ---- Writing
 
@@ -28,6 +28,8 @@ pub record PackTable (amounts : List ℤ) (output : List ℕ) : Type 0 where
   pub short : (packCall amounts output ≡ record { number = 10; output = output }) ↔ (Statement amounts × (length output < 8 * length amounts))
   -- else the fields are written, and what is beyond is kept
   pub written : (packCall amounts output ≡ record { number = 0; output = fieldsOf amounts ++ drop (8 * length amounts) output }) ↔ (Statement amounts × (8 * length amounts ≤ length output))
+  -- byte j of the i-th field is that of the i-th amount
+  pub placed : packCall amounts output .number ≡ 0 → (i j : ℕ) → i < length amounts → j < 8 → getD (packCall amounts output .output) (8 * i + j) 0 ≡ fieldByte (word amounts i) j
 
 -- ---- Reading: the checks in order
 
@@ -63,6 +65,8 @@ pub record UnpackTable (s : List ℕ) (output : List ℤ) : Type 0 where
   pub refused : (n p : ℕ) → 0 < n → (unpackCall s output .returned ≡ unpackRefused n p) ↔ FirstStrikes (unpackChecks s output) n p
   -- accepted exactly if none strikes, and then each whole field is counted
   pub read : (unpackCall s output .returned ≡ unpackAccepted (length s / 8)) ↔ NoneStrikes (unpackChecks s output)
+  -- the f-th word is then the amount of the f-th field
+  pub placed : unpackCall s output .returned .number ≡ 0 → (f : ℕ) → f < length s / 8 → word (unpackCall s output .output) f ≡ amountAt s (8 * f)
   -- refused, it leaves the output as it was
   pub kept : (n p : ℕ) → 0 < n → unpackCall s output .returned ≡ unpackRefused n p → unpackCall s output .output ≡ output
 

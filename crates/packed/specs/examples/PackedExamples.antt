@@ -42,8 +42,8 @@ pub record FieldFigures : Type 0 where
   pub first : field (pos 100000000000000) ≡ hex 1 0 ∷ 0 ∷ 0 ∷ 0 ∷ 0 ∷ 0 ∷ 0 ∷ hex 0 12 ∷ []
   pub most : field (pos 999999999999999) ≡ nines 12
   pub least : field (minus 999999999999999) ≡ nines 13
-  -- two amounts
-  pub both : fieldsOf (pos 1 ∷ minus 10 ∷ []) ≡ one ++ small (hex 0 1) (hex 0 13)
+  -- four amounts, in their order
+  pub four : fieldsOf (pos 1 ∷ minus 10 ∷ pos 100 ∷ negsuc 0 ∷ []) ≡ one ++ (small (hex 0 1) (hex 0 13) ++ (small (hex 1 0) (hex 0 12) ++ minusOne))
 
 pub field-figures : FieldFigures
 unfolding field fieldByte halfByte digitOf tabulate flatMap
@@ -59,7 +59,7 @@ field-figures = record {
   first = refl;
   most = refl;
   least = refl;
-  both = refl;
+  four = refl;
 }
 
 -- ---- Written
@@ -133,6 +133,8 @@ pub record ReadFigures : Type 0 where
   pub least : unpackCall (nines 13 ++ small 0 12) (words 2) ≡ record { returned = record { number = 0; position = 0; count = 2 }; output = minus 999999999999999 ∷ pos 0 ∷ [] }
   pub ordered : unpackCall (one ++ (hex 1 2 ∷ hex 3 4 ∷ hex 5 6 ∷ hex 7 8 ∷ hex 9 0 ∷ hex 1 2 ∷ hex 3 4 ∷ hex 5 12 ∷ [])) (words 2)
       ≡ record { returned = record { number = 0; position = 0; count = 2 }; output = pos 1 ∷ pos 123456789012345 ∷ [] }
+  pub four : unpackCall (one ++ (small (hex 0 1) (hex 0 13) ++ (small (hex 1 0) (hex 0 12) ++ minusOne))) (words 5)
+      ≡ record { returned = record { number = 0; position = 0; count = 4 }; output = pos 1 ∷ minus 10 ∷ pos 100 ∷ negsuc 0 ∷ pos 7 ∷ [] }
   -- 1: 0, 7 and 15 bytes are fewer than two whole fields, 272 are 34
   pub empty : stops [] 1 0
   pub seven : stops (tabulate 7 (λ i. 0)) 1 0
@@ -174,6 +176,7 @@ read-figures = record {
   two = refl;
   least = refl;
   ordered = refl;
+  four = refl;
   empty = refl;
   seven = refl;
   fifteen = refl;

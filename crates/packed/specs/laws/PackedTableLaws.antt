@@ -7,11 +7,11 @@ use Prim.Native.Nat.{ℕ, zero, suc, _+_, _*_, _-_, _/_, _%_, _≤_, _<_}
 use native.Mathlib.Omega.{arith}
 use borrow.Author.Tests.{lt-ltb, le-leb, leb-true, ne-eqb}
 use lib.Dec.{leb, ltb, eqb}
-use lib.IntN.{ℤ}
-use lib.ListN.{length, drop}
+use lib.IntN.{ℤ, pos}
+use lib.ListN.{length, getD, drop, List·getD-append}
 use Rattle.integer.specs.Below.{fold, all, first, orElse, turns, tabulate, Each}
-use Rattle.integer.specs.laws.BelowLaws.{lt-or-le, and-true, fold-front, orElse-right, orElse-assoc, length-tabulate, each-tabulate, each-append, each-flat}
-use Rattle.integer.specs.Words.{filled}
+use Rattle.integer.specs.laws.BelowLaws.{lt-or-le, and-true, getD-tabulate, fold-front, orElse-right, orElse-assoc, length-tabulate, each-tabulate, each-append, each-flat}
+use Rattle.integer.specs.Words.{word, filled}
 use Rattle.integer.specs.declared.Found.{Found}
 use Rattle.integer.specs.declared.Found.the-variants.{At, Nothing}
 use Rattle.rulebook.specs.Numbers.{accepted, outsideRange, outputTooShort, packedFieldWrong, checked}
@@ -20,9 +20,9 @@ use Rattle.rulebook.specs.laws.CheckedLaws.{struck, met, met-last, then}
 use Rattle.rulebook.specs.laws.FirstCheckLaws.{firstOr, first-append, first-none, first-shows, first-finds, first-clear}
 use Rattle.rulebook.specs.laws.FieldVerdictLaws.{ltb-not, not-and}
 use Rattle.packed.specs.declared.UnpackReturned.{UnpackReturned}
-use Rattle.packed.specs.Packed.{leastAmounts, mostAmounts, countFits, statementFits, fieldBytes, fieldsOf, halfAt, signAt, magnitudeAt, amountAt, wholeFields, wrongDigit, wrongSign, negativeZero, wrongIn, cutField, firstWrong, Packed, packCall, unpackAccepted, unpackRefused, Unpacked, judgedFields, unpackCall}
+use Rattle.packed.specs.Packed.{leastAmounts, mostAmounts, countFits, statementFits, fieldBytes, fieldByte, fieldsOf, halfAt, signAt, magnitudeAt, amountAt, wholeFields, wrongDigit, wrongSign, negativeZero, wrongIn, cutField, firstWrong, Packed, packCall, unpackAccepted, unpackRefused, Unpacked, judgedFields, unpackCall}
 use Rattle.packed.specs.PackedTable.{Statement, PackTable, digitCheck, signCheck, zeroCheck, fieldChecks, cutCheck, unpackChecks, UnpackTable}
-use Rattle.packed.specs.laws.StatementLaws.{statement-is, statement-fits, amountsIn, digits-in}
+use Rattle.packed.specs.laws.StatementLaws.{statement-is, statement-fits, length-fields, fields-at, amountsIn, digits-in}
 
 -- ---- Writing
 
@@ -55,19 +55,10 @@ module _ (amounts : List ℤ) (output : List ℕ) where
   not-1 true = refl
   not-1 false = refl
 
-  pub pack-table : PackTable amounts output
-  unfolding packCall
-  pack-table = record {
-    outside = struck numberOf (statementFits amounts) is-statement outside (checked room short done) (not-1 room);
-    short =
-        then (met numberOf (statementFits amounts) is-statement outside (checked room short done) short refl)
-        (let s = struck numberOf room has-room short done refl in let n = not-le (fieldBytes * length amounts) (length output) in (λ e. n .0 (s .0 e), λ l. s .1 (n .1 l)));
-    written = then (met numberOf (statementFits amounts) is-statement outside (checked room short done) done refl) (met-last numberOf room has-room short done refl);
-  }
-
   -- a statement, with room for it, is written
   pub pack-done : Statement amounts → fieldBytes * length amounts ≤ length output → packCall amounts output ≡ done
-  pack-done s r = pack-table .written .1 (s, r)
+  unfolding packCall
+  pack-done s r = rw (statement-fits amounts s, le-leb (fieldBytes * length amounts) (length output) r)
 
   -- what was written is such a statement
   pub pack-given : packCall amounts output .number ≡ accepted → (Statement amounts) × (fieldBytes * length amounts ≤ length output)
@@ -78,6 +69,22 @@ module _ (amounts : List ℤ) (output : List ℕ) where
       by true f true g e = (statement-is amounts f, leb-true (fieldBytes * length amounts) (length output) g)
       by true f false g e = absurd (omega arith)
       by false f r g e = absurd (omega arith)
+
+  byte-placed : packCall amounts output .number ≡ 0 → (i j : ℕ) → i < length amounts → j < 8 → getD (packCall amounts output .output) (8 * i + j) 0 ≡ fieldByte (word amounts i) j
+  byte-placed e i j l b =
+      let g = pack-given e in
+      rw (pack-done (g .0) (g .1)) (List·getD-append (fieldsOf amounts) _ 0 (8 * i + j) (omega (arith, length-fields amounts)) ∙ fields-at amounts i j l b)
+
+  pub pack-table : PackTable amounts output
+  unfolding packCall
+  pack-table = record {
+    outside = struck numberOf (statementFits amounts) is-statement outside (checked room short done) (not-1 room);
+    short =
+        then (met numberOf (statementFits amounts) is-statement outside (checked room short done) short refl)
+        (let s = struck numberOf room has-room short done refl in let n = not-le (fieldBytes * length amounts) (length output) in (λ e. n .0 (s .0 e), λ l. s .1 (n .1 l)));
+    written = then (met numberOf (statementFits amounts) is-statement outside (checked room short done) done refl) (met-last numberOf room has-room short done refl);
+    placed = byte-placed;
+  }
 
 -- ---- Reading: the first check that strikes
 
@@ -232,20 +239,6 @@ module _ (s : List ℕ) where
     kept-where true false o n p h e = refl
     kept-where false r o n p h e = refl
 
-    pub unpack-table : UnpackTable s output
-    unfolding unpackCall
-    unpack-table = record {
-      refused = λ n p h. (
-        (λ e. first-finds unpackRefused numberIn positionIn (λ n p. refl) (λ n p. refl) (unpackAccepted (wholeFields s)) refl (unpackChecks s output) n p h (first-told ∙ e)),
-        (λ f. sym first-told ∙ first-shows unpackRefused (unpackChecks s output) (unpackAccepted (wholeFields s)) n p f),
-      );
-      read = (
-        (λ e. first-clear unpackRefused numberIn positionIn (λ n p. refl) (λ n p. refl) (unpackAccepted (wholeFields s)) refl (unpackChecks s output) all-numbered (ap numberIn (first-told ∙ e))),
-        (λ f. sym first-told ∙ first-none unpackRefused (unpackChecks s output) (unpackAccepted (wholeFields s)) f),
-      );
-      kept = λ n p h e. kept-where (countFits (wholeFields s)) (leb (wholeFields s) (length output)) (firstWrong s) n p h e;
-    }
-
     -- ---- What was read
 
     pub record Given : Type 0 where
@@ -267,7 +260,30 @@ module _ (s : List ℕ) where
     unfolding unpackCall
     unpack-done g = rw (g .count, le-leb (wholeFields s) (length output) (g .room), g .right)
 
-    -- a statement
+    word-placed : unpackCall s output .returned .number ≡ 0 → (f : ℕ) → f < length s / 8 → word (unpackCall s output .output) f ≡ amountAt s (8 * f)
+    word-placed e f l =
+        let n = length-tabulate (wholeFields s) (λ f. amountAt s (fieldBytes * f)) in
+        rw (unpack-done (unpack-given e)) (List·getD-append (amountsIn s) _ (pos 0) f (omega (arith, n)) ∙ getD-tabulate (wholeFields s) (λ f. amountAt s (fieldBytes * f)) f (pos 0) l)
+
+    -- ---- The table
+
+    pub unpack-table : UnpackTable s output
+    unfolding unpackCall
+    unpack-table = record {
+      refused = λ n p h. (
+        (λ e. first-finds unpackRefused numberIn positionIn (λ n p. refl) (λ n p. refl) (unpackAccepted (wholeFields s)) refl (unpackChecks s output) n p h (first-told ∙ e)),
+        (λ f. sym first-told ∙ first-shows unpackRefused (unpackChecks s output) (unpackAccepted (wholeFields s)) n p f),
+      );
+      read = (
+        (λ e. first-clear unpackRefused numberIn positionIn (λ n p. refl) (λ n p. refl) (unpackAccepted (wholeFields s)) refl (unpackChecks s output) all-numbered (ap numberIn (first-told ∙ e))),
+        (λ f. sym first-told ∙ first-none unpackRefused (unpackChecks s output) (unpackAccepted (wholeFields s)) f),
+      );
+      placed = word-placed;
+      kept = λ n p h e. kept-where (countFits (wholeFields s)) (leb (wholeFields s) (length output)) (firstWrong s) n p h e;
+    }
+
+    -- ---- A statement
+
     pub given-statement : Given → Statement (amountsIn s)
     given-statement g =
         let n = length-tabulate (wholeFields s) (λ f. amountAt s (fieldBytes * f)) in
