@@ -225,6 +225,12 @@ static void packed(void)
     NUMBER(ROBIJAN_OUTSIDE_RANGE, robijan_pack(large, 2, fields, 16));
     NUMBER(ROBIJAN_OUTPUT_TOO_SHORT, robijan_pack(amounts, 3, fields, 23));
 
+    static const int64_t several[] = {1, 2, 3, 4, 5, 6};
+    uint8_t many[6 * ROBIJAN_PACKED_FIELD_BYTES];
+    NUMBER(ROBIJAN_ACCEPTED, robijan_pack(several, 6, many, sizeof many));
+    for (int i = 0; i < 6; i++)
+        same("last byte of a field, in the order of the amounts", 16 * (i + 1) + 0xC, many[8 * i + 7]);
+
     output[0] = output[1] = output[2] = 7;
     robijan_unpack_answer read = robijan_unpack(fields, 16, output, 3);
     NUMBER(ROBIJAN_ACCEPTED, read.number);

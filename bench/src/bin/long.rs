@@ -1,4 +1,4 @@
-//! The long run: random calls through the C interface on both implementations, every answer and every lent word compared after each call.
+//! The long run: random calls through the C interface on both implementations, every answer and every lent word or byte compared after each call.
 //! Words: a seed, how many calls, and after how many seconds to end in any case. The first difference is printed, and the run fails.
 
 use bench::compare::tally::Tally;

@@ -1,4 +1,4 @@
-//! Random and damaged input to Robijan and to the second implementation: every answer and every lent word after must be equal. A call more
+//! Random and damaged input to Robijan and to the second implementation: every answer and every lent word or byte after must be equal. A call more
 //! is a function more in `CALLS`.
 
 pub mod books;

@@ -278,6 +278,21 @@ fn packing() {
     assert_eq!(packed(&[-5; 33]), [0, 0, 0, 0, 0, 0, 0, 0x5D].repeat(33));
 }
 
+/// The fields stand in the order of their amounts.
+#[test]
+fn packing_in_order() {
+    let amounts: Vec<i64> = (1..=9).collect();
+    let mut fields = [0; 9 * PACKED_FIELD_BYTES];
+    pack(&amounts, &mut fields).unwrap();
+    for (amount, field) in amounts.iter().zip(fields.chunks_exact(PACKED_FIELD_BYTES)) {
+        assert_eq!(field, [0, 0, 0, 0, 0, 0, 0, 16 * *amount as u8 + 0xC]);
+    }
+    let mut read = [0; 9];
+    fields[..2 * PACKED_FIELD_BYTES].rotate_left(PACKED_FIELD_BYTES);
+    assert_eq!(unpack(&fields, &mut read), Ok(9));
+    assert_eq!(read, [2, 1, 3, 4, 5, 6, 7, 8, 9]);
+}
+
 #[test]
 fn packing_refused() {
     let mut fields = [0xAA; 272];

@@ -1,5 +1,5 @@
 -- Document 02, P4: a statement in signed packed decimal. Its fields, how they are written and read back, and what the two calls return. Assumes nothing.
-use mathlib.Core.Bool.{Bool, cond, _&&_, _||_}
+use mathlib.Core.Bool.{Bool, cond, not, _&&_, _||_}
 use mathlib.Core.List.{List, _++_, flatMap}
 use Prim.Native.Nat.{ℕ, _+_, _*_, _-_, _/_, _%_, _^_}
 use lib.Dec.{leb, ltb, eqb}
@@ -56,7 +56,7 @@ abbrev pub signOf : ℤ → ℕ
 signOf (pos n) = plusSign
 signOf (negsuc n) = minusSign
 
--- digit k of m, from 0 on
+-- digit k of m, digit 0 the most significant
 unfoldable pub digitOf : ℕ → ℕ → ℕ
 digitOf m k = m / 10 ^ (fieldDigits - 1 - k) % 10
 
@@ -98,17 +98,21 @@ wholeFields s = length s / fieldBytes
 abbrev pub lastByte : ℕ → ℕ
 lastByte at = at + (fieldBytes - 1)
 
+-- one place, found unless a test passes
+abbrev pub unless : Bool → ℕ → Found
+unless t i = cond t Nothing (At i)
+
 -- a digit above 9
 unfoldable pub wrongDigit : List ℕ → ℕ → ℕ → Found
-wrongDigit s at k = cond (leb (halfAt s at k) 9) Nothing (At (at + k / 2))
+wrongDigit s at k = unless (leb (halfAt s at k) 9) (at + k / 2)
 
 -- a sign other than hex C and D
 unfoldable pub wrongSign : List ℕ → ℕ → Found
-wrongSign s at = cond (eqb (signAt s at) plusSign || eqb (signAt s at) minusSign) Nothing (At (lastByte at))
+wrongSign s at = unless (eqb (signAt s at) plusSign || eqb (signAt s at) minusSign) (lastByte at)
 
 -- zero with D
 unfoldable pub negativeZero : List ℕ → ℕ → Found
-negativeZero s at = cond (eqb (signAt s at) minusSign && eqb (magnitudeAt s at) 0) (At (lastByte at)) Nothing
+negativeZero s at = unless (not (eqb (signAt s at) minusSign && eqb (magnitudeAt s at) 0)) (lastByte at)
 
 -- in one field: digits, sign, negative zero
 unfoldable pub wrongIn : List ℕ → ℕ → Found
@@ -116,7 +120,7 @@ wrongIn s at = orElse (first fieldDigits (wrongDigit s at)) (orElse (wrongSign s
 
 -- bytes after the whole fields: a last field that is cut, at its first byte
 unfoldable pub cutField : List ℕ → Found
-cutField s = cond (eqb (length s % fieldBytes) 0) Nothing (At (fieldBytes * wholeFields s))
+cutField s = unless (eqb (length s % fieldBytes) 0) (fieldBytes * wholeFields s)
 
 -- field by field, then the cut one
 unfoldable pub firstWrong : List ℕ → Found

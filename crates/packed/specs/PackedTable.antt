@@ -1,17 +1,18 @@
 -- Document 02, P4, in its own figures: what writing and reading return of any input, each number exactly, and what is written and read back. Assumes nothing.
 use mathlib.Core.Path.{_≡_}
-use mathlib.Core.Bool.{not, _&&_, _||_}
+use mathlib.Core.Bool.{cond, not, _&&_, _||_}
 use mathlib.Core.List.{List, [], _∷_, _++_, flatMap}
 use mathlib.Core.Logic.{_↔_}
-use Prim.Native.Nat.{ℕ, _+_, _*_, _/_, _%_, _≤_, _<_}
+use Prim.Native.Nat.{ℕ, _+_, _*_, _-_, _/_, _%_, _^_, _≤_, _<_}
 use lib.Dec.{ltb, eqb}
-use lib.IntN.{ℤ, natAbs}
+use lib.IntN.{ℤ, pos, natAbs}
 use lib.ListN.{length, getD, take, drop}
+use lib.Signed.{ltZ}
 use Rattle.integer.specs.Below.{all, tabulate}
 use Rattle.integer.specs.Words.{word}
 use Rattle.integer.specs.declared.Found.the-variants.{Nothing}
 use Rattle.rulebook.specs.Checks.{Check, NoneStrikes, FirstStrikes}
-use Rattle.packed.specs.Packed.{fieldByte, field, fieldsOf, halfAt, amountAt, wrongIn, packCall, unpackAccepted, unpackRefused, unpackCall}
+use Rattle.packed.specs.Packed.{field, fieldsOf, halfAt, amountAt, wrongIn, packCall, unpackAccepted, unpackRefused, unpackCall}
 
 -- ---- Writing
 
@@ -28,8 +29,12 @@ pub record PackTable (amounts : List ℤ) (output : List ℕ) : Type 0 where
   pub short : (packCall amounts output ≡ record { number = 10; output = output }) ↔ (Statement amounts × (length output < 8 * length amounts))
   -- else the fields are written, and what is beyond is kept
   pub written : (packCall amounts output ≡ record { number = 0; output = fieldsOf amounts ++ drop (8 * length amounts) output }) ↔ (Statement amounts × (8 * length amounts ≤ length output))
-  -- byte j of the i-th field is that of the i-th amount
-  pub placed : packCall amounts output .number ≡ 0 → (i j : ℕ) → i < length amounts → j < 8 → getD (packCall amounts output .output) (8 * i + j) 0 ≡ fieldByte (word amounts i) j
+
+-- byte by byte: the i-th field has the 15 digits of the i-th amount, most significant first, two a byte, the last with hex C for zero and above, hex D below zero
+pub record WrittenBytes (amounts : List ℤ) : Type 0 where
+  pub pair : (i j : ℕ) → i < length amounts → j < 7
+      → getD (fieldsOf amounts) (8 * i + j) 0 ≡ 16 * (natAbs (word amounts i) / 10 ^ (14 - 2 * j) % 10) + natAbs (word amounts i) / 10 ^ (13 - 2 * j) % 10
+  pub last : (i : ℕ) → i < length amounts → getD (fieldsOf amounts) (8 * i + 7) 0 ≡ 16 * (natAbs (word amounts i) % 10) + cond (ltZ (word amounts i) (pos 0)) 13 12
 
 -- ---- Reading: the checks in order
 

@@ -1,5 +1,5 @@
 -- A field byte by byte, as code goes through it: two digits a byte, the last byte a digit and the sign. PairLaws ties it to the half bytes. Assumes nothing.
-use mathlib.Core.Bool.{Bool, true, false, cond, _&&_, _||_}
+use mathlib.Core.Bool.{Bool, true, false, _&&_, _||_}
 use mathlib.Core.List.{List}
 use Prim.Native.Nat.{ℕ, _+_, _*_, _-_, _/_, _%_, _^_}
 use lib.Dec.{leb, eqb}
@@ -7,7 +7,7 @@ use lib.ListN.{getD}
 use Rattle.integer.specs.Below.{all, first, turns}
 use Rattle.integer.specs.declared.Found.{Found}
 use Rattle.integer.specs.declared.Found.the-variants.{At, Nothing}
-use Rattle.packed.specs.Packed.{fieldBytes, plusSign, minusSign, magnitudeAt}
+use Rattle.packed.specs.Packed.{fieldBytes, plusSign, minusSign, magnitudeAt, unless}
 
 -- bytes of two digits in a field
 abbrev pub pairs : ℕ
@@ -42,17 +42,13 @@ pairsRight s at = all pairs (λ j. isPair (getD s (at + j) 0))
 unfoldable pub pairsValue : List ℕ → ℕ → ℕ
 pairsValue s at = turns pairs (λ j n. withPair n (getD s (at + j) 0)) 0
 
--- zero with the sign of less, told from the last byte first
+-- zero with D, told from the last byte first
 abbrev pub isNegativeZero : List ℕ → ℕ → Bool
 isNegativeZero s at = eqb (getD s (at + pairs) 0) minusSign && eqb (magnitudeAt s at) 0
 
 abbrev pub isNothing : Found → Bool
 isNothing (At i) = false
 isNothing Nothing = true
-
--- one place, found unless a test passes
-unfoldable pub unless : Bool → ℕ → Found
-unless t i = cond t Nothing (At i)
 
 abbrev pub foundOr : Found → ℕ → ℕ
 foundOr (At i) d = i

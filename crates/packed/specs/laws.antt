@@ -3,5 +3,7 @@ pub mod DigitLaws
 pub mod PairLaws
 pub mod FieldLaws
 pub mod StatementLaws
-pub mod PackedTableLaws
+pub mod PackTableLaws
+pub mod UnpackTableLaws
+pub mod WrittenBytesLaws
 pub mod ThereAndBackLaws

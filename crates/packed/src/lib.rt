@@ -35,8 +35,8 @@ pub enum UnpackAnswer {
     WrongAt(usize),
 }
 
-// What the reading call returns: number, position of a wrong field, count of amounts; every other figure is 0. Programs in other languages get it,
-// hence C's layout.
+// What the reading call returns: number, position of a wrong field, count of amounts; refused, every other figure is 0. Programs in other
+// languages get it, hence C's layout.
 #[repr(C)]
 pub struct UnpackReturned {
     pub number: u64,

@@ -73,7 +73,7 @@ fn magnitude_at(s: &[u8], at: usize) -> u64
     10 * pairs_value(s, at) + (last / 16) as u64
 }
 
-// Is a field zero with the sign of less? Its last byte alone says mostly that it is not.
+// Is a field a negative zero? Its last byte alone says mostly that it is not.
 fn is_negative_zero(s: &[u8], at: usize) -> bool
     requires { ⌜ at + fieldBytes ≤ length (now s) ⌝ }
     ensures { λ r. ⌜ r ≡ isNegativeZero (now (s .entry)) at ⌝ }

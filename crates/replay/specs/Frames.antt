@@ -104,6 +104,7 @@ pub record PackedFrom (words : List ℤ) (bytes : List ℕ) (wordsAfter : List �
   pub count : ℕ
   pub within : count ≤ length bytesAfter
   pub lent : List ℕ
+  pub lent-count : length lent ≡ count
   pub written : take count bytesAfter ≡ packCall (take listed wordsAfter) lent .output
   pub beyond : drop count bytesAfter ≡ drop count bytes
 

@@ -1,4 +1,4 @@
-// The calls that hold no book: reference price, shares, tranches, profiles.
+// The calls of the rules: reference price, shares, tranches, profiles.
 use rulebook::Edition;
 use rulebook::PriceAnswer;
 use rulebook::PriceReturned;

@@ -89,7 +89,7 @@ pastLastDay = 14
 abbrev pub totalImpossible : ℕ
 totalImpossible = 15
 
--- packed decimal: a wrong digit or sign, zero with the sign of less, or a cut last field (document 02, P4)
+-- packed decimal: a wrong digit or sign, zero with D, or a cut last field (document 02, P4)
 abbrev pub packedFieldWrong : ℕ
 packedFieldWrong = 16
 

@@ -4,7 +4,7 @@ use mathlib.Core.List.{List, [], _∷_, _++_, flatMap}
 use Prim.Native.Nat.{ℕ, _+_, _*_}
 use lib.IntN.{ℤ, pos, negsuc}
 use Rattle.integer.specs.Integer.{minus}
-use Rattle.integer.specs.Below.{fold, first, orElse, turns, tabulate}
+use Rattle.integer.specs.Below.{fold, orElse, turns, tabulate}
 use Rattle.packed.specs.declared.PackAnswer.{PackAnswer}
 use Rattle.packed.specs.declared.UnpackAnswer.{UnpackAnswer}
 use Rattle.packed.specs.Packed.{statementFits, digitOf, halfByte, fieldByte, field, fieldsOf, halfAt, magnitudeAt, amountAt, wrongDigit, wrongSign, negativeZero, wrongIn, cutField, firstWrong, packNumber, packCall, unpackReturned, unpackCall}
@@ -39,7 +39,9 @@ pub record FieldFigures : Type 0 where
   -- all digits in order
   pub ordered : field (pos 123456789012345) ≡ hex 1 2 ∷ hex 3 4 ∷ hex 5 6 ∷ hex 7 8 ∷ hex 9 0 ∷ hex 1 2 ∷ hex 3 4 ∷ hex 5 12 ∷ []
   pub orderedBelow : field (minus 987654321098765) ≡ hex 9 8 ∷ hex 7 6 ∷ hex 5 4 ∷ hex 3 2 ∷ hex 1 0 ∷ hex 9 8 ∷ hex 7 6 ∷ hex 5 13 ∷ []
-  pub first : field (pos 100000000000000) ≡ hex 1 0 ∷ 0 ∷ 0 ∷ 0 ∷ 0 ∷ 0 ∷ 0 ∷ hex 0 12 ∷ []
+  -- places ten apart hold other digits
+  pub mixed : field (minus 314159265358979) ≡ hex 3 1 ∷ hex 4 1 ∷ hex 5 9 ∷ hex 2 6 ∷ hex 5 3 ∷ hex 5 8 ∷ hex 9 7 ∷ hex 9 13 ∷ []
+  pub leading : field (pos 100000000000000) ≡ hex 1 0 ∷ 0 ∷ 0 ∷ 0 ∷ 0 ∷ 0 ∷ 0 ∷ hex 0 12 ∷ []
   pub most : field (pos 999999999999999) ≡ nines 12
   pub least : field (minus 999999999999999) ≡ nines 13
   -- four amounts, in their order
@@ -56,7 +58,8 @@ field-figures = record {
   hundred = refl;
   ordered = refl;
   orderedBelow = refl;
-  first = refl;
+  mixed = refl;
+  leading = refl;
   most = refl;
   least = refl;
   four = refl;

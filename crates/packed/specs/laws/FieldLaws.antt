@@ -1,19 +1,19 @@
 -- A field written and read is its amount, and a right field read and written is its bytes. Assumes nothing.
 use mathlib.Core.Path.{_≡_, refl, sym, ap, _∙_}
-use mathlib.Core.Bool.{Bool, true, false, cond, _&&_, _||_}
+use mathlib.Core.Bool.{Bool, true, false, cond, not, _&&_, _||_}
 use mathlib.Core.List.{List}
 use mathlib.Core.Logic.{_⊎_, inl, inr, ⊎-elim}
 use Prim.Native.Nat.{ℕ, zero, suc, _+_, _*_, _/_, _%_, _≤_, _<_}
 use native.Mathlib.Omega.{arith}
-use borrow.Author.Tests.{lt-ltb, le-leb, lt-leb, eqb-true, ne-eqb}
+use borrow.Author.Tests.{lt-ltb, le-leb, lt-leb, eqb-true, ne-eqb, not-true}
 use lib.Dec.{leb, ltb, eqb}
 use lib.IntN.{ℤ, pos, negsuc, natAbs}
 use lib.ListN.{getD}
 use Rattle.integer.specs.Integer.{minus}
 use Rattle.integer.specs.Below.{first, orElse}
 use Rattle.integer.specs.laws.BelowLaws.{either, lt-or-le, turns-cong, first-nothing, nothing-first, orElse-nothing, nothing-orElse}
-use Rattle.integer.specs.declared.Found.the-variants.{At, Nothing}
-use Rattle.packed.specs.Packed.{fieldBytes, fieldDigits, mostAmount, plusSign, minusSign, signOf, digitOf, halfByte, fieldByte, halfAt, signAt, magnitudeAt, amountAt, wrongDigit, wrongSign, negativeZero, wrongIn}
+use Rattle.integer.specs.declared.Found.the-variants.{Nothing}
+use Rattle.packed.specs.Packed.{fieldBytes, fieldDigits, mostAmount, plusSign, minusSign, signOf, digitOf, halfByte, fieldByte, halfAt, signAt, magnitudeAt, amountAt, unless, wrongDigit, wrongSign, negativeZero, wrongIn}
 use Rattle.packed.specs.laws.DigitLaws.{digit-le, digits-spell, spelled-digit, spelled-most}
 use Rattle.packed.specs.laws.PairLaws.{half-even, half-odd}
 
@@ -90,27 +90,23 @@ module _ (s : List ℕ) (at : ℕ) (z : ℤ) (stands : Stands s at z) where
         sign : wrongSign s at ≡ Nothing
         sign = rw sign-read (by z)
           where
-            by : (z : ℤ) → cond (eqb (signOf z) plusSign || eqb (signOf z) minusSign) Nothing (At (at + 7)) ≡ Nothing
+            by : (z : ℤ) → unless (eqb (signOf z) plusSign || eqb (signOf z) minusSign) (at + 7) ≡ Nothing
             by (pos n) = refl
             by (negsuc n) = refl
 
         zero-or : negativeZero s at ≡ Nothing
         zero-or = rw (sign-read, magnitude-read) (by z)
           where
-            by : (z : ℤ) → cond (eqb (signOf z) minusSign && eqb (natAbs z) 0) (At (at + 7)) Nothing ≡ Nothing
+            by : (z : ℤ) → unless (not (eqb (signOf z) minusSign && eqb (natAbs z) 0)) (at + 7) ≡ Nothing
             by (pos n) = refl
             by (negsuc n) = rw (ne-eqb (suc n) 0 (λ e. omega arith))
 
 -- ---- Read, then written
 
 -- where a test finds nothing
-unless-nothing : (t : Bool) (i : ℕ) → cond t Nothing (At i) ≡ Nothing → t ≡ true
+unless-nothing : (t : Bool) (i : ℕ) → unless t i ≡ Nothing → t ≡ true
 unless-nothing true i e = refl
 unless-nothing false i e = absurd (let z : _≡_ {A = ℕ} 0 1 = cc in omega arith)
-
-where-nothing : (t : Bool) (i : ℕ) → cond t (At i) Nothing ≡ Nothing → t ≡ false
-where-nothing true i e = absurd (let z : _≡_ {A = ℕ} 0 1 = cc in omega arith)
-where-nothing false i e = refl
 
 either-sign : (h : ℕ) → (eqb h plusSign || eqb h minusSign) ≡ true → (h ≡ plusSign) ⊎ (h ≡ minusSign)
 either-sign h e =
@@ -152,7 +148,7 @@ module _ (s : List ℕ) (at : ℕ) (right : wrongIn s at ≡ Nothing) where
 
   pub zero-right : (eqb (signAt s at) minusSign && eqb (magnitudeAt s at) 0) ≡ false
   unfolding negativeZero
-  zero-right = where-nothing _ (at + 7) (orElse-nothing (wrongSign s at) (negativeZero s at) (split .1) .1)
+  zero-right = not-true _ (unless-nothing (not (eqb (signAt s at) minusSign && eqb (magnitudeAt s at) 0)) (at + 7) (orElse-nothing (wrongSign s at) (negativeZero s at) (split .1) .1))
 
   abs-is : natAbs (amountAt s at) ≡ magnitudeAt s at
   unfolding amountAt

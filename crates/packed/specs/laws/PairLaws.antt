@@ -1,6 +1,6 @@
 -- A field by half bytes is the same field by bytes: what is right and wrong in it, and the number that it spells. Assumes nothing.
 use mathlib.Core.Path.{_≡_, refl, sym, ap, _∙_}
-use mathlib.Core.Bool.{Bool, true, false, cond, not, _&&_, _||_, and-false}
+use mathlib.Core.Bool.{Bool, true, false, not, _&&_, _||_, and-false, and-assoc}
 use mathlib.Core.List.{List}
 use Prim.Native.Nat.{ℕ, zero, suc, _+_, _*_, _-_, _/_, _%_, _^_, _<_}
 use native.Mathlib.Nat.{div-div-eq-div-mul, pow-succ', div-one}
@@ -13,14 +13,10 @@ use Rattle.integer.specs.Below.{all, first, orElse, turns}
 use Rattle.integer.specs.laws.BelowLaws.{fold-suc, fold-cong, fold-by-two, fold-test, turns-suc, turns-cong, turns-by-two, orElse-assoc}
 use Rattle.integer.specs.declared.Found.{Found}
 use Rattle.integer.specs.declared.Found.the-variants.{At, Nothing}
-use Rattle.packed.specs.Packed.{fieldDigits, plusSign, minusSign, signOf, digitOf, halfByte, fieldByte, halfAt, magnitudeAt, wrongDigit, wrongSign, negativeZero, wrongIn}
-use Rattle.packed.specs.Pairs.{pairs, pairOf, pairAt, isPair, isLast, withPair, pairsRight, pairsValue, isNegativeZero, isNothing, unless, foundOr, wrongByte}
+use Rattle.packed.specs.Packed.{fieldDigits, plusSign, minusSign, signOf, digitOf, halfByte, fieldByte, halfAt, magnitudeAt, unless, wrongDigit, wrongSign, negativeZero, wrongIn}
+use Rattle.packed.specs.Pairs.{pairs, pairOf, pairAt, isPair, isLast, withPair, pairsRight, pairsValue, isNegativeZero, isNothing, foundOr, wrongByte}
 
 -- ---- Found or not
-
-and-assoc : (x y z : Bool) → ((x && y) && z) ≡ (x && (y && z))
-and-assoc true y z = refl
-and-assoc false y z = refl
 
 nothing-or : (x y : Found) → isNothing (orElse x y) ≡ (isNothing x && isNothing y)
 unfolding orElse
@@ -35,26 +31,20 @@ none-found : (n : ℕ) (f : ℕ → Found) → isNothing (first n f) ≡ all n (
 none-found n f = fold-test orElse Nothing isNothing refl nothing-or n f
 
 nothing-unless : (t : Bool) (i : ℕ) → isNothing (unless t i) ≡ t
-unfolding unless
 nothing-unless true i = refl
 nothing-unless false i = refl
 
 unless-both : (a b : Bool) (i : ℕ) → orElse (unless a i) (unless b i) ≡ unless (a && b) i
-unfolding unless orElse
+unfolding orElse
 unless-both true b i = refl
 unless-both false b i = refl
 
 -- found before, or else there
 found-there : (o : Found) (t : Bool) (i : ℕ) → isNothing (orElse o (unless t i)) ≡ false → orElse o (unless t i) ≡ At (foundOr o i)
-unfolding unless orElse
+unfolding orElse
 found-there (At k) t i e = refl
 found-there Nothing true i e = absurd (let z : _≡_ {A = ℕ} 0 1 = cc in omega arith)
 found-there Nothing false i e = refl
-
-unless-not : (t : Bool) (i : ℕ) → cond t (At i) Nothing ≡ unless (not t) i
-unfolding unless
-unless-not true i = refl
-unless-not false i = refl
 
 -- ---- The field at `at`
 
@@ -97,7 +87,7 @@ module _ (s : List ℕ) (at : ℕ) where
   pair-wrong j =
       let e : 2 * j / 2 ≡ j = omega arith in
       let q : (2 * j + 1) / 2 ≡ j = omega arith in
-      rw (half-even j, half-odd j, e, q) (unfold unless in unless-both (leb (byteAt j / 16) 9) (leb (byteAt j % 16) 9) (at + j))
+      rw (half-even j, half-odd j, e, q) (unless-both (leb (byteAt j / 16) 9) (leb (byteAt j % 16) 9) (at + j))
 
   abbrev pairsWrong : Found
   pairsWrong = first pairs (λ j. unless (isPair (byteAt j)) (at + j))
@@ -108,9 +98,8 @@ module _ (s : List ℕ) (at : ℕ) where
   last-wrong : orElse (wrongDigit s at 14) (orElse (wrongSign s at) (negativeZero s at)) ≡ unless lastRight (at + pairs)
   unfolding wrongDigit wrongSign negativeZero
   last-wrong =
-      rw (half-even 7, half-odd 7, unless-not (eqb (byteAt 7 % 16) minusSign && eqb (magnitudeAt s at) 0) (at + 7))
-      (unfold unless in
-      ap (orElse (unless (leb (byteAt 7 / 16) 9) (at + 7))) (unless-both (eqb (byteAt 7 % 16) plusSign || eqb (byteAt 7 % 16) minusSign) _ (at + 7))
+      rw (half-even 7, half-odd 7)
+      (ap (orElse (unless (leb (byteAt 7 / 16) 9) (at + 7))) (unless-both (eqb (byteAt 7 % 16) plusSign || eqb (byteAt 7 % 16) minusSign) _ (at + 7))
       ∙ unless-both (leb (byteAt 7 / 16) 9) _ (at + 7))
 
   -- by bytes

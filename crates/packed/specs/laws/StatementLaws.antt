@@ -7,7 +7,7 @@ use Prim.Native.Nat.{ℕ, zero, suc, _+_, _*_, _-_, _/_, _%_, _≤_, _<_}
 use native.Mathlib.Nat.{not-suc-le-zero}
 use native.Mathlib.Omega.{arith}
 use borrow.Author.Tests.{le-leb, leb-true, ne-eqb}
-use lib.Dec.{leb, eqb}
+use lib.Dec.{eqb}
 use lib.IntN.{ℤ, pos, natAbs}
 use lib.ListN.{length, getD, drop, length-append, length-drop, List·getD-append}
 use lib.Seq.{ext-getD, getD-drop}
@@ -22,18 +22,15 @@ use Rattle.packed.specs.laws.FieldLaws.{Stands, amount-read, right-read,
 
 -- ---- A statement fits
 
-le-of : (a b : ℕ) → leb a b ≡ true → a ≤ b
-le-of a b t = leb-true a b t
-
 pub statement-is : (amounts : List ℤ) → statementFits amounts ≡ true → Statement amounts
 unfolding statementFits
 statement-is amounts t =
     let r = and-true _ _ t in
     let c = and-true _ _ (r .0) in
     record {
-      from = le-of leastAmounts (length amounts) (c .0);
-      to = le-of (length amounts) mostAmounts (c .1);
-      digits = λ i l. le-of (natAbs (word amounts i)) mostAmount (all-at (length amounts) (λ i. amountFits (word amounts i)) (r .1) i l);
+      from = leb-true leastAmounts (length amounts) (c .0);
+      to = leb-true (length amounts) mostAmounts (c .1);
+      digits = λ i l. leb-true (natAbs (word amounts i)) mostAmount (all-at (length amounts) (λ i. amountFits (word amounts i)) (r .1) i l);
     }
 
 pub statement-fits : (amounts : List ℤ) → Statement amounts → statementFits amounts ≡ true

@@ -15,7 +15,8 @@ use Rattle.packed.specs.Packed.{leastAmounts, mostAmounts, countFits, fi
 use Rattle.packed.specs.PackedTable.{Statement, ReadExactly, WrittenRead, ReadWritten, OneField}
 use Rattle.packed.specs.laws.FieldLaws.{Stands, amount-read, right-read, stands-right}
 use Rattle.packed.specs.laws.StatementLaws.{length-field, field-at, length-fields, whole-fields, amounts-read, fields-right, amountsIn, none-cut, same-bytes}
-use Rattle.packed.specs.laws.PackedTableLaws.{pack-done, pack-given, unpack-given, unpack-done, given-statement}
+use Rattle.packed.specs.laws.PackTableLaws.{pack-done, pack-given}
+use Rattle.packed.specs.laws.UnpackTableLaws.{unpack-given, unpack-done, given-statement}
 
 -- the fields of a statement, with room for its amounts, are read as these
 pub fields-read : (amounts : List ℤ) (output : List ℤ) → Statement amounts → length amounts ≤ length output

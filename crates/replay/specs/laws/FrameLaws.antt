@@ -74,6 +74,7 @@ packed-of n before xs ys within same m words wordsAfter h b k w =
       count = n;
       within = counts-back n xs ys within same .0;
       lent = take n xs;
+      lent-count = length-take-le n xs within;
       written = first-back n xs ys within same ∙ w;
       beyond = beyond-back n xs ys within same ∙ k;
     }

@@ -20,7 +20,7 @@ use Rattle.rulebook.specs.laws.BookSizeLaws.{close-amount}
 use Rattle.rulebook.specs.laws.LeavesLaws.{accepted-settled, closed-leaves}
 use Rattle.packed.specs.Packed.{packCall}
 use Rattle.packed.specs.PackedTable.{Statement}
-use Rattle.packed.specs.laws.PackedTableLaws.{pack-done}
+use Rattle.packed.specs.laws.PackTableLaws.{pack-done}
 use Rattle.packed.specs.laws.ThereAndBackLaws.{written-read}
 use Rattle.robijan.specs.ClosePacked.{amountsOf, ClosePacked}
 

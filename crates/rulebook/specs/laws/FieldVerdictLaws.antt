@@ -1,13 +1,13 @@
 -- At each field the judge says what the first of the table's conditions says. Assumes nothing.
 use mathlib.Core.Path.{_≡_, refl, sym, ap, _∙_}
-use mathlib.Core.Bool.{Bool, true, false, cond, not, _&&_, _||_}
+use mathlib.Core.Bool.{Bool, true, false, cond, not, _||_}
 use mathlib.Core.List.{List, [], _∷_, flatMap}
 use mathlib.Core.Logic.{⊎-elim}
 use Prim.Native.Nat.{ℕ, _+_, _-_, _≤_}
 use native.Mathlib.Omega.{arith}
 use borrow.Author.Tests.{lt-ltb, le-ltb, le-leb, lt-leb}
 use lib.Dec.{ltb, leb}
-use lib.IntN.{ℤ, pos, negsuc}
+use lib.IntN.{ℤ}
 use lib.ListN.{length}
 use lib.Signed.{leZ, ltZ}
 use Rattle.integer.specs.Below.{any}
@@ -26,6 +26,7 @@ use Rattle.rulebook.specs.Judging.{require, _andThen_, openFrom, limitsO
 use Rattle.rulebook.specs.Numbers.{Answer, numbered, whyNumber}
 use Rattle.rulebook.specs.Proper.{least, most, sameKey}
 use Rattle.rulebook.specs.FileTable.{Field, RowCount, Account, Day, TrancheCount, FacilityCount, Value, EndOfFile, late, shut, checksOf}
+use Rattle.rulebook.specs.laws.TestLaws.{ltb-not, ltZ-not, not-and, not-not}
 use Rattle.rulebook.specs.laws.FirstCheckLaws.{firstOr, first-append}
 use Rattle.rulebook.specs.laws.IntervalLaws.{kindOfFigure}
 use Rattle.rulebook.specs.laws.FigureRangeLaws.{kind-range}
@@ -48,23 +49,6 @@ told-require true w p a = refl
 told-require false w p a = refl
 
 -- ---- Tests
-
-pub ltb-not : (a b : ℕ) → ltb a b ≡ not (leb b a)
-ltb-not a b = ⊎-elim (λ l. rw (lt-ltb a b l, lt-leb b a l)) (λ l. rw (le-ltb a b l, le-leb b a l)) (lt-or-le a b)
-
-ltZ-not : (a b : ℤ) → ltZ a b ≡ not (leZ b a)
-ltZ-not (pos a) (pos b) = ltb-not a b
-ltZ-not (pos a) (negsuc b) = refl
-ltZ-not (negsuc a) (pos b) = refl
-ltZ-not (negsuc a) (negsuc b) = ltb-not b a
-
-pub not-and : (a b : Bool) → not (a && b) ≡ not a || not b
-not-and true b = refl
-not-and false b = refl
-
-not-not : (a : Bool) → not (not a) ≡ a
-not-not true = refl
-not-not false = refl
 
 cond-or : (a b : Bool) (x y : Answer) → cond (a || b) x y ≡ cond a x (cond b x y)
 cond-or true b x y = refl

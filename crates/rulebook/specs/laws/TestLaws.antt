@@ -1,16 +1,16 @@
 -- A test, of a word or over the numbers below n, and the statement that it decides. Assumes nothing.
 use mathlib.Core.Path.{_≡_, refl, sym, ap, ap₂, _∙_, subst}
-use mathlib.Core.Logic.{_⊎_, inl, inr}
+use mathlib.Core.Logic.{_⊎_, inl, inr, ⊎-elim}
 use mathlib.Core.Bool.{Bool, true, false, cond, _&&_, _||_, not, and-assoc}
 use Prim.Native.Nat.{ℕ, zero, suc, _≤_, _<_}
 use native.Mathlib.Nat.{le-suc-iff}
 use native.Mathlib.Omega.{arith}
-use borrow.Author.Tests.{le-ltb, lt-leb}
+use borrow.Author.Tests.{lt-ltb, le-ltb, le-leb, lt-leb}
 use lib.IntN.{ℤ, pos, negsuc}
 use lib.Dec.{T, leb, ltb, le→leb, leb→le, nltb→le}
-use lib.Signed.{leZ}
+use lib.Signed.{leZ, ltZ}
 use Rattle.integer.specs.Below.{fold, all, any}
-use Rattle.integer.specs.laws.BelowLaws.{fold-cong, fold-each, and-true, all-of}
+use Rattle.integer.specs.laws.BelowLaws.{lt-or-le, fold-cong, fold-each, and-true, all-of}
 use Rattle.integer.specs.laws.CountLaws.{any-at}
 use Rattle.rulebook.specs.Units.{between, positive}
 use Rattle.rulebook.specs.WellFormed.{isZero}
@@ -150,3 +150,30 @@ pub any-some : (n : ℕ) (p : ℕ → Bool) → T (any n p) → (i : ℕ) × (i 
 unfolding fold
 any-some zero p t = absurd t
 any-some (suc n) p t = or-cases (any n p) (p n) t (λ x. let y = any-some n p x in (y .0, omega (arith, y .1), y .2)) (λ x. (n, omega arith, x))
+
+-- ---- A test turned about
+
+pub ltb-not : (a b : ℕ) → ltb a b ≡ not (leb b a)
+ltb-not a b = ⊎-elim (λ l. rw (lt-ltb a b l, lt-leb b a l)) (λ l. rw (le-ltb a b l, le-leb b a l)) (lt-or-le a b)
+
+pub ltZ-not : (a b : ℤ) → ltZ a b ≡ not (leZ b a)
+ltZ-not (pos a) (pos b) = ltb-not a b
+ltZ-not (pos a) (negsuc b) = refl
+ltZ-not (negsuc a) (pos b) = refl
+ltZ-not (negsuc a) (negsuc b) = ltb-not b a
+
+pub not-and : (a b : Bool) → not (a && b) ≡ not a || not b
+not-and true b = refl
+not-and false b = refl
+
+pub not-not : (a : Bool) → not (not a) ≡ a
+not-not true = refl
+not-not false = refl
+
+pub not-either : (a b : Bool) → (not a && not b) ≡ not (a || b)
+not-either true b = refl
+not-either false b = refl
+
+pub cond-not : {A : Type 0} (t : Bool) (x y : A) → cond (not t) x y ≡ cond t y x
+cond-not true x y = refl
+cond-not false x y = refl

@@ -9,7 +9,8 @@ use lib.ListN.{getD}
 use Rattle.integer.specs.Below.{fold, first}
 use Rattle.integer.specs.laws.BelowLaws.{first-more, first-stops}
 use Rattle.integer.specs.declared.Found.the-variants.{Nothing}
-use Rattle.packed.specs.Pairs.{pairs, isPair, unless, foundOr, wrongByte}
+use Rattle.packed.specs.Pairs.{pairs, isPair, foundOr, wrongByte}
+use Rattle.packed.specs.Packed.{unless}
 use Rattle.packed.proofs.unpack.wrong_byte.Statement.{statement}
 use Rattle.packed.proofs.unpack.wrong_byte.Tie as tie
 
@@ -36,7 +37,7 @@ add-result : tie.Need-add-result Inv-loop μ-loop
 add-result c = omega arith
 
 returns : tie.Need-returns Inv-loop μ-loop
-unfolding wrongByte unless
+unfolding wrongByte
 returns c =
     let l = c .before .before .before .before in
     let a = l .before .before .args in
@@ -50,7 +51,6 @@ loop-less : tie.Need-loop-less Inv-loop μ-loop
 loop-less c = omega arith
 
 loop-again : tie.Need-loop-again Inv-loop μ-loop
-unfolding unless
 loop-again c =
     let l = c .before .before .before .before in
     let a = l .before .before .args in
@@ -61,7 +61,7 @@ add-result-2 : tie.Need-add-result-2 Inv-loop μ-loop
 add-result-2 c = omega arith
 
 returns-2 : tie.Need-returns-2 Inv-loop μ-loop
-unfolding wrongByte unless
+unfolding wrongByte
 returns-2 c =
     let a = c .before .before .before .args in
     let e : c .before .loop .j ≡ pairs = omega arith in

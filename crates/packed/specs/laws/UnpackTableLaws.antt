@@ -1,92 +1,26 @@
--- What writing and reading return, number by number, and both ways there and back. Rests on StatementLaws. Assumes nothing.
+-- What reading returns: the first check that strikes, and what was read. Rests on StatementLaws. Assumes nothing.
 use mathlib.Core.Path.{_≡_, refl, sym, ap, _∙_}
 use mathlib.Core.Bool.{Bool, true, false, cond, not, _&&_, _||_}
 use mathlib.Core.List.{List, [], _∷_, _++_, flatMap}
-use mathlib.Core.Logic.{_↔_, ⊎-elim}
 use Prim.Native.Nat.{ℕ, zero, suc, _+_, _*_, _-_, _/_, _%_, _≤_, _<_}
 use native.Mathlib.Omega.{arith}
 use borrow.Author.Tests.{lt-ltb, le-leb, leb-true, ne-eqb}
 use lib.Dec.{leb, ltb, eqb}
 use lib.IntN.{ℤ, pos}
-use lib.ListN.{length, getD, drop, List·getD-append}
+use lib.ListN.{length, List·getD-append}
 use Rattle.integer.specs.Below.{fold, all, first, orElse, turns, tabulate, Each}
-use Rattle.integer.specs.laws.BelowLaws.{lt-or-le, and-true, getD-tabulate, fold-front, orElse-right, orElse-assoc, length-tabulate, each-tabulate, each-append, each-flat}
+use Rattle.integer.specs.laws.BelowLaws.{and-true, getD-tabulate, fold-front, orElse-right, orElse-assoc, length-tabulate, each-tabulate, each-append, each-flat}
 use Rattle.integer.specs.Words.{word, filled}
 use Rattle.integer.specs.declared.Found.{Found}
 use Rattle.integer.specs.declared.Found.the-variants.{At, Nothing}
-use Rattle.rulebook.specs.Numbers.{accepted, outsideRange, outputTooShort, packedFieldWrong, checked}
+use Rattle.rulebook.specs.Numbers.{outsideRange, outputTooShort, packedFieldWrong, checked}
 use Rattle.rulebook.specs.Checks.{Check}
-use Rattle.rulebook.specs.laws.CheckedLaws.{struck, met, met-last, then}
 use Rattle.rulebook.specs.laws.FirstCheckLaws.{firstOr, first-append, first-none, first-shows, first-finds, first-clear}
-use Rattle.rulebook.specs.laws.FieldVerdictLaws.{ltb-not, not-and}
+use Rattle.rulebook.specs.laws.TestLaws.{ltb-not, not-and, not-either, cond-not}
 use Rattle.packed.specs.declared.UnpackReturned.{UnpackReturned}
-use Rattle.packed.specs.Packed.{leastAmounts, mostAmounts, countFits, statementFits, fieldBytes, fieldByte, fieldsOf, halfAt, signAt, magnitudeAt, amountAt, wholeFields, wrongDigit, wrongSign, negativeZero, wrongIn, cutField, firstWrong, Packed, packCall, unpackAccepted, unpackRefused, Unpacked, judgedFields, unpackCall}
-use Rattle.packed.specs.PackedTable.{Statement, PackTable, digitCheck, signCheck, zeroCheck, fieldChecks, cutCheck, unpackChecks, UnpackTable}
-use Rattle.packed.specs.laws.StatementLaws.{statement-is, statement-fits, length-fields, fields-at, amountsIn, digits-in}
-
--- ---- Writing
-
-not-le : (a b : ℕ) → (¬ (a ≤ b)) ↔ (b < a)
-not-le a b = (λ n. ⊎-elim (λ l. l) (λ l. absurd (n l)) (lt-or-le b a), λ l m. omega arith)
-
-module _ (amounts : List ℤ) (output : List ℕ) where
-  abbrev outside : Packed
-  outside = record { number = outsideRange; output = output }
-
-  abbrev short : Packed
-  short = record { number = outputTooShort; output = output }
-
-  abbrev done : Packed
-  done = record { number = accepted; output = fieldsOf amounts ++ drop (fieldBytes * length amounts) output }
-
-  abbrev room : Bool
-  room = leb (fieldBytes * length amounts) (length output)
-
-  abbrev numberOf : Packed → ℕ
-  numberOf p = p .number
-
-  is-statement : (statementFits amounts ≡ true) ↔ Statement amounts
-  is-statement = (statement-is amounts, statement-fits amounts)
-
-  has-room : (room ≡ true) ↔ (fieldBytes * length amounts ≤ length output)
-  has-room = (leb-true (fieldBytes * length amounts) (length output), le-leb (fieldBytes * length amounts) (length output))
-
-  not-1 : (t : Bool) → eqb (numberOf (checked t short done)) outsideRange ≡ false
-  not-1 true = refl
-  not-1 false = refl
-
-  -- a statement, with room for it, is written
-  pub pack-done : Statement amounts → fieldBytes * length amounts ≤ length output → packCall amounts output ≡ done
-  unfolding packCall
-  pack-done s r = rw (statement-fits amounts s, le-leb (fieldBytes * length amounts) (length output) r)
-
-  -- what was written is such a statement
-  pub pack-given : packCall amounts output .number ≡ accepted → (Statement amounts) × (fieldBytes * length amounts ≤ length output)
-  unfolding packCall
-  pack-given e = by (statementFits amounts) refl room refl e
-    where
-      by : (t : Bool) → statementFits amounts ≡ t → (r : Bool) → room ≡ r → checked t outside (checked r short done) .number ≡ accepted → (Statement amounts) × (fieldBytes * length amounts ≤ length output)
-      by true f true g e = (statement-is amounts f, leb-true (fieldBytes * length amounts) (length output) g)
-      by true f false g e = absurd (omega arith)
-      by false f r g e = absurd (omega arith)
-
-  byte-placed : packCall amounts output .number ≡ 0 → (i j : ℕ) → i < length amounts → j < 8 → getD (packCall amounts output .output) (8 * i + j) 0 ≡ fieldByte (word amounts i) j
-  byte-placed e i j l b =
-      let g = pack-given e in
-      rw (pack-done (g .0) (g .1)) (List·getD-append (fieldsOf amounts) _ 0 (8 * i + j) (omega (arith, length-fields amounts)) ∙ fields-at amounts i j l b)
-
-  pub pack-table : PackTable amounts output
-  unfolding packCall
-  pack-table = record {
-    outside = struck numberOf (statementFits amounts) is-statement outside (checked room short done) (not-1 room);
-    short =
-        then (met numberOf (statementFits amounts) is-statement outside (checked room short done) short refl)
-        (let s = struck numberOf room has-room short done refl in let n = not-le (fieldBytes * length amounts) (length output) in (λ e. n .0 (s .0 e), λ l. s .1 (n .1 l)));
-    written = then (met numberOf (statementFits amounts) is-statement outside (checked room short done) done refl) (met-last numberOf room has-room short done refl);
-    placed = byte-placed;
-  }
-
--- ---- Reading: the first check that strikes
+use Rattle.packed.specs.Packed.{leastAmounts, mostAmounts, countFits, fieldBytes, halfAt, signAt, magnitudeAt, amountAt, wholeFields, unless, wrongDigit, wrongSign, negativeZero, wrongIn, cutField, firstWrong, unpackAccepted, unpackRefused, Unpacked, judgedFields, unpackCall}
+use Rattle.packed.specs.PackedTable.{Statement, digitCheck, signCheck, zeroCheck, fieldChecks, cutCheck, unpackChecks, UnpackTable}
+use Rattle.packed.specs.laws.StatementLaws.{amountsIn, digits-in}
 
 unfoldable foundTold : Found → UnpackReturned → UnpackReturned
 foundTold (At p) a = unpackRefused packedFieldWrong p
@@ -97,12 +31,12 @@ unfolding foundTold orElse
 told-or (At p) y a = refl
 told-or Nothing y a = refl
 
-told-unless : (t : Bool) (p : ℕ) (a : UnpackReturned) → cond (not t) (unpackRefused packedFieldWrong p) a ≡ foundTold (cond t Nothing (At p)) a
+told-unless : (t : Bool) (p : ℕ) (a : UnpackReturned) → cond (not t) (unpackRefused packedFieldWrong p) a ≡ foundTold (unless t p) a
 unfolding foundTold
 told-unless true p a = refl
 told-unless false p a = refl
 
-told-where : (t : Bool) (p : ℕ) (a : UnpackReturned) → cond t (unpackRefused packedFieldWrong p) a ≡ foundTold (cond t (At p) Nothing) a
+told-where : (t : Bool) (p : ℕ) (a : UnpackReturned) → cond t (unpackRefused packedFieldWrong p) a ≡ foundTold (unless (not t) p) a
 unfolding foundTold
 told-where true p a = refl
 told-where false p a = refl
@@ -126,17 +60,9 @@ singles (suc n) g = ap (λ l. g 0 ∷ l) (singles n (λ k. g (suc k)))
 
 -- ---- Tests
 
-not-or : (a b : Bool) → (not a && not b) ≡ not (a || b)
-not-or true b = refl
-not-or false b = refl
-
 some-is : (r : ℕ) → ltb 0 r ≡ not (eqb r 0)
 some-is zero = refl
 some-is (suc r) = rw (lt-ltb 0 (suc r) (omega arith), ne-eqb (suc r) 0 (λ e. omega arith))
-
-cond-not : {A : Type 0} (t : Bool) (x y : A) → cond (not t) x y ≡ cond t y x
-cond-not true x y = refl
-cond-not false x y = refl
 
 both-zero : (m h : ℕ) → eqb (10 * m + h) 0 ≡ (eqb m 0 && eqb h 0)
 both-zero zero h = let e : 10 * zero + h ≡ h = omega arith in rw e
@@ -162,11 +88,11 @@ module _ (s : List ℕ) where
       let z : Bool = eqb (turns 15 (λ k m. 10 * m + halfAt s (8 * f) k) 0) 0 in
       let p : ℕ = 8 * f + 7 in
       let refused : UnpackReturned = unpackRefused packedFieldWrong p in
-      ap (λ (b : Bool). cond b refused (cond (eqb h 13 && all 15 (λ k. eqb (halfAt s (8 * f) k) 0)) refused a)) (not-or (eqb h 12) (eqb h 13))
+      ap (λ (b : Bool). cond b refused (cond (eqb h 13 && all 15 (λ k. eqb (halfAt s (8 * f) k) 0)) refused a)) (not-either (eqb h 12) (eqb h 13))
       ∙ told-unless (eqb h 12 || eqb h 13) p _
-      ∙ ap (foundTold (cond (eqb h 12 || eqb h 13) Nothing (At p)))
+      ∙ ap (foundTold (unless (eqb h 12 || eqb h 13) p))
       (ap (λ (b : Bool). cond (eqb h 13 && b) refused a) (sym (spelled-zero (halfAt s (8 * f)) 15)) ∙ told-where (eqb h 13 && z) p a)
-      ∙ sym (told-or (cond (eqb h 12 || eqb h 13) Nothing (At p)) (cond (eqb h 13 && z) (At p) Nothing) a)
+      ∙ sym (told-or (unless (eqb h 12 || eqb h 13) p) (unless (not (eqb h 13 && z)) p) a)
 
   field-told : (f : ℕ) (a : UnpackReturned) → firstOr unpackRefused (fieldChecks s f) a ≡ foundTold (wrongIn s (8 * f)) a
   unfolding wrongIn
