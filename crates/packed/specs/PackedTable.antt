@@ -70,8 +70,9 @@ pub record UnpackTable (s : List ℕ) (output : List ℤ) : Type 0 where
   pub refused : (n p : ℕ) → 0 < n → (unpackCall s output .returned ≡ unpackRefused n p) ↔ FirstStrikes (unpackChecks s output) n p
   -- accepted exactly if none strikes, and then each whole field is counted
   pub read : (unpackCall s output .returned ≡ unpackAccepted (length s / 8)) ↔ NoneStrikes (unpackChecks s output)
-  -- the f-th word is then the amount of the f-th field
+  -- the f-th word is then the amount of the f-th field, and the words beyond are kept
   pub placed : unpackCall s output .returned .number ≡ 0 → (f : ℕ) → f < length s / 8 → word (unpackCall s output .output) f ≡ amountAt s (8 * f)
+  pub beyond : unpackCall s output .returned .number ≡ 0 → drop (length s / 8) (unpackCall s output .output) ≡ drop (length s / 8) output
   -- refused, it leaves the output as it was
   pub kept : (n p : ℕ) → 0 < n → unpackCall s output .returned ≡ unpackRefused n p → unpackCall s output .output ≡ output
 

@@ -7,7 +7,8 @@ use native.Mathlib.Omega.{arith}
 use borrow.Author.Tests.{lt-ltb, le-leb, leb-true, ne-eqb}
 use lib.Dec.{leb, ltb, eqb}
 use lib.IntN.{ℤ, pos}
-use lib.ListN.{length, List·getD-append}
+use lib.Seq.{drop-at}
+use lib.ListN.{length, drop, List·getD-append}
 use Rattle.integer.specs.Below.{fold, all, first, orElse, turns, tabulate, Each}
 use Rattle.integer.specs.laws.BelowLaws.{and-true, getD-tabulate, fold-front, orElse-right, orElse-assoc, length-tabulate, each-tabulate, each-append, each-flat}
 use Rattle.integer.specs.Words.{word, filled}
@@ -191,6 +192,11 @@ module _ (s : List ℕ) where
         let n = length-tabulate (wholeFields s) (λ f. amountAt s (fieldBytes * f)) in
         rw (unpack-done (unpack-given e)) (List·getD-append (amountsIn s) _ (pos 0) f (omega (arith, n)) ∙ getD-tabulate (wholeFields s) (λ f. amountAt s (fieldBytes * f)) f (pos 0) l)
 
+    words-beyond : unpackCall s output .returned .number ≡ 0 → drop (length s / 8) (unpackCall s output .output) ≡ drop (length s / 8) output
+    words-beyond e =
+        rw (unpack-done (unpack-given e))
+        (drop-at (amountsIn s) (drop (wholeFields s) output) (wholeFields s) (length-tabulate (wholeFields s) (λ f. amountAt s (fieldBytes * f))))
+
     -- ---- The table
 
     pub unpack-table : UnpackTable s output
@@ -205,6 +211,7 @@ module _ (s : List ℕ) where
         (λ f. sym first-told ∙ first-none unpackRefused (unpackChecks s output) (unpackAccepted (wholeFields s)) f),
       );
       placed = word-placed;
+      beyond = words-beyond;
       kept = λ n p h e. kept-where (countFits (wholeFields s)) (leb (wholeFields s) (length output)) (firstWrong s) n p h e;
     }
 
