@@ -125,6 +125,10 @@ words n = tabulate n (λ i. pos 7)
 abbrev stops : List ℕ → ℕ → ℕ → Type 0
 stops s n p = unpackCall s (words 2) ≡ record { returned = record { number = n; position = p; count = 0 }; output = words 2 }
 
+-- 33 fields or fewer, refused with number 16 at p
+abbrev stopsLate : List ℕ → ℕ → Type 0
+stopsLate s p = unpackCall s (words 33) ≡ record { returned = record { number = 16; position = p; count = 0 }; output = words 33 }
+
 pub record ReadFigures : Type 0 where
   -- what each answer returns
   pub told : unpackReturned (UnpackAnswer.Read 3) ≡ record { number = 0; position = 0; count = 3 }
@@ -163,10 +167,16 @@ pub record ReadFigures : Type 0 where
       ≡ record { returned = record { number = 0; position = 0; count = 2 }; output = minus 100000000000000 ∷ pos 1 ∷ [] }
   -- the first of two wrong fields
   pub earlier : stops (small 0 (hex 0 13) ++ nines 15) 16 7
+  -- in the third field, and in the 33rd: a digit, a sign, a negative zero
+  pub third : stopsLate (one ++ (one ++ (0 ∷ 0 ∷ hex 0 10 ∷ 0 ∷ 0 ∷ 0 ∷ 0 ∷ hex 0 12 ∷ []))) 18
+  pub lastField : stopsLate (flatMap (λ z. one) (ones 32) ++ (0 ∷ hex 10 0 ∷ 0 ∷ 0 ∷ 0 ∷ 0 ∷ 0 ∷ hex 0 12 ∷ [])) 257
+  pub lastFieldSign : stopsLate (flatMap (λ z. one) (ones 32) ++ small 0 (hex 1 15)) 263
+  pub lastFieldZero : stopsLate (flatMap (λ z. one) (ones 32) ++ small 0 (hex 0 13)) 263
   -- a cut field, whatever it holds, at its first byte; a wrong one before it comes first, and 10 too
   pub cut : stops (one ++ (one ++ (hex 15 15 ∷ []))) 16 16
   pub cutByOne : stops (one ++ (one ++ tabulate 7 (λ i. 0))) 16 16
   pub wrongThenCut : stops (one ++ (small 0 (hex 0 15) ++ (0 ∷ []))) 16 15
+  pub cutLate : stopsLate (flatMap (λ z. one) (ones 33) ++ (0 ∷ [])) 264
   pub cutNoRoom : stops (one ++ (one ++ (one ++ (0 ∷ [])))) 10 0
 
 pub read-figures : ReadFigures
@@ -198,8 +208,13 @@ read-figures = record {
   negativeZero = refl;
   notZeroFirst = refl;
   earlier = refl;
+  third = refl;
+  lastField = refl;
+  lastFieldSign = refl;
+  lastFieldZero = refl;
   cut = refl;
   cutByOne = refl;
   wrongThenCut = refl;
+  cutLate = refl;
   cutNoRoom = refl;
 }
