@@ -1,5 +1,7 @@
 // Document 01, "Day amount": an account's posted amount for a closing day, from the slots of D and of r. A slot is lent words in range; nothing
 // here knows where in the book it stands.
+#![tactic(auto)]
+
 pub mod cell; // cell.rt: the amounts of one account at one interval
 pub mod interval; // interval.rt: R and S of one interval
 pub mod shares; // shares.rt: an account's shares of a day

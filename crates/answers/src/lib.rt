@@ -1,4 +1,6 @@
 // Document 01, "Numbers returned", with the numbers of document 02: the table, and what open, submit and close return.
+#![tactic(auto)]
+
 ghost use Rattle.std.specs.Prelude.{◌≡◌, cond};
 ghost use Rattle.rulebook.specs.Numbers.{why_number, numbered as Numbers·numbered, of_open, of_submit, of_close, share_number};
 

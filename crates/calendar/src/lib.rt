@@ -1,4 +1,6 @@
 // The trading calendar of document 01, "Calendar (003)": what each call answers on any input. Numbers are tried in the order 12, 13, 14.
+#![tactic(auto)]
+
 mod dates; // days, months and years, unsigned
 mod holidays; // holiday lists and business days
 

@@ -4,6 +4,8 @@
 // `SubmitPromise` and each close `ClosePromise`, from a book that `OpenPromise` left. These are the contracts of `submission::submit::submit`,
 // `close::close` and `opening::open::open_book`, word for word. So every list of calls of these functions on one newly opened book is such a run,
 // and `Theorems.demand3` holds of it.
+#![tactic(auto)]
+
 pub mod search; // search.rt: the first absent datum
 pub mod slots; // slots.rt: the slots of D and r
 pub mod statement; // statement.rt: the amounts of a close

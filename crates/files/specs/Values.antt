@@ -5,7 +5,7 @@ use Rattle.rulebook.specs.declared.Why.TheVariants.{NotWhole, OutOfRange}
 use Rattle.rulebook.specs.declared.Verdict.{Verdict}
 use Rattle.rulebook.specs.Sections.{value_in_range}
 use Rattle.rulebook.specs.File.{value_width, value_pos, value_at}
-use Rattle.rulebook.specs.Judging.{require, is_whole, ◌andThen◌}
+use Rattle.rulebook.specs.Judging.{require, is_whole, ◌and_then◌}
 
 -- value k of a row whose values are `part`, which starts at the file's position `from`
 unfoldable pub value_in : Section → List ℕ → ℕ → ℕ → Verdict

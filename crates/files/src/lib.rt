@@ -1,4 +1,6 @@
 // Document 01, "A submission file": a file is judged in one pass that writes nothing, against the limits of a book that it never sees.
+#![tactic(auto)]
+
 pub mod fields; // fields.rt: one field: read whole or cut, then judged by its range
 mod reader; // reader.rt: fields read one after another
 pub mod sections; // sections.rt: the form of each section's rows

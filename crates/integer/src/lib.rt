@@ -1,5 +1,7 @@
 // Integers and loops: the laws that every proof above leans on stand in specs/. Here are the types that searches share, single lent words,
 // and rounding.
+#![tactic(auto)]
+
 ghost use Rattle.std.specs.Prelude.{◌≡◌, ◌+◌, ◌*◌, ◌/◌, ◌^◌, ◌≤◌, ◌<◌, min, max, pos, nat_abs, ◌+ℤ◌, length, set};
 ghost use Rattle.integer.specs.Integer.{positive, with_sign};
 ghost use Rattle.integer.specs.Nearest.{nearest};

@@ -1,4 +1,6 @@
 // Document 01, "Program `settle`": what it does with its input, item by item. Each call puts the line to print at the start of lent bytes.
+#![tactic(auto)]
+
 ghost use Rattle.std.specs.Prelude.{◌≡◌, ◌+◌, ◌≤◌, ◌<◌, ◌^◌, length, take};
 ghost use Rattle.integer.specs.Words.{part};
 ghost use Rattle.rulebook.specs.Submit.{submitted};

@@ -1,4 +1,6 @@
 // Document 02, P4: a statement in signed packed decimal, for ledgers that take it. Nothing of the book is here.
+#![tactic(auto)]
+
 pub mod pack; // pack.rt: amounts written as fields
 pub mod unpack; // unpack.rt: fields judged, then read
 

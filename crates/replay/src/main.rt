@@ -16,6 +16,8 @@
 //
 // A line has the call's name, number and figures, then what was lent: the digest of the book, a file or a list, the words of a statement or
 // an output.
+#![tactic(auto)]
+
 mod input; // input.rt: fields of standard input
 mod output; // output.rt: lines of standard output, digests
 mod book_calls; // book_calls.rt: open, submit, close

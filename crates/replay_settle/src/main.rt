@@ -1,6 +1,8 @@
 // A test program: inputs of the program `settle` framed on standard input, and for each the lines that `settle` prints on it, then a line `end`.
 // A frame is a length of 2 bytes, little-endian, and so many bytes of an input. Its files stdin and stdout are what the second
 // implementation, reference/, generated.
+#![tactic(auto)]
+
 ghost use Rattle.std.specs.Prelude.{◌≡◌, ◌≤◌, ◌<◌, length, drop};
 ghost use Rattle.console.specs.Lines.{line_room};
 ghost use Rattle.interpreter.specs.Interpreter.{most_accounts, new_words, Performs};

@@ -1,5 +1,7 @@
 // What a program in another language links: each call of documents 01 and 02 as a C function. Every input is answered, by the numbers of
 // document 01's table; no call asks anything of its caller but that a slice, passed as a pointer and then a length, is one.
+#![tactic(auto)]
+
 pub mod book_calls; // book_calls.rt: open, submit, close, judge, and the size of a book
 pub mod rules_calls; // rules_calls.rt: reference price, shares, tranches, profiles
 pub mod packed_calls; // packed_calls.rt: statements in packed decimal, written and read

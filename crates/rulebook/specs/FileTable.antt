@@ -94,9 +94,9 @@ shut o C Residual d = (ltb d o.first || ltb (d + o.lag) C) || late o C d
 shut o C Ncc d = (ltb d o.first || ltb (d + o.lag) C) || late o C d
 
 -- a number of the table at the first byte of a field to be named
-infixl 70 ◌strikesIf◌
-abbrev pub ◌strikesIf◌ : ℕ → Bool → Field → Check
-(number strikesIf condition) f = record { number = number; position = start f; holds = condition }
+infixl 70 ◌strikes_if◌
+abbrev pub ◌strikes_if◌ : ℕ → Bool → Field → Check
+(number strikes_if condition) f = record { number = number; position = start f; holds = condition }
 
 module _ (o : Terms) (C : ℕ) (s : List ℕ) where
   -- 4, of every field: field or count not whole
@@ -107,16 +107,16 @@ module _ (o : Terms) (C : ℕ) (s : List ℕ) where
   -- 6: day not open, or above 36,524; 7: row repeated in its section; 8: bytes after section 4
   abbrev pub conditions : Field → List (Field → Check)
   conditions (RowCount at) = []
-  conditions (Account at) = field_out_of_range strikesIf leb o.accounts (num 1 s at) ∷ []
-  conditions (Day sec rows i at) = day_not_open strikesIf shut o C sec (num 2 s at) ∷ row_repeated strikesIf any i (λ j. same_key (rows j) (rows i)) ∷ []
-  conditions (TrancheCount at) = field_out_of_range strikesIf ltb 3 (num 1 s at) ∷ []
-  conditions (FacilityCount at) = field_out_of_range strikesIf (ltb (num 1 s at) 1 || ltb 4 (num 1 s at)) ∷ []
-  conditions (Value g at) = field_out_of_range strikesIf (lt_z (value_at s at) (least g) || lt_z (most g) (value_at s at)) ∷ []
-  conditions (EndOfFile at) = bytes_after_end strikesIf ltb at (length s) ∷ []
+  conditions (Account at) = field_out_of_range strikes_if leb o.accounts (num 1 s at) ∷ []
+  conditions (Day sec rows i at) = day_not_open strikes_if shut o C sec (num 2 s at) ∷ row_repeated strikes_if any i (λ j. same_key (rows j) (rows i)) ∷ []
+  conditions (TrancheCount at) = field_out_of_range strikes_if ltb 3 (num 1 s at) ∷ []
+  conditions (FacilityCount at) = field_out_of_range strikes_if (ltb (num 1 s at) 1 || ltb 4 (num 1 s at)) ∷ []
+  conditions (Value g at) = field_out_of_range strikes_if (lt_z (value_at s at) (least g) || lt_z (most g) (value_at s at)) ∷ []
+  conditions (EndOfFile at) = bytes_after_end strikes_if ltb at (length s) ∷ []
 
   -- the checks of a field: "whole, in range, day open, row not yet given; then the end"
   abbrev pub checks_of : Field → List Check
-  checks_of f = (field_not_whole strikesIf not_whole f) f ∷ map (λ c. c f) (conditions f)
+  checks_of f = (field_not_whole strikes_if not_whole f) f ∷ map (λ c. c f) (conditions f)
 
   -- those of the file, in file order
   abbrev pub checks : List Check

@@ -21,14 +21,14 @@ require true w at = Accepted
 require false w at = Refused w at
 
 -- one check after another: the first refusal stands
-infixr 5 ◌andThen◌
-abbrev pub ◌andThen◌ : Verdict → Verdict → Verdict
+infixr 5 ◌and_then◌
+abbrev pub ◌and_then◌ : Verdict → Verdict → Verdict
 Accepted and_then y = y
 (Refused w at) and_then y = Refused w at
 
 -- checks 0 to n - 1
 abbrev pub up_to : ℕ → (ℕ → Verdict) → Verdict
-up_to n f = fold ◌andThen◌ Accepted n f
+up_to n f = fold ◌and_then◌ Accepted n f
 
 -- ---- Limits
 

@@ -1,5 +1,7 @@
 // The rule book: document 01 in definitions, chapter by chapter, in specs/. Here are the types that its definitions and the code share, and the
 // figures that the code has of it.
+#![tactic(auto)]
+
 pub mod units; // units.rt: days, intervals, ranges
 pub mod layout; // layout.rt: where each word of a book stands, widths
 pub mod file; // file.rt: the number that a field spells

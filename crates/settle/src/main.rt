@@ -1,5 +1,7 @@
 // The program `settle` of document 01: it reads, hands what it read to the calls of `interpreter`, and writes the line that they made. What an
 // item is and does, where the next one stands and whether there is one, is proved there and in `console`.
+#![tactic(auto)]
+
 ghost use Rattle.std.specs.Prelude.{◌≡◌, ◌≤◌, ◌<◌, ◌^◌, length, take};
 ghost use Rattle.console.specs.Input.{opening_bytes, longest_item, item_bytes, WithinItem};
 ghost use Rattle.console.specs.Lines.{line_room};

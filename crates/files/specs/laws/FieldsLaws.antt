@@ -8,7 +8,7 @@ use Rattle.rulebook.specs.declared.Why.{Why}
 use Rattle.rulebook.specs.declared.Verdict.{Verdict}
 use Rattle.rulebook.specs.declared.Verdict.TheVariants.{Accepted, Refused}
 use Rattle.rulebook.specs.File.{num}
-use Rattle.rulebook.specs.Judging.{◌andThen◌, up_to, field_in}
+use Rattle.rulebook.specs.Judging.{◌and_then◌, up_to, field_in}
 use Rattle.files.specs.declared.fields.FieldRead.TheVariants.{Whole, Cut}
 use Rattle.files.specs.declared.fields.Outcome.TheVariants.{Passed, Stopped}
 use Rattle.files.specs.Fields.{outcome, field_at, field_outcome}
@@ -26,15 +26,15 @@ outcome-stopped (Refused v q) n w p e = cc
 -- ---- up_to
 
 pub up_none : (f : ℕ → Verdict) → up_to 0 f ≡ Accepted
-up_none = fold-zero ◌andThen◌ Accepted
+up_none = fold-zero ◌and_then◌ Accepted
 
 -- one more check that is accepted
 pub up_more : (n : ℕ) (f : ℕ → Verdict) → up_to n f ≡ Accepted → f n ≡ Accepted → up_to (n + 1) f ≡ Accepted
-up_more n f h t = rw (fold-suc ◌andThen◌ Accepted n f, h, t)
+up_more n f h t = rw (fold-suc ◌and_then◌ Accepted n f, h, t)
 
 -- the first check that is refused
 pub up_stops : (n : ℕ) (f : ℕ → Verdict) (i : ℕ) (w : Why) (p : ℕ) → i < n → up_to i f ≡ Accepted → f i ≡ Refused w p → up_to n f ≡ Refused w p
-up_stops n f i w p l h t = fold-stop ◌andThen◌ Accepted (Refused w p) (λ y. refl) n f i l (rw (h, t))
+up_stops n f i w p l h t = fold-stop ◌and_then◌ Accepted (Refused w p) (λ y. refl) n f i l (rw (h, t))
 
 -- ---- fieldAt
 

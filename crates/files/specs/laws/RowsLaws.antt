@@ -14,7 +14,7 @@ use Rattle.rulebook.specs.declared.Verdict.{Verdict}
 use Rattle.rulebook.specs.declared.Verdict.TheVariants.{Accepted, Refused}
 use Rattle.rulebook.specs.Sections.{least_count, most_count}
 use Rattle.rulebook.specs.File.{account_bytes, count_bytes, account_at, day_at, count_at, day_pos, count_pos, values_pos, values_in, row_end, row_pos, rows_in, section_end}
-use Rattle.rulebook.specs.Judging.{open_from, require, ◌andThen◌, up_to, field_in, key, rest, row_after, judged_row, judged_section}
+use Rattle.rulebook.specs.Judging.{open_from, require, ◌and_then◌, up_to, field_in, key, rest, row_after, judged_row, judged_section}
 use Rattle.rulebook.specs.laws.JudgingLaws.{then_both, checked, field-says, keyed}
 use Rattle.files.specs.declared.fields.Outcome.TheVariants.{Passed}
 use Rattle.files.specs.declared.reader.Heading.{Heading}

@@ -17,7 +17,7 @@ use Rattle.rulebook.specs.declared.Verdict.TheVariants.{Accepted, Refused}
 use Rattle.rulebook.specs.Terms.{InTerms}
 use Rattle.rulebook.specs.Units.{in_range}
 use Rattle.rulebook.specs.File.{Figure, num, value_at}
-use Rattle.rulebook.specs.Judging.{require, ◌andThen◌, open_from, limits_of, whole, field_in}
+use Rattle.rulebook.specs.Judging.{require, ◌and_then◌, open_from, limits_of, whole, field_in}
 use Rattle.rulebook.specs.Numbers.{Answer, numbered, why_number}
 use Rattle.rulebook.specs.Proper.{least, most, same_key}
 use Rattle.rulebook.specs.FileTable.{Field, RowCount, Account, Day, TrancheCount, FacilityCount, Value, EndOfFile, late, shut, checks_of}

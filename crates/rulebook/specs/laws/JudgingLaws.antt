@@ -13,7 +13,7 @@ use Rattle.rulebook.specs.declared.Verdict.TheVariants.{Accepted, Refused}
 use Rattle.rulebook.specs.Units.{in_range}
 use Rattle.rulebook.specs.Sections.{least_count, most_count, kind_of}
 use Rattle.rulebook.specs.File.{num, account_bytes, count_bytes, day_pos, count_pos, values_pos, account_at, day_at, values_in, value_at, row_pos, rows_in, meter_pos, residual_pos, ncc_pos, end_pos}
-use Rattle.rulebook.specs.Judging.{open_from, require, ◌andThen◌, up_to, field_in, value, key, given, rest, row_after, judged_row, judged_section, judged}
+use Rattle.rulebook.specs.Judging.{open_from, require, ◌and_then◌, up_to, field_in, value, key, given, rest, row_after, judged_row, judged_section, judged}
 
 -- ---- Checks
 
@@ -32,7 +32,7 @@ checked false w p y e = absurd (let z : ◌≡◌ {A = ℕ} 0 1 = cc in omega ar
 
 -- where all were accepted, each was
 pub up_each : (n : ℕ) (f : ℕ → Verdict) → up_to n f ≡ Accepted → (i : ℕ) → i < n → f i ≡ Accepted
-up_each = fold-each ◌andThen◌ Accepted then_both
+up_each = fold-each ◌and_then◌ Accepted then_both
 
 -- ---- Fields
 

@@ -18,7 +18,7 @@ use Rattle.rulebook.specs.declared.Verdict.{Verdict}
 use Rattle.rulebook.specs.declared.Verdict.TheVariants.{Accepted, Refused}
 use Rattle.rulebook.specs.Sections.{per_interval}
 use Rattle.rulebook.specs.File.{num, values_pos, values_in, account_at, day_at, count_at, row_pos, rows_in, ncc_pos, end_pos}
-use Rattle.rulebook.specs.Judging.{require, ◌andThen◌, up_to, open_from, limits_of, whole, field_in, value, key, given, rest, row_after, judged_row, judged_section, judged}
+use Rattle.rulebook.specs.Judging.{require, ◌and_then◌, up_to, open_from, limits_of, whole, field_in, value, key, given, rest, row_after, judged_row, judged_section, judged}
 use Rattle.rulebook.specs.NamedRows.{NamedRow}
 use Rattle.rulebook.specs.Proper.{same_key}
 use Rattle.rulebook.specs.FileTable.{Field, EndOfFile, row_of, heading_fields, interval_fields, row_fields, section_fields, fields_of}

@@ -9,7 +9,7 @@ use Rattle.rulebook.specs.declared.Why.TheVariants.{NotWhole}
 use Rattle.rulebook.specs.declared.Verdict.{Verdict}
 use Rattle.rulebook.specs.declared.Verdict.TheVariants.{Accepted, Refused}
 use Rattle.rulebook.specs.File.{num}
-use Rattle.rulebook.specs.Judging.{◌andThen◌, up_to, field_in}
+use Rattle.rulebook.specs.Judging.{◌and_then◌, up_to, field_in}
 
 -- ---- One after another
 
@@ -29,10 +29,10 @@ then_same (Refused w p) y z h = refl
 -- ---- up_to
 
 pub up_all : (n : ℕ) (f : ℕ → Verdict) → ((i : ℕ) → i < n → f i ≡ Accepted) → up_to n f ≡ Accepted
-up_all = fold-unit ◌andThen◌ Accepted refl
+up_all = fold-unit ◌and_then◌ Accepted refl
 
 pub up_cong : (n : ℕ) (f g : ℕ → Verdict) → ((i : ℕ) → i < n → f i ≡ g i) → up_to n f ≡ up_to n g
-up_cong = fold-cong ◌andThen◌ Accepted
+up_cong = fold-cong ◌and_then◌ Accepted
 
 -- the first of n checks first
 pub up_front : (n : ℕ) (f : ℕ → Verdict) → up_to (suc n) f ≡ f 0 and_then up_to n (λ i. f (suc i))
