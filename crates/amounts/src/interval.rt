@@ -11,14 +11,14 @@ use rulebook::layout::{BVQ, NCC_LOAD, TVQ, UEGQ, cell_place};
 use rules::ranges::quantity_at;
 
 // The residual load R and the spare generation S.
-#[derive(Drop)]
+#[derive(Clone, Copy)]
 pub struct ResidualAndSpare {
     pub load: i64,
     pub spare: u64,
 }
 
 // The figures of the holders' report: after the base round, and after those of the first, second and third tranches.
-#[derive(Drop)]
+#[derive(Clone, Copy)]
 pub struct HedgeReport {
     pub base: u64,
     pub first: u64,

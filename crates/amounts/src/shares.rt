@@ -12,7 +12,7 @@ use rulebook::units::INTERVALS;
 use rules::share::share_by;
 
 // R and S of a day's 48 intervals.
-#[derive(Drop)]
+#[derive(Clone, Copy)]
 pub struct Residuals {
     pub loads: [i64; INTERVALS],
     pub spares: [u64; INTERVALS],
@@ -73,7 +73,7 @@ fn uegq_at(slot: &[i64], n: usize, a: usize, h: usize) -> u64
 }
 
 // The running sums of UEGQ in a day's 48 intervals, over the accounts so far.
-#[derive(Drop)]
+#[derive(Clone, Copy)]
 pub struct RunningSums {
     pub uegq: [u64; INTERVALS],
 }
@@ -113,7 +113,7 @@ pub fn sums_due(then: &[i64], due: bool, sums: RunningSums, n: usize, a: usize) 
 }
 
 // The shares of one account in a day's 48 intervals, in kWh. No share is above 10,000,000.
-#[derive(Drop)]
+#[derive(Clone, Copy)]
 pub struct DayShares {
     pub kwh: [u32; INTERVALS],
 }

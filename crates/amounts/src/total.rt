@@ -5,7 +5,7 @@ ghost use Rattle.std.proofs.Common.{SFits};
 ghost use Rattle.amounts.specs.Total.{absorbed};
 
 // An account's day so far: its amount in thousandths of a cent.
-#[derive(Drop)]
+#[derive(Clone, Copy)]
 pub struct DayTotal {
     pub thousandths: i64,
 }

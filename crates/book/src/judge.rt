@@ -11,7 +11,7 @@ use opening::header::{balances_fit, book_size, header_fits, mssl_fits, next_day_
 use rulebook::{Terms, layout};
 
 // A well-formed book's terms and C, the next day to close.
-#[derive(Drop)]
+#[derive(Clone, Copy)]
 pub enum Judged {
     WellFormed(Terms, usize),
     IllFormed,

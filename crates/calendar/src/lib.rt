@@ -18,14 +18,14 @@ use rulebook::units::LAST_DAY;
 const STATEMENT_LAG: usize = 75;
 
 // The date of a day: year, month, day of the month.
-#[derive(Drop)]
+#[derive(Clone, Copy)]
 pub enum DateAnswer {
     On(usize, usize, usize),
     NoSuchDate,
 }
 
 // A day, in days since 1 January 2000.
-#[derive(Drop)]
+#[derive(Clone, Copy)]
 pub enum DayAnswer {
     On(usize),
     NoSuchDate,
@@ -34,14 +34,14 @@ pub enum DayAnswer {
 }
 
 // A weekday: 0 is Saturday, 6 is Friday.
-#[derive(Drop)]
+#[derive(Clone, Copy)]
 pub enum WeekdayAnswer {
     On(usize),
     NoSuchDate,
 }
 
 // Whether a day is a business day.
-#[derive(Drop)]
+#[derive(Clone, Copy)]
 pub enum BusinessAnswer {
     Judged(bool),
     NoSuchDate,
@@ -50,7 +50,7 @@ pub enum BusinessAnswer {
 
 // What the calls return: number and figures; refused, every figure is 0. Programs in other languages get it, hence C's layout.
 #[repr(C)]
-#[derive(Drop)]
+#[derive(Clone, Copy)]
 pub struct DateReturned {
     pub number: u64,
     pub year: u64,
@@ -60,7 +60,7 @@ pub struct DateReturned {
 
 // A day, in days since 1 January 2000.
 #[repr(C)]
-#[derive(Drop)]
+#[derive(Clone, Copy)]
 pub struct DayReturned {
     pub number: u64,
     pub day: u64,
@@ -68,7 +68,7 @@ pub struct DayReturned {
 
 // 0 is Saturday, 6 is Friday.
 #[repr(C)]
-#[derive(Drop)]
+#[derive(Clone, Copy)]
 pub struct WeekdayReturned {
     pub number: u64,
     pub weekday: u64,
@@ -76,7 +76,7 @@ pub struct WeekdayReturned {
 
 // 1 for a business day, else 0.
 #[repr(C)]
-#[derive(Drop)]
+#[derive(Clone, Copy)]
 pub struct BusinessReturned {
     pub number: u64,
     pub business: u64,

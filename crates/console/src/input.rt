@@ -18,7 +18,7 @@ pub const LONGEST_ITEM: usize = 3 + LONGEST_FILE;
 
 // What the rest of the input begins with: a close, a submission with its file's length, an item that is cut short, over-long or unknown, with
 // its place in the rest, or nothing.
-#[derive(Drop)]
+#[derive(Clone, Copy)]
 pub enum Item {
     Close,
     Submit(usize),

@@ -8,14 +8,14 @@ use rulebook::Why;
 use rulebook::file::number;
 
 // What stands at a position: a whole field, with the number that it spells and the position past it, or less than the field.
-#[derive(Drop)]
+#[derive(Clone, Copy)]
 pub enum FieldRead {
     Whole(usize, usize),
     Cut,
 }
 
 // What judging a stretch of the file gives: the number that was judged, or the position past the stretch; or a refusal, with its position.
-#[derive(Drop)]
+#[derive(Clone, Copy)]
 pub enum Outcome {
     Passed(usize),
     Stopped(Why, usize),

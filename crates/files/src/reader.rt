@@ -12,7 +12,7 @@ pub struct Reader<'a> {
 }
 
 // What stands before a row's values, as it was read: account, day and tranche or facility count, and the position past the last whole one.
-#[derive(Drop)]
+#[derive(Clone, Copy)]
 pub struct Heading {
     pub account: FieldRead,
     pub day: FieldRead,

@@ -8,7 +8,7 @@ ghost use Rattle.integer.specs.Nearest.{nearest};
 ghost use Rattle.integer.specs.Words.{word};
 
 // What a search answers: the index that it found, or nothing.
-#[derive(Drop)]
+#[derive(Clone, Copy)]
 pub enum Found {
     At(usize),
     Nothing,

@@ -26,7 +26,7 @@ const STATEMENT_WORDS: usize = MOST_ACCOUNTS + 1;
 
 // What an opening or an item hands to the next: its line's length, how many accounts the book has, where the next item stands in the input, and
 // whether the input is read on.
-#[derive(Drop)]
+#[derive(Clone, Copy)]
 pub struct Handed {
     pub end: usize,
     pub accounts: usize,

@@ -23,7 +23,7 @@ const LEAST_AMOUNTS: usize = 2;
 const MOST_AMOUNTS: usize = 33;
 
 // What writing answers.
-#[derive(Drop)]
+#[derive(Clone, Copy)]
 pub enum PackAnswer {
     Written,
     OutsideRange,
@@ -31,7 +31,7 @@ pub enum PackAnswer {
 }
 
 // What reading answers: how many amounts, or why it is refused; a wrong field with the byte.
-#[derive(Drop)]
+#[derive(Clone, Copy)]
 pub enum UnpackAnswer {
     Read(usize),
     OutsideRange,
@@ -42,7 +42,7 @@ pub enum UnpackAnswer {
 // What the reading call returns: number, position of a wrong field, count of amounts; refused, every other figure is 0. Programs in other
 // languages get it, hence C's layout.
 #[repr(C)]
-#[derive(Drop)]
+#[derive(Clone, Copy)]
 pub struct UnpackReturned {
     pub number: u64,
     pub position: u64,

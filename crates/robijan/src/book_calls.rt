@@ -15,7 +15,7 @@ use submission::submit::submit;
 
 // The number of a call, and a book's size in words.
 #[repr(C)]
-#[derive(Drop)]
+#[derive(Clone, Copy)]
 pub struct BookSize {
     pub number: u64,
     pub words: u64,

@@ -7,7 +7,7 @@ pub mod layout; // layout.rt: where each word of a book stands, widths
 pub mod file; // file.rt: the number that a field spells
 
 // What a value is, hence its range.
-#[derive(Drop)]
+#[derive(Clone, Copy)]
 pub enum Kind {
     Quantity,
     Injection,
@@ -17,7 +17,7 @@ pub enum Kind {
 
 // An opening's arguments: N accounts, lag L, horizon H, first day F, change day X. Programs in other languages pass it, hence C's layout.
 #[repr(C)]
-#[derive(Drop)]
+#[derive(Clone, Copy)]
 pub struct Terms {
     pub accounts: usize,
     pub lag: usize,
@@ -27,14 +27,14 @@ pub struct Terms {
 }
 
 // Document 02, P2: how an interval's residual load is shared. The first edition drops the odd kWh, the second shares every one.
-#[derive(Drop)]
+#[derive(Clone, Copy)]
 pub enum Edition {
     First,
     Second,
 }
 
 // The four sections of a submission file.
-#[derive(Drop)]
+#[derive(Clone, Copy)]
 pub enum Section {
     Vesting,
     Meter,
@@ -44,7 +44,7 @@ pub enum Section {
 
 // What a file is judged by: how many accounts there are, the first open day of vesting and meter rows, that of residual and NCC rows,
 // and the last open day.
-#[derive(Drop)]
+#[derive(Clone, Copy)]
 pub struct Limits {
     pub accounts: usize,
     pub current: usize,
@@ -53,7 +53,7 @@ pub struct Limits {
 }
 
 // Why a file is refused: numbers 4 to 8.
-#[derive(Drop)]
+#[derive(Clone, Copy)]
 pub enum Why {
     NotWhole,
     OutOfRange,
@@ -63,21 +63,21 @@ pub enum Why {
 }
 
 // What the judge says of a file; a refusal with its position.
-#[derive(Drop)]
+#[derive(Clone, Copy)]
 pub enum Verdict {
     Accepted,
     Refused(Why, usize),
 }
 
 // What open, submit and close answer.
-#[derive(Drop)]
+#[derive(Clone, Copy)]
 pub enum OpenAnswer {
     Opened,
     BadTerms,
     TooShort,
 }
 
-#[derive(Drop)]
+#[derive(Clone, Copy)]
 pub enum SubmitAnswer {
     Taken,
     IllFormed,
@@ -85,14 +85,14 @@ pub enum SubmitAnswer {
 }
 
 // The figures of an accepted close: its day and residual count.
-#[derive(Drop)]
+#[derive(Clone, Copy)]
 pub struct CloseFigures {
     pub day: usize,
     pub count: usize,
 }
 
 // A close's figures, or why it is refused; a missing datum with its flag's index.
-#[derive(Drop)]
+#[derive(Clone, Copy)]
 pub enum CloseAnswer {
     Closed(CloseFigures),
     BookIllFormed,
@@ -104,7 +104,7 @@ pub enum CloseAnswer {
 // What open, submit and close return: number, position of a refusal, an accepted close's day and residual count; every other figure is 0.
 // Programs in other languages get it, hence C's layout.
 #[repr(C)]
-#[derive(Drop)]
+#[derive(Clone, Copy)]
 pub struct Answer {
     pub number: u64,
     pub position: u64,
@@ -114,7 +114,7 @@ pub struct Answer {
 
 // What the reference price call returns: number, and V in cents per MWh; refused, 0.
 #[repr(C)]
-#[derive(Drop)]
+#[derive(Clone, Copy)]
 pub struct PriceReturned {
     pub number: u64,
     pub price: i64,
@@ -122,7 +122,7 @@ pub struct PriceReturned {
 
 // What the tranche call returns: number, tranche 1 and tranche 2 in kWh; refused, 0.
 #[repr(C)]
-#[derive(Drop)]
+#[derive(Clone, Copy)]
 pub struct TrancheReturned {
     pub number: u64,
     pub first: i64,
@@ -131,21 +131,21 @@ pub struct TrancheReturned {
 
 // What the profile call returns: number, and 1 where the profile keeps the limits; where it does not, or refused, 0.
 #[repr(C)]
-#[derive(Drop)]
+#[derive(Clone, Copy)]
 pub struct ProfileReturned {
     pub number: u64,
     pub keeps: u64,
 }
 
 // What the reference price call answers: V, or a list's length or a value outside its range.
-#[derive(Drop)]
+#[derive(Clone, Copy)]
 pub enum PriceAnswer {
     Priced(i64),
     PriceRefused,
 }
 
 // What the share call answers.
-#[derive(Drop)]
+#[derive(Clone, Copy)]
 pub enum ShareAnswer {
     Shared,
     ShareRefused,
@@ -153,7 +153,7 @@ pub enum ShareAnswer {
 }
 
 // What the tranche call answers: tranche 1 and tranche 2, or a value outside its range.
-#[derive(Drop)]
+#[derive(Clone, Copy)]
 pub enum TrancheAnswer {
     Split(i64, i64),
     TrancheRefused,
@@ -161,7 +161,7 @@ pub enum TrancheAnswer {
 
 // What the profile call answers: whether the profile keeps the limits, or that no 48 quantities could, or a list not of 48 or a value outside its
 // range.
-#[derive(Drop)]
+#[derive(Clone, Copy)]
 pub enum ProfileAnswer {
     Judged(bool),
     TotalImpossible,

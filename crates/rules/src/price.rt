@@ -13,7 +13,7 @@ use rulebook::units::MOST_FACILITIES;
 use rulebook::{Kind, PriceAnswer};
 
 // The sums of some facilities, of which V is the average: MEP times weight, weight, MEP, and their number.
-#[derive(Drop)]
+#[derive(Clone, Copy)]
 pub struct Sums {
     pub weighted: i64,
     pub weights: u64,

@@ -47,7 +47,7 @@ fn period_kwh(profile: &[i64], b: usize) -> usize
 }
 
 // The lowest and the highest kWh of some periods, and their total.
-#[derive(Drop)]
+#[derive(Clone, Copy)]
 pub struct Span {
     pub lowest: usize,
     pub highest: usize,
@@ -67,7 +67,7 @@ fn with_period(span: Span, kwh: usize) -> Span
 }
 
 // What a pass over the periods tells; or that an interval has no quantity.
-#[derive(Drop)]
+#[derive(Clone, Copy)]
 pub enum Periods {
     Told(Span),
     OutOfRange,

@@ -47,7 +47,7 @@ pub fn share_by(edition: Edition, r: i64, s: u64, before: u64, u: u64) -> u64
 }
 
 // S of a list of UEGQ, or that one is no quantity.
-#[derive(Drop)]
+#[derive(Clone, Copy)]
 pub enum Spare {
     Total(u64),
     OutOfRange,

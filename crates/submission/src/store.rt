@@ -22,7 +22,7 @@ use rulebook::units::INTERVALS;
 use rulebook::{Section, Terms, layout};
 
 // A row's words at an interval: how many they are, which of them is the flag, what the flag is, and how many values the row has.
-#[derive(Drop)]
+#[derive(Clone, Copy)]
 pub struct Form {
     pub words: usize,
     pub place: usize,

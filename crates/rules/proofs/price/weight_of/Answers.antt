@@ -1,0 +1,8 @@
+-- `weight_of` meets its contract: the number read is the one given.
+use borrow.Author.Rules.{rules}
+use Rattle.integer.specs.laws.IntegerLaws.{int}
+use Rattle.integer.specs.Bits.{known}
+use Rattle.rules.proofs.price.weight_of.Goals as goal
+
+pub returns : goal.returns
+returns c = omega (int, known c.ranges.ieq, c.natural.ensures)

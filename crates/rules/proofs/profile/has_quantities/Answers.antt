@@ -1,0 +1,10 @@
+-- `has_quantities` meets its contract: each word that is read is judged.
+use borrow.Author.Rules.{rules}
+use Rattle.integer.specs.Bits.{got}
+use Rattle.rules.proofs.profile.has_quantities.Goals as goal
+
+pub returns : goal.returns
+returns c =
+    let w = c.word_at in
+    let v = c.word_at-2 in
+    rw (c.in_range.ensures, c.in_range-2.ensures, got w.result w.type_inv, w.ensures, got v.result v.type_inv, v.ensures)

@@ -1,0 +1,43 @@
+-- `read_periods` meets its contract. The invariant: every word of the periods below b is a quantity, and the span is theirs; two words at a time are all
+use mathlib.Core.Path.{◌≡◌, refl, sym, ap, ◌∙◌}
+use mathlib.Core.Bool.{true, and_assoc, ◌&&◌}
+use mathlib.Core.List.{List}
+use Prim.Native.Nat.{◌*◌, ◌-◌, ◌≤◌}
+use native.Mathlib.Omega.{arith}
+use borrow.Author.Rules.{rules}
+use borrow.Author.Tests.{not-true, not-false}
+use lib.IntN.{ℤ}
+use lib.ListN.{length}
+use Rattle.integer.specs.Below.{fold, all}
+use Rattle.integer.specs.laws.BelowLaws.{fold-by_two, all_more, all_fails}
+use Rattle.integer.specs.Words.{word}
+use Rattle.rulebook.specs.declared.Kind.TheVariants.{Quantity}
+use Rattle.rulebook.specs.Units.{intervals, in_range, most_quantity}
+use Rattle.rulebook.specs.Profile.{balancing_periods, period_kwh}
+use Rattle.rulebook.specs.Calls.{all_in_range, quantities_in}
+use Rattle.rules.specs.declared.profile.Span.{Span}
+use Rattle.rules.specs.declared.profile.Periods.TheVariants.{Told}
+use Rattle.rules.specs.PeriodsTold.{period_in_range, span_of}
+use Rattle.rules.specs.laws.PeriodsToldLaws.{span_zero, span_suc}
+use Rattle.rules.proofs.profile.read_periods.Goals as goal
+use Rattle.rules.proofs.profile.read_periods.Goals.{Else-not-has_quantities}
+
+-- 48 (`fold-by_two`).
+-- all words are quantities, two at a time
+all-quantities : (profile : List ℤ) → length profile ≡ intervals → all_in_range Quantity profile ≡ all balancing_periods (period_in_range profile)
+unfolding all_in_range
+all-quantities profile n = rw n (fold-by_two ◌&&◌ true and_assoc balancing_periods (λ i. in_range Quantity (word profile i)))
+
+pub loop-b-init : goal.loop-b-init
+unfolding fold
+loop-b-init c = (omega arith, refl, span_zero (period_kwh (quantities_in c.args.profile.now)), omega arith)
+
+pub with_period-span-requires : goal.with_period-span-requires
+with_period-span-requires c = (omega arith, c.period_kwh.ensures.1)
+
+pub returns : goal.returns
+returns c =
+    let l = c.loop-b in
+    let profile = c.args.profile.now in
+    let e : l.b ≡ balancing_periods = omega arith in
+    rw (all-quantities profile c.requires, rw e at l.invariant.1) (ap Told (rw e at l.invariant.2))

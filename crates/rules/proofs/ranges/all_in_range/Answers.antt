@@ -1,0 +1,26 @@
+-- `all_in_range` meets its contract. The invariant: every word below i is in range.
+use mathlib.Core.Path.{◌≡◌, refl, sym, ap, ◌∙◌}
+use mathlib.Core.Bool.{true}
+use Prim.Native.Nat.{◌-◌, ◌≤◌}
+use native.Mathlib.Omega.{arith}
+use borrow.Author.Rules.{rules}
+use borrow.Author.Tests.{not-true, not-false}
+use lib.ListN.{length}
+use Rattle.integer.specs.Below.{fold, all}
+use Rattle.integer.specs.laws.BelowLaws.{all_more, all_fails}
+use Rattle.integer.specs.Bits.{got}
+use Rattle.integer.specs.Words.{word}
+use Rattle.rulebook.specs.Units.{in_range}
+use Rattle.rulebook.specs.Calls.{all_in_range}
+use Rattle.rules.proofs.ranges.all_in_range.Goals as goal
+
+pub loop-i-init : goal.loop-i-init
+unfolding fold
+loop-i-init c = search rules
+
+pub returns : goal.returns
+unfolding all_in_range
+returns c =
+    let xs = c.args.xs.now in
+    let e : c.loop-i.i ≡ length xs = omega arith in
+    sym (rw e at c.loop-i.invariant.2)

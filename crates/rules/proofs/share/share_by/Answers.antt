@@ -1,0 +1,13 @@
+-- `share_by` meets its contract: the edition picks the rule.
+use mathlib.Core.Path.{◌≡◌}
+use native.Mathlib.Omega.{arith}
+use borrow.Author.Rules.{rules}
+use mir.Syntax.{w64}
+use mir.Val.{to_z, of_z}
+use Rattle.rulebook.specs.Shares.{share_by}
+use Rattle.rules.proofs.share.share_by.Goals as goal
+
+pub share_of-requires : goal.share_of-requires
+share_of-requires c =
+    let x : to_z w64 (of_z w64 c.args.r) ≡ c.args.r = search rules in
+    (rw x c.requires.0, omega (arith, c.requires.1))
