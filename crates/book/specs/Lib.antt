@@ -1,5 +1,3 @@
 pub mod Parts
 pub mod Slots
 pub mod Judged
--- laws and proofs
-pub mod laws

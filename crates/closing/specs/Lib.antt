@@ -1,5 +1,3 @@
 pub mod Search
 pub mod Slots
 pub mod Written
--- laws and proofs
-pub mod laws

@@ -17,9 +17,9 @@ use Rattle.rulebook.specs.File.{Row, num, value_at, row_end, row_pos, section_en
 use Rattle.rulebook.specs.Close.{searched, residual_count}
 use Rattle.rulebook.specs.History.{Event, closes, closing_day, RowsInForce, latest, last_for, accepted_rows, in_force, count_in, data_in_force, formula_amount}
 use Rattle.rulebook.specs.Companion.{first_lacking, close_told}
-use Rattle.rulebook.specs.laws.AmountLaws.{SameFigures, Agree, posted-same}
-use Rattle.rulebook.specs.examples.Examples.{zeros}
-use Rattle.rulebook.specs.examples.HistoryExamples.{vesting, meter, taken, words, closed_day}
+use Rattle.rulebook.proofs.laws.AmountLaws.{SameFigures, Agree, posted-same}
+use Rattle.rulebook.proofs.examples.Examples.{zeros}
+use Rattle.rulebook.proofs.examples.HistoryExamples.{vesting, meter, taken, words, closed_day}
 
 abbrev terms : Terms
 terms = record { accounts = 2; lag = 2; horizon = 1; first = 9497; change = 9498 }

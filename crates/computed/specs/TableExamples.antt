@@ -5,7 +5,7 @@ use Rattle.integer.specs.Below.{fold, turns}
 use Rattle.rulebook.specs.File.{num, value_at, row_end, row_pos, section_end}
 use Rattle.rulebook.specs.Judging.{field_in, value, key, given, rest, row_after, judged_row, judged_section, limits_of, judged}
 use Rattle.rulebook.specs.Numbers.{of_verdict, numbered}
-use Rattle.rulebook.specs.examples.Examples.{two, three, zeros}
+use Rattle.rulebook.proofs.examples.Examples.{two, three, zeros}
 
 -- the file's number and position, with C the next day to close
 abbrev Returns : ℕ → List ℕ → ℕ → ℕ → Type 0

@@ -1,3 +1,1 @@
 pub mod Blank
--- laws and proofs
-pub mod laws

@@ -38,10 +38,3 @@ pub mod Leaves
 pub mod Bounds
 -- between the words and the history: what each call keeps
 pub mod Ledger
--- what is proved
-pub mod FileTheorems
-pub mod Theorems
--- figures and examples
-pub mod examples
--- laws and proofs
-pub mod laws

@@ -1,5 +1,3 @@
 pub mod PriceSums
 pub mod SpareTold
 pub mod PeriodsTold
--- laws and proofs
-pub mod laws

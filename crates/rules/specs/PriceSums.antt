@@ -2,9 +2,9 @@
 use Rattle.std.specs.Prelude.{◌≡◌, refl, ℕ, ◌+◌, ◌*◌, ◌≤◌, ◌<◌, ℤ, pos, nat_abs, ◌+ℤ◌, ◌*ℤ◌}
 use Rattle.std.proofs.Common.{sym, ap, ◌∙◌, le_refl, arith}
 use Rattle.integer.specs.Integer.{positive}
-use Rattle.integer.specs.laws.IntegerLaws.{parts, abs-mul_le}
+use Rattle.integer.proofs.laws.IntegerLaws.{parts, abs-mul_le}
 use Rattle.integer.specs.Below.{fold, sum_ℤ}
-use Rattle.integer.specs.laws.BelowLaws.{fold-suc, sum_ℕ-le, abs-sum_ℤ}
+use Rattle.integer.proofs.laws.BelowLaws.{fold-suc, sum_ℕ-le, abs-sum_ℤ}
 use Rattle.rulebook.specs.Units.{most_price, most_quantity}
 use Rattle.rulebook.specs.ReferencePrice.{weight, total_weight, weighted_sum, average, reference_price}
 use Rattle.rules.specs.declared.price.Sums.{Sums}

@@ -1,4 +1,2 @@
 pub mod Marks
 pub mod Stored
--- laws and proofs
-pub mod laws

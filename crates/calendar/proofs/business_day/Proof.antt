@@ -5,7 +5,7 @@ use borrow.Author.Rules.{rules}
 use borrow.Author.Tests.{not-true, not-false}
 use Rattle.integer.specs.Integer.{positive}
 use Rattle.calendar.specs.Calendar.{is_day, is_proper, is_business_day, business_accepted, business_told}
-use Rattle.calendar.specs.laws.DateLaws.{given}
+use Rattle.calendar.proofs.laws.DateLaws.{given}
 use Rattle.calendar.proofs.business_day.Statement.{statement}
 use Rattle.calendar.proofs.business_day.Tie as tie
 

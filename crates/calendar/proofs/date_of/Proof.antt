@@ -6,7 +6,7 @@ use native.Mathlib.Omega.{arith}
 use borrow.Author.Tests.{not-true, not-false}
 use Rattle.integer.specs.Integer.{positive}
 use Rattle.calendar.specs.Calendar.{is_day, days_before_year, date_of, date_accepted, date_told}
-use Rattle.calendar.specs.laws.DateLaws.{given, of_is_day}
+use Rattle.calendar.proofs.laws.DateLaws.{given, of_is_day}
 use Rattle.calendar.proofs.date_of.Statement.{statement}
 use Rattle.calendar.proofs.date_of.Tie as tie
 

@@ -5,8 +5,8 @@ use native.Mathlib.Omega.{arith}
 use borrow.Author.Tests.{not-true, not-false}
 use Rattle.integer.specs.Integer.{positive}
 use Rattle.calendar.specs.Calendar.{Date, day_accepted, date_given, day_told}
-use Rattle.calendar.specs.laws.YearLaws.{days_in_month-range}
-use Rattle.calendar.specs.laws.DateLaws.{given, of_is_date}
+use Rattle.calendar.proofs.laws.YearLaws.{days_in_month-range}
+use Rattle.calendar.proofs.laws.DateLaws.{given, of_is_date}
 use Rattle.calendar.proofs.day_of.Statement.{statement}
 use Rattle.calendar.proofs.day_of.Tie as tie
 

@@ -6,7 +6,7 @@ use native.Mathlib.Omega.{arith}
 use borrow.Author.Tests.{not-true, not-false}
 use Rattle.integer.specs.Integer.{positive}
 use Rattle.calendar.specs.Calendar.{is_day, is_proper, statement_day, final_statement, up_to_last_day, search_told, final_statement_told}
-use Rattle.calendar.specs.laws.DateLaws.{given, of_is_day}
+use Rattle.calendar.proofs.laws.DateLaws.{given, of_is_day}
 use Rattle.calendar.proofs.final_statement.Statement.{statement}
 use Rattle.calendar.proofs.final_statement.Tie as tie
 

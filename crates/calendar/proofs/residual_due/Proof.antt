@@ -6,7 +6,7 @@ use native.Mathlib.Omega.{arith}
 use borrow.Author.Tests.{not-true, not-false}
 use Rattle.integer.specs.Integer.{positive}
 use Rattle.calendar.specs.Calendar.{is_month, is_proper, is_business_day, nth_after, day_of, due_after, due_day, up_to_last_day, search_told, residual_due_told}
-use Rattle.calendar.specs.laws.DateLaws.{given}
+use Rattle.calendar.proofs.laws.DateLaws.{given}
 use Rattle.calendar.proofs.residual_due.Statement.{statement}
 use Rattle.calendar.proofs.residual_due.Tie as tie
 

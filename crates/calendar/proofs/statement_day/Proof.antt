@@ -6,7 +6,7 @@ use borrow.Author.Tests.{not-true, not-false, lt-leb, le-leb}
 use Rattle.integer.specs.Integer.{positive}
 use Rattle.rulebook.specs.Units.{last_day}
 use Rattle.calendar.specs.Calendar.{is_day, statement_day, day_accepted, statement_told}
-use Rattle.calendar.specs.laws.DateLaws.{given, of_is_day}
+use Rattle.calendar.proofs.laws.DateLaws.{given, of_is_day}
 use Rattle.calendar.proofs.statement_day.Statement.{statement}
 use Rattle.calendar.proofs.statement_day.Tie as tie
 

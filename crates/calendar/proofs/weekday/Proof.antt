@@ -4,7 +4,7 @@ use borrow.Author.Rules.{rules}
 use borrow.Author.Tests.{not-true, not-false}
 use Rattle.integer.specs.Integer.{positive}
 use Rattle.calendar.specs.Calendar.{is_day, weekday_of, weekday_accepted, weekday_told}
-use Rattle.calendar.specs.laws.DateLaws.{given}
+use Rattle.calendar.proofs.laws.DateLaws.{given}
 use Rattle.calendar.proofs.weekday.Statement.{statement}
 use Rattle.calendar.proofs.weekday.Tie as tie
 

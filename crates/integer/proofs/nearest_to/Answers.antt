@@ -4,9 +4,9 @@ use Rattle.std.proofs.Math.Nat.{div-le_self, mod-lt}
 use Rattle.std.specs.Int.{w64}
 use lib.Signed.{quot_z, rem_z}
 use Rattle.integer.specs.Integer.{with_sign}
-use Rattle.integer.specs.laws.IntegerLaws.{int, fits-abs, with_sign-abs}
-use Rattle.integer.specs.Bits.{Holds, holds, holds-nat, holds_as, holds-ok, op_fits, op_holds, fits-add}
-use Rattle.integer.specs.laws.NearestLaws.{quotient-abs, remainder-abs, nearest-cut, nearest-away}
+use Rattle.integer.proofs.laws.IntegerLaws.{int, fits-abs, with_sign-abs}
+use Rattle.integer.proofs.Bits.{Holds, holds, holds-nat, holds_as, holds-ok, op_fits, op_holds, fits-add}
+use Rattle.integer.proofs.laws.NearestLaws.{quotient-abs, remainder-abs, nearest-cut, nearest-away}
 use Rattle.integer.proofs.nearest_to.Goals as goal
 use Rattle.integer.proofs.nearest_to.Goals.{After-with_sign}
 

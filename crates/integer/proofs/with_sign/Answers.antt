@@ -4,8 +4,8 @@ use Rattle.std.proofs.lemmas.Int.{to_z_pos}
 use Rattle.std.proofs.Math.IntN.{+ℤ_idl}
 use Rattle.std.specs.Int.{w64}
 use Rattle.integer.specs.Integer.{negative}
-use Rattle.integer.specs.laws.IntegerLaws.{int, with_sign-negative, with_sign-positive}
-use Rattle.integer.specs.Bits.{known, fits_neg}
+use Rattle.integer.proofs.laws.IntegerLaws.{int, with_sign-negative, with_sign-positive}
+use Rattle.integer.proofs.Bits.{known, fits_neg}
 use Rattle.integer.proofs.with_sign.Goals as goal
 
 pub returns-then-z-lt0 : goal.returns-then-z-lt0

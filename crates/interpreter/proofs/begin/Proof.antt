@@ -2,7 +2,7 @@
 use borrow.Author.Rules.{rules}
 use mathlib.Core.Path.{sym, ap, ◌∙◌}
 use Rattle.rulebook.specs.declared.Answer.{Answer}
-use Rattle.interpreter.specs.laws.InterpreterLaws.{begins-cut, begins-opened, begins-refused}
+use Rattle.interpreter.proofs.laws.InterpreterLaws.{begins-cut, begins-opened, begins-refused}
 use Rattle.interpreter.proofs.begin.Statement.{statement}
 use Rattle.interpreter.proofs.begin.Tie as tie
 

@@ -2,8 +2,8 @@
 use borrow.Author.Rules.{rules}
 use mathlib.Core.Path.{◌≡◌, sym, ◌∙◌}
 use native.Mathlib.Omega.{arith}
-use Rattle.console.specs.laws.InputLaws.{submit-fits, bad-near}
-use Rattle.interpreter.specs.laws.InterpreterLaws.{performs_close, performs_submit, performs_bad, performs_end}
+use Rattle.console.proofs.laws.InputLaws.{submit-fits, bad-near}
+use Rattle.interpreter.proofs.laws.InterpreterLaws.{performs_close, performs_submit, performs_bad, performs_end}
 use Rattle.interpreter.proofs.perform.Statement.{statement}
 use Rattle.interpreter.proofs.perform.Tie as tie
 

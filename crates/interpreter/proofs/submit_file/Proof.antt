@@ -1,7 +1,7 @@
 -- `submit_file` meets its contract: the file is the part of the bytes after the length.
 use borrow.Author.Rules.{rules}
 use Rattle.rulebook.specs.Promises.{SubmitPromise}
-use Rattle.integer.specs.laws.WordsLaws.{lent}
+use Rattle.integer.proofs.laws.WordsLaws.{lent}
 use Rattle.interpreter.proofs.submit_file.Statement.{statement}
 use Rattle.interpreter.proofs.submit_file.Tie as tie
 

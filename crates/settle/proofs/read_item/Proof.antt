@@ -2,7 +2,7 @@
 use native.Mathlib.Omega.{arith}
 use lib.ListN.{take}
 use lib.Seq.{length-take-le}
-use Rattle.console.specs.laws.ReadingLaws.{bytes-own}
+use Rattle.console.proofs.laws.ReadingLaws.{bytes-own}
 use borrow.Author.Rules.{rules}
 use Rattle.settle.proofs.read_item.Statement.{statement}
 use Rattle.settle.proofs.read_item.Tie as tie

@@ -4,7 +4,7 @@ use Prim.Native.Nat.{◌-◌, ◌≤◌}
 use native.Mathlib.Omega.{arith}
 use lib.Seq.{length-take-le}
 use borrow.Rule.Slice.PartMut.{mid_len, take_put}
-use Rattle.console.specs.laws.ReadingLaws.{within_on}
+use Rattle.console.proofs.laws.ReadingLaws.{within_on}
 use borrow.Author.Rules.{rules}
 use Rattle.settle.proofs.read_on.Statement.{statement}
 use Rattle.settle.proofs.read_on.Tie as tie

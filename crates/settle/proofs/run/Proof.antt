@@ -8,7 +8,7 @@ use borrow.Author.Tests.{not-true, not-false}
 use native.Mathlib.Omega.{arith}
 use Rattle.interpreter.specs.Interpreter.{new_words}
 use Rattle.interpreter.specs.Running.{SomeItem, farthest, Stands}
-use Rattle.interpreter.specs.laws.RunningLaws.{stands-begun, stands-next}
+use Rattle.interpreter.proofs.laws.RunningLaws.{stands-begun, stands-next}
 use borrow.Author.Rules.{rules}
 use Rattle.settle.proofs.run.Statement.{statement}
 use Rattle.settle.proofs.run.Tie as tie

@@ -2,8 +2,8 @@
 use mathlib.Core.Path.{ap}
 use borrow.Author.Rules.{sfits_of}
 use Rattle.integer.specs.Integer.{positive}
-use Rattle.integer.specs.laws.IntegerLaws.{int, parts}
-use Rattle.integer.specs.Bits.{known}
+use Rattle.integer.proofs.laws.IntegerLaws.{int, parts}
+use Rattle.integer.proofs.Bits.{known}
 use Rattle.amounts.proofs.cell.facilities_of.Statement.{statement}
 use Rattle.amounts.proofs.cell.facilities_of.Tie as tie
 

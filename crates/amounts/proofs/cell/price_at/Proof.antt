@@ -1,7 +1,7 @@
 -- `price_at` meets its contract: V is the average of the cell's sums.
 use native.Mathlib.Omega.{arith}
 use borrow.Author.Rules.{rules}
-use Rattle.integer.specs.Bits.{got}
+use Rattle.integer.proofs.Bits.{got}
 use Rattle.rulebook.specs.DayAmount.{reference_price_of}
 use Rattle.rules.specs.PriceSums.{sums-count, sums-within, sums-price}
 use Rattle.amounts.specs.Cell.{cell_data}

@@ -4,8 +4,8 @@ use borrow.Author.Rules.{rules}
 use lib.IntN.{pos, nat_abs, ◌-ℤ◌, ◌*ℤ◌}
 use mir.Syntax.{w64}
 use mir.Val.{SFits, to_z, of_z}
-use Rattle.integer.specs.laws.IntegerLaws.{int, abs-sub, abs-mul_le, fits-abs}
-use Rattle.integer.specs.Bits.{Holds, holds, holds-ok, holds_as, op_fits, op_holds}
+use Rattle.integer.proofs.laws.IntegerLaws.{int, abs-sub, abs-mul_le, fits-abs}
+use Rattle.integer.proofs.Bits.{Holds, holds, holds-ok, holds_as, op_fits, op_holds}
 use Rattle.amounts.proofs.cell.priced.Statement.{statement}
 use Rattle.amounts.proofs.cell.priced.Tie as tie
 

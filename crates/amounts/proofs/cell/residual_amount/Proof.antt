@@ -7,15 +7,15 @@ use borrow.Author.Rules.{rules}
 use lib.IntN.{ℤ, pos, nat_abs, ◌-ℤ◌, ◌*ℤ◌}
 use mir.Syntax.{w64}
 use mir.Val.{to_z, of_z}
-use Rattle.integer.specs.Bits.{got}
+use Rattle.integer.proofs.Bits.{got}
 use Rattle.integer.specs.Words.{word}
 use Rattle.rulebook.specs.Units.{most_quantity, as_quantity}
 use Rattle.rulebook.specs.Tranches.{tranche1, tranche2}
-use Rattle.rulebook.specs.laws.TranchesLaws.{tranche-split}
+use Rattle.rulebook.proofs.laws.TranchesLaws.{tranche-split}
 use Rattle.rulebook.specs.DayAmount.{share_amount}
-use Rattle.rulebook.specs.laws.SizeLaws.{first-tranche_size, second-tranche_size}
+use Rattle.rulebook.proofs.laws.SizeLaws.{first-tranche_size, second-tranche_size}
 use Rattle.amounts.specs.Cell.{cell_data}
-use Rattle.amounts.specs.laws.CellLaws.{priced-cong, tranche-cong, sum_cong}
+use Rattle.amounts.proofs.laws.CellLaws.{priced-cong, tranche-cong, sum_cong}
 use Rattle.amounts.proofs.cell.residual_amount.Statement.{statement}
 use Rattle.amounts.proofs.cell.residual_amount.Tie as tie
 

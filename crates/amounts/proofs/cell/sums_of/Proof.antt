@@ -3,7 +3,7 @@ use mathlib.Core.Path.{◌≡◌, sym, ap, ◌∙◌}
 use Prim.Native.Nat.{ℕ, ◌-◌, ◌≤◌, ◌<◌}
 use native.Mathlib.Omega.{arith}
 use borrow.Author.Rules.{rules}
-use Rattle.integer.specs.Bits.{got}
+use Rattle.integer.proofs.Bits.{got}
 use Rattle.rules.specs.PriceSums.{sums_of, sums-zero, sums-suc, sums-count, sums-within}
 use Rattle.amounts.specs.Cell.{cell_data}
 use Rattle.amounts.proofs.cell.sums_of.Statement.{statement}

@@ -7,14 +7,14 @@ use borrow.Author.Rules.{rules}
 use lib.IntN.{ℤ, pos, nat_abs, ◌+ℤ◌, ◌-ℤ◌, ◌*ℤ◌}
 use mir.Syntax.{w64}
 use mir.Val.{to_z, of_z}
-use Rattle.integer.specs.laws.IntegerLaws.{int}
-use Rattle.integer.specs.Bits.{Holds, holds-ok, holds_as, known, got}
+use Rattle.integer.proofs.laws.IntegerLaws.{int}
+use Rattle.integer.proofs.Bits.{Holds, holds-ok, holds_as, known, got}
 use Rattle.integer.specs.Below.{fold, sum_ℤ}
-use Rattle.integer.specs.laws.BelowLaws.{fold-suc}
+use Rattle.integer.proofs.laws.BelowLaws.{fold-suc}
 use Rattle.integer.specs.Words.{word}
 use Rattle.rulebook.specs.Units.{as_quantity}
 use Rattle.rulebook.specs.DayAmount.{tender_amount}
-use Rattle.rulebook.specs.laws.SizeLaws.{tender-size, tenders-size}
+use Rattle.rulebook.proofs.laws.SizeLaws.{tender-size, tenders-size}
 use Rattle.amounts.specs.Cell.{cell_data}
 use Rattle.amounts.proofs.cell.tender_amount.Statement.{statement}
 use Rattle.amounts.proofs.cell.tender_amount.Tie as tie

@@ -7,13 +7,13 @@ use borrow.Author.Rules.{rules}
 use lib.IntN.{ℤ, pos, nat_abs, ◌-ℤ◌, ◌*ℤ◌}
 use mir.Syntax.{w64}
 use mir.Val.{to_z, of_z}
-use Rattle.integer.specs.Bits.{got}
+use Rattle.integer.proofs.Bits.{got}
 use Rattle.integer.specs.Words.{word}
 use Rattle.rulebook.specs.Units.{as_quantity}
 use Rattle.rulebook.specs.DayAmount.{reference_price_of, tender_amount, vesting_amount}
-use Rattle.rulebook.specs.laws.SizeLaws.{price-sized, base-size, tender-amount_size}
+use Rattle.rulebook.proofs.laws.SizeLaws.{price-sized, base-size, tender-amount_size}
 use Rattle.amounts.specs.Cell.{cell_data}
-use Rattle.amounts.specs.laws.CellLaws.{priced-cong, sum_cong}
+use Rattle.amounts.proofs.laws.CellLaws.{priced-cong, sum_cong}
 use Rattle.amounts.proofs.cell.vesting_amount.Statement.{statement}
 use Rattle.amounts.proofs.cell.vesting_amount.Tie as tie
 

@@ -8,13 +8,13 @@ use borrow.Author.Rules.{rules}
 use lib.IntN.{ℤ, nat_abs, ◌+ℤ◌, +ℤ_idr}
 use mir.Syntax.{w64}
 use mir.Val.{to_z, of_z}
-use Rattle.integer.specs.Bits.{got}
+use Rattle.integer.proofs.Bits.{got}
 use Rattle.rulebook.specs.DayAmount.{reference_price_of, vesting_amount, share_amount}
-use Rattle.rulebook.specs.laws.SizeLaws.{price-sized, vesting-size}
+use Rattle.rulebook.proofs.laws.SizeLaws.{price-sized, vesting-size}
 use Rattle.amounts.specs.Cell.{cell_data}
 use Rattle.amounts.specs.Day.{cell_residual, amount_at}
-use Rattle.amounts.specs.laws.CellLaws.{sum_cong}
-use Rattle.amounts.specs.laws.DayLaws.{cell-residual_le}
+use Rattle.amounts.proofs.laws.CellLaws.{sum_cong}
+use Rattle.amounts.proofs.laws.DayLaws.{cell-residual_le}
 use Rattle.amounts.proofs.day.amount_at.Statement.{statement}
 use Rattle.amounts.proofs.day.amount_at.Tie as tie
 

@@ -55,7 +55,7 @@ use Rattle.amounts.specs.declared.total.DayTotal.{DayTotal}
 use Rattle.amounts.specs.declared.shares.DayShares.{DayShares}
 use Rattle.amounts.specs.Total.{absorbed}
 use Rattle.amounts.specs.Day.{DaysRanged, SharesRanged, slot_amount, total_to}
-use Rattle.amounts.specs.laws.DayLaws.{total-zero, total-suc, total-room}
+use Rattle.amounts.proofs.laws.DayLaws.{total-zero, total-suc, total-room}
 use Rattle.amounts.specs.contracts.total.DayTotal as T
 use Rattle.amounts.proofs.total.DayTotal.TheLaws as T'
 use Rattle.amounts.specs.contracts.shares.DayShares as R

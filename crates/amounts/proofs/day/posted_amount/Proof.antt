@@ -7,12 +7,12 @@ use lib.IntN.{ℤ, nat_abs}
 use mir.Syntax.{w64}
 use mir.Val.{SFits}
 use mir.Facts.{to_z-of_z}
-use Rattle.integer.specs.laws.IntegerLaws.{int, fits-abs}
-use Rattle.integer.specs.Bits.{got, known}
+use Rattle.integer.proofs.laws.IntegerLaws.{int, fits-abs}
+use Rattle.integer.proofs.Bits.{got, known}
 use Rattle.rulebook.specs.Units.{intervals, nearest, thousandths_per_cent}
 use Rattle.amounts.specs.declared.total.DayTotal.{DayTotal}
 use Rattle.amounts.specs.Day.{shares_posted, total_to}
-use Rattle.amounts.specs.laws.DayLaws.{total-le}
+use Rattle.amounts.proofs.laws.DayLaws.{total-le}
 use Rattle.amounts.proofs.day.posted_amount.Statement.{statement}
 use Rattle.amounts.proofs.day.posted_amount.Tie as tie
 

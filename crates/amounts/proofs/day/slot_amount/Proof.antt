@@ -7,10 +7,10 @@ use native.Mathlib.Omega.{arith}
 use borrow.Author.Rules.{rules}
 use lib.IntN.{ℤ}
 use lib.ListN.{length}
-use Rattle.integer.specs.Bits.{got}
+use Rattle.integer.proofs.Bits.{got}
 use Rattle.rulebook.specs.Layout.{cell_place, account_words}
 use Rattle.amounts.specs.Day.{amount_at, slot_amount}
-use Rattle.amounts.specs.laws.DayLaws.{lent-cell, cell-fits}
+use Rattle.amounts.proofs.laws.DayLaws.{lent-cell, cell-fits}
 use Rattle.amounts.proofs.day.slot_amount.Statement.{statement}
 use Rattle.amounts.proofs.day.slot_amount.Tie as tie
 

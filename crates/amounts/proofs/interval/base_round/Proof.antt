@@ -1,8 +1,8 @@
 -- `base_round` meets its contract: a round at BVQ from 0 is the report's first figure.
 use native.Mathlib.Omega.{arith}
-use Rattle.rulebook.specs.laws.ReportLaws.{report-base}
+use Rattle.rulebook.proofs.laws.ReportLaws.{report-base}
 use Rattle.amounts.specs.Interval.{data_in}
-use Rattle.amounts.specs.laws.IntervalLaws.{bvq-word}
+use Rattle.amounts.proofs.laws.IntervalLaws.{bvq-word}
 use Rattle.amounts.proofs.interval.base_round.Statement.{statement}
 use Rattle.amounts.proofs.interval.base_round.Tie as tie
 

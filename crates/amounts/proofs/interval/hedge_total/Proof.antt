@@ -1,7 +1,7 @@
 -- `hedge_total` meets its contract: the report's last figure is the hedge total.
 use mathlib.Core.Path.{ap, ◌∙◌}
 use borrow.Author.Rules.{rules}
-use Rattle.rulebook.specs.laws.ReportLaws.{report-total}
+use Rattle.rulebook.proofs.laws.ReportLaws.{report-total}
 use Rattle.amounts.specs.declared.interval.HedgeReport.{HedgeReport}
 use Rattle.amounts.specs.Interval.{data_in}
 use Rattle.amounts.proofs.interval.hedge_total.Statement.{statement}

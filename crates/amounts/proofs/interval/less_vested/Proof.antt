@@ -3,8 +3,8 @@ use borrow.Author.Rules.{rules}
 use lib.IntN.{pos, ◌-ℤ◌}
 use mir.Syntax.{w64}
 use mir.Val.{SFits, of_z}
-use Rattle.integer.specs.laws.IntegerLaws.{int}
-use Rattle.integer.specs.Bits.{Holds, holds, holds-ok, holds_as, fits_sub, op_fits, op_holds}
+use Rattle.integer.proofs.laws.IntegerLaws.{int}
+use Rattle.integer.proofs.Bits.{Holds, holds, holds-ok, holds_as, fits_sub, op_fits, op_holds}
 use Rattle.amounts.proofs.interval.less_vested.Statement.{statement}
 use Rattle.amounts.proofs.interval.less_vested.Tie as tie
 

@@ -6,12 +6,12 @@ use borrow.Author.Rules.{rules}
 use lib.IntN.{ℤ, pos, nat_abs, ◌-ℤ◌}
 use mir.Syntax.{w64}
 use mir.Val.{to_z, of_z}
-use Rattle.integer.specs.Bits.{got}
+use Rattle.integer.proofs.Bits.{got}
 use Rattle.rulebook.specs.DayAmount.{residual_load}
-use Rattle.rulebook.specs.laws.SizeLaws.{hedge_size}
+use Rattle.rulebook.proofs.laws.SizeLaws.{hedge_size}
 use Rattle.amounts.specs.declared.interval.ResidualAndSpare.{ResidualAndSpare}
 use Rattle.amounts.specs.Interval.{load_in, data_in}
-use Rattle.amounts.specs.laws.IntervalLaws.{data_sized, load-le, load_is}
+use Rattle.amounts.proofs.laws.IntervalLaws.{data_sized, load-le, load_is}
 use Rattle.amounts.proofs.interval.residual_at.Statement.{statement}
 use Rattle.amounts.proofs.interval.residual_at.Tie as tie
 

@@ -4,12 +4,12 @@ use Prim.Native.Nat.{ℕ, ◌+◌, ◌*◌, ◌-◌, ◌≤◌}
 use native.Mathlib.Omega.{arith}
 use borrow.Author.Rules.{rules}
 use Rattle.integer.specs.Below.{fold}
-use Rattle.integer.specs.laws.BelowLaws.{fold-suc}
+use Rattle.integer.proofs.laws.BelowLaws.{fold-suc}
 use Rattle.integer.specs.Words.{word}
 use Rattle.rulebook.specs.Units.{as_quantity}
 use Rattle.rulebook.specs.Layout.{cell_of}
 use Rattle.amounts.specs.Interval.{quantities_at}
-use Rattle.amounts.specs.laws.IntervalLaws.{interval-word}
+use Rattle.amounts.proofs.laws.IntervalLaws.{interval-word}
 use Rattle.amounts.proofs.interval.round_at.Statement.{statement}
 use Rattle.amounts.proofs.interval.round_at.Tie as tie
 

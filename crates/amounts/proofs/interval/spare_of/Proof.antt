@@ -1,7 +1,7 @@
 -- `spare_of` meets its contract: a round at UEGQ from 0 is S.
 use native.Mathlib.Omega.{arith}
 use Rattle.rulebook.specs.DayAmount.{spare_generation}
-use Rattle.amounts.specs.laws.IntervalLaws.{uegq-word}
+use Rattle.amounts.proofs.laws.IntervalLaws.{uegq-word}
 use Rattle.amounts.proofs.interval.spare_of.Statement.{statement}
 use Rattle.amounts.proofs.interval.spare_of.Tie as tie
 

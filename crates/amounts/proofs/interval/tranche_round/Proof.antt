@@ -1,8 +1,8 @@
 -- `tranche_round` meets its contract: a round at the tranche's TVQ takes the report's figure to the next.
 use native.Mathlib.Omega.{arith}
-use Rattle.rulebook.specs.laws.ReportLaws.{report-round}
+use Rattle.rulebook.proofs.laws.ReportLaws.{report-round}
 use Rattle.amounts.specs.Interval.{data_in}
-use Rattle.amounts.specs.laws.IntervalLaws.{tvq-word, report-le}
+use Rattle.amounts.proofs.laws.IntervalLaws.{tvq-word, report-le}
 use Rattle.amounts.proofs.interval.tranche_round.Statement.{statement}
 use Rattle.amounts.proofs.interval.tranche_round.Tie as tie
 

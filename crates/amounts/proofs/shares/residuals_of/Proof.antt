@@ -10,15 +10,15 @@ use mir.Syntax.{w64}
 use mir.Val.{SFits}
 use mir.Facts.{to_z-of_z}
 use Rattle.integer.specs.Below.{tabulate}
-use Rattle.integer.specs.laws.IntegerLaws.{int, fits-abs}
+use Rattle.integer.proofs.laws.IntegerLaws.{int, fits-abs}
 use Rattle.integer.specs.Words.{part, filled}
-use Rattle.integer.specs.laws.WordsLaws.{row_fits_lem, lent, filled-step, filled-whole}
+use Rattle.integer.proofs.laws.WordsLaws.{row_fits_lem, lent, filled-step, filled-whole}
 use Rattle.rulebook.specs.Units.{intervals}
 use Rattle.rulebook.specs.Layout.{interval_length, interval_of}
 use Rattle.amounts.specs.declared.interval.ResidualAndSpare.{ResidualAndSpare}
 use Rattle.amounts.specs.declared.shares.Residuals.{Residuals}
 use Rattle.amounts.specs.Interval.{residual_at}
-use Rattle.amounts.specs.laws.IntervalLaws.{residual-le}
+use Rattle.amounts.proofs.laws.IntervalLaws.{residual-le}
 use Rattle.amounts.specs.Day.{residuals_of}
 use Rattle.amounts.proofs.shares.residuals_of.Statement.{statement}
 use Rattle.amounts.proofs.shares.residuals_of.Tie as tie

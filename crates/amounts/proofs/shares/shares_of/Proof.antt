@@ -9,13 +9,13 @@ use mir.Syntax.{w64}
 use mir.Val.{SFits, to_z, of_z}
 use mir.Facts.{to_z-of_z}
 use Rattle.integer.specs.Below.{tabulate}
-use Rattle.integer.specs.laws.IntegerLaws.{int, fits-abs}
-use Rattle.integer.specs.Bits.{known}
+use Rattle.integer.proofs.laws.IntegerLaws.{int, fits-abs}
+use Rattle.integer.proofs.Bits.{known}
 use Rattle.integer.specs.Words.{word, filled}
-use Rattle.integer.specs.laws.WordsLaws.{filled-step, filled-whole}
+use Rattle.integer.proofs.laws.WordsLaws.{filled-step, filled-whole}
 use Rattle.rulebook.specs.Units.{intervals}
 use Rattle.rulebook.specs.Shares.{least_residual, share_by}
-use Rattle.rulebook.specs.laws.SecondShareLaws.{share-by_cap}
+use Rattle.rulebook.proofs.laws.SecondShareLaws.{share-by_cap}
 use Rattle.amounts.specs.declared.shares.DayShares.{DayShares}
 use Rattle.amounts.specs.Day.{residual_in, sum_in, share_in, shares_of}
 use Rattle.amounts.proofs.shares.shares_of.Statement.{statement}

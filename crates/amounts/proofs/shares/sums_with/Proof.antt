@@ -6,7 +6,7 @@ use native.Mathlib.Omega.{arith}
 use borrow.Author.Rules.{rules}
 use Rattle.integer.specs.Below.{tabulate}
 use Rattle.integer.specs.Words.{filled}
-use Rattle.integer.specs.laws.WordsLaws.{filled-step, filled-whole}
+use Rattle.integer.proofs.laws.WordsLaws.{filled-step, filled-whole}
 use Rattle.rulebook.specs.Units.{intervals}
 use Rattle.amounts.specs.declared.shares.RunningSums.{RunningSums}
 use Rattle.amounts.specs.Day.{uegq_in, sum_in, sums_with}

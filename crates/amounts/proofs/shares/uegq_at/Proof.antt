@@ -8,7 +8,7 @@ use lib.IntN.{ℤ}
 use lib.ListN.{length}
 use Rattle.rulebook.specs.Layout.{cell_place, account_words}
 use Rattle.amounts.specs.Cell.{cell_data}
-use Rattle.amounts.specs.laws.DayLaws.{lent-cell, cell-fits}
+use Rattle.amounts.proofs.laws.DayLaws.{lent-cell, cell-fits}
 use Rattle.amounts.proofs.shares.uegq_at.Statement.{statement}
 use Rattle.amounts.proofs.shares.uegq_at.Tie as tie
 

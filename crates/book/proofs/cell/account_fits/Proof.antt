@@ -2,7 +2,7 @@
 use borrow.Author.Rules.{rules}
 use Rattle.integer.specs.Below.{fold}
 use Rattle.rulebook.specs.WellFormed.{padding_zero, account_fits}
-use Rattle.opening.specs.laws.LoopLaws.{passed, left}
+use Rattle.opening.proofs.laws.LoopLaws.{passed, left}
 use Rattle.book.proofs.cell.account_fits.Statement.{statement}
 use Rattle.book.proofs.cell.account_fits.Tie as tie
 

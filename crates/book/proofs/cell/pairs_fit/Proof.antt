@@ -9,8 +9,8 @@ use Rattle.integer.specs.Words.{word}
 use Rattle.rulebook.specs.Units.{between}
 use Rattle.rulebook.specs.WellFormed.{is_zero}
 use Rattle.rulebook.specs.RowPairs.{row_pairs, pairs_fit}
-use Rattle.rulebook.specs.laws.RowPairLaws.{absent-is, no_rest}
-use Rattle.opening.specs.laws.LoopLaws.{passed, left}
+use Rattle.rulebook.proofs.laws.RowPairLaws.{absent-is, no_rest}
+use Rattle.opening.proofs.laws.LoopLaws.{passed, left}
 use Rattle.book.proofs.cell.pairs_fit.Statement.{statement}
 use Rattle.book.proofs.cell.pairs_fit.Tie as tie
 

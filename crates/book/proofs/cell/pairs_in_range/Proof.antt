@@ -8,7 +8,7 @@ use Rattle.integer.specs.Below.{fold, all}
 use Rattle.integer.specs.Words.{word}
 use Rattle.rulebook.specs.Units.{in_range}
 use Rattle.rulebook.specs.RowPairs.{row_pairs, pairs_in_range}
-use Rattle.opening.specs.laws.LoopLaws.{all_step}
+use Rattle.opening.proofs.laws.LoopLaws.{all_step}
 use Rattle.book.proofs.cell.pairs_in_range.Statement.{statement}
 use Rattle.book.proofs.cell.pairs_in_range.Tie as tie
 

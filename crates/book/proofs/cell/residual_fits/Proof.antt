@@ -1,7 +1,7 @@
 -- `residual_fits` meets its contract: by `residual-is` the row fits exactly if its flag and its two pairs do.
 use borrow.Author.Rules.{rules}
-use Rattle.opening.specs.laws.LoopLaws.{passed, left}
-use Rattle.book.specs.laws.RowLaws.{residual-is}
+use Rattle.opening.proofs.laws.LoopLaws.{passed, left}
+use Rattle.book.proofs.laws.RowLaws.{residual-is}
 use Rattle.book.proofs.cell.residual_fits.Statement.{statement}
 use Rattle.book.proofs.cell.residual_fits.Tie as tie
 

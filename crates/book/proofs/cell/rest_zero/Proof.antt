@@ -7,11 +7,11 @@ use borrow.Author.Rules.{rules}
 use lib.IntN.{pos}
 use lib.Signed.{lt_z}
 use Rattle.integer.specs.Below.{fold, all}
-use Rattle.integer.specs.Bits.{holds-nat}
+use Rattle.integer.proofs.Bits.{holds-nat}
 use Rattle.integer.specs.Words.{word}
 use Rattle.rulebook.specs.WellFormed.{is_zero}
 use Rattle.rulebook.specs.RowPairs.{row_pairs, rest_zero}
-use Rattle.opening.specs.laws.LoopLaws.{all_step}
+use Rattle.opening.proofs.laws.LoopLaws.{all_step}
 use Rattle.book.proofs.cell.rest_zero.Statement.{statement}
 use Rattle.book.proofs.cell.rest_zero.Tie as tie
 

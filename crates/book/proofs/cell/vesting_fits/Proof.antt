@@ -3,7 +3,7 @@ use mathlib.Core.Path.{sym, ◌∙◌}
 use borrow.Author.Rules.{rules}
 use Rattle.integer.specs.Below.{fold}
 use Rattle.rulebook.specs.RowPairs.{pairs_in_range, rest_zero, pairs_fit}
-use Rattle.rulebook.specs.laws.RowPairLaws.{vesting-is}
+use Rattle.rulebook.proofs.laws.RowPairLaws.{vesting-is}
 use Rattle.book.proofs.cell.vesting_fits.Statement.{statement}
 use Rattle.book.proofs.cell.vesting_fits.Tie as tie
 

@@ -8,8 +8,8 @@ use Rattle.integer.specs.Below.{fold, all}
 use Rattle.integer.specs.Words.{word}
 use Rattle.rulebook.specs.Layout.{account_words, account_place}
 use Rattle.rulebook.specs.WellFormed.{account_fits}
-use Rattle.opening.specs.laws.LoopLaws.{all_step, length-lent}
-use Rattle.book.specs.laws.SlotLaws.{account-lent}
+use Rattle.opening.proofs.laws.LoopLaws.{all_step, length-lent}
+use Rattle.book.proofs.laws.SlotLaws.{account-lent}
 use Rattle.book.proofs.interval.accounts_fit.Statement.{statement}
 use Rattle.book.proofs.interval.accounts_fit.Tie as tie
 

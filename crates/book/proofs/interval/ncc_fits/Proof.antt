@@ -5,8 +5,8 @@ use borrow.Author.Rules.{rules}
 use Rattle.integer.specs.Below.{fold}
 use Rattle.integer.specs.Words.{word}
 use Rattle.rulebook.specs.WellFormed.{is_zero, padding_zero, ncc_fits}
-use Rattle.opening.specs.laws.LoopLaws.{passed, left}
-use Rattle.book.specs.laws.RowLaws.{ncc-is}
+use Rattle.opening.proofs.laws.LoopLaws.{passed, left}
+use Rattle.book.proofs.laws.RowLaws.{ncc-is}
 use Rattle.book.proofs.interval.ncc_fits.Statement.{statement}
 use Rattle.book.proofs.interval.ncc_fits.Tie as tie
 

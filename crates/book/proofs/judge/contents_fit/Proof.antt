@@ -4,12 +4,12 @@ use Prim.Native.Nat.{ℕ, ◌+◌, ◌-◌, ◌*◌}
 use native.Mathlib.Nat.{add-sub_cancel_left}
 use native.Mathlib.Omega.{arith}
 use borrow.Author.Rules.{rules}
-use Rattle.integer.specs.laws.WordsLaws.{lent}
+use Rattle.integer.proofs.laws.WordsLaws.{lent}
 use Rattle.rulebook.specs.Layout.{slot_length, ring}
 use Rattle.rulebook.specs.WellFormed.{days_fit, contents_fit}
-use Rattle.opening.specs.laws.HeaderLaws.{header-inside}
-use Rattle.opening.specs.laws.LoopLaws.{length-lent}
-use Rattle.book.specs.laws.WalkLaws.{size-by_slots, slots-are_days}
+use Rattle.opening.proofs.laws.HeaderLaws.{header-inside}
+use Rattle.opening.proofs.laws.LoopLaws.{length-lent}
+use Rattle.book.proofs.laws.WalkLaws.{size-by_slots, slots-are_days}
 use Rattle.book.proofs.judge.contents_fit.Statement.{statement}
 use Rattle.book.proofs.judge.contents_fit.Tie as tie
 

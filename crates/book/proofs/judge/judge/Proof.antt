@@ -8,9 +8,9 @@ use Rattle.rulebook.specs.BookData.{terms_of}
 use Rattle.rulebook.specs.Layout.{size}
 use Rattle.rulebook.specs.WellFormed.{well_formed}
 use Rattle.rulebook.specs.declared.Terms.{Terms}
-use Rattle.opening.specs.laws.HeaderLaws.{header-true}
-use Rattle.opening.specs.laws.LoopLaws.{passed, left}
-use Rattle.book.specs.laws.JudgeLaws.{header-left, length-left, size-left, contents_left}
+use Rattle.opening.proofs.laws.HeaderLaws.{header-true}
+use Rattle.opening.proofs.laws.LoopLaws.{passed, left}
+use Rattle.book.proofs.laws.JudgeLaws.{header-left, length-left, size-left, contents_left}
 use Rattle.book.specs.Judged.{judged_book}
 use Rattle.book.proofs.judge.judge.Statement.{statement}
 use Rattle.book.proofs.judge.judge.Tie as tie

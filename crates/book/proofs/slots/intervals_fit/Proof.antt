@@ -9,13 +9,13 @@ use borrow.Author.Rules.{rules}
 use lib.IntN.{ℤ}
 use lib.ListN.{take, drop}
 use Rattle.integer.specs.Below.{fold, all}
-use Rattle.integer.specs.laws.WordsLaws.{row_fits_lem}
+use Rattle.integer.proofs.laws.WordsLaws.{row_fits_lem}
 use Rattle.integer.specs.Words.{word}
 use Rattle.rulebook.specs.Units.{intervals}
 use Rattle.rulebook.specs.Layout.{interval_length}
 use Rattle.rulebook.specs.WellFormed.{interval_fits}
-use Rattle.opening.specs.laws.LoopLaws.{all_step, length-lent}
-use Rattle.book.specs.laws.SlotLaws.{interval-lent}
+use Rattle.opening.proofs.laws.LoopLaws.{all_step, length-lent}
+use Rattle.book.proofs.laws.SlotLaws.{interval-lent}
 use Rattle.book.specs.Parts.{intervals_fit}
 use Rattle.book.proofs.slots.intervals_fit.Statement.{statement}
 use Rattle.book.proofs.slots.intervals_fit.Tie as tie

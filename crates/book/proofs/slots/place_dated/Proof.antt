@@ -5,8 +5,8 @@ use borrow.Author.Tests.{le-leb}
 use Rattle.rulebook.specs.Layout.{ring}
 use Rattle.rulebook.specs.Units.{last_day}
 use Rattle.rulebook.specs.WindowWalk.{place_dated}
-use Rattle.rulebook.specs.laws.TestLaws.{not_ltb_is}
-use Rattle.rulebook.specs.laws.WalkLaws.{place-early}
+use Rattle.rulebook.proofs.laws.TestLaws.{not_ltb_is}
+use Rattle.rulebook.proofs.laws.WalkLaws.{place-early}
 use Rattle.book.proofs.slots.place_dated.Statement.{statement}
 use Rattle.book.proofs.slots.place_dated.Tie as tie
 

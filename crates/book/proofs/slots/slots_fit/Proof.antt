@@ -9,12 +9,12 @@ use lib.Dec.{ltb}
 use lib.IntN.{ℤ}
 use lib.ListN.{length}
 use Rattle.integer.specs.Below.{fold, all}
-use Rattle.integer.specs.laws.WordsLaws.{row_fits_lem, lent}
+use Rattle.integer.proofs.laws.WordsLaws.{row_fits_lem, lent}
 use Rattle.integer.specs.Words.{part}
 use Rattle.rulebook.specs.Layout.{slot_length, ring}
 use Rattle.rulebook.specs.declared.Terms.{Terms}
 use Rattle.rulebook.specs.WindowWalk.{window_place, place_dated}
-use Rattle.opening.specs.laws.LoopLaws.{all_step, length-lent}
+use Rattle.opening.proofs.laws.LoopLaws.{all_step, length-lent}
 use Rattle.book.specs.Parts.{slot_fits}
 use Rattle.book.specs.Slots.{slots_fit}
 use Rattle.book.proofs.slots.slots_fit.Statement.{statement}

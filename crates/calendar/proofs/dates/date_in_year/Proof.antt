@@ -5,8 +5,8 @@ use Prim.Native.Nat.{◌+◌, ◌-◌, ◌≤◌, ◌<◌}
 use borrow.Author.Rules.{rules}
 use native.Mathlib.Omega.{arith}
 use Rattle.calendar.specs.Calendar.{date_accepted, days_before_month, days_in_month}
-use Rattle.calendar.specs.laws.YearLaws.{january, days_in_year-range, days_before_month-within, days_before_month-suc, december}
-use Rattle.calendar.specs.laws.DateLaws.{date_of-in_year}
+use Rattle.calendar.proofs.laws.YearLaws.{january, days_in_year-range, days_before_month-within, days_before_month-suc, december}
+use Rattle.calendar.proofs.laws.DateLaws.{date_of-in_year}
 use Rattle.calendar.proofs.dates.date_in_year.Statement.{statement}
 use Rattle.calendar.proofs.dates.date_in_year.Tie as tie
 

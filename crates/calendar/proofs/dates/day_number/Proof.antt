@@ -2,7 +2,7 @@
 use borrow.Author.Rules.{rules}
 use native.Mathlib.Omega.{arith}
 use Rattle.calendar.specs.Calendar.{day_of}
-use Rattle.calendar.specs.laws.YearLaws.{days_before_year-closed, days_in_year-range, days_before_month-within}
+use Rattle.calendar.proofs.laws.YearLaws.{days_before_year-closed, days_in_year-range, days_before_month-within}
 use Rattle.calendar.proofs.dates.day_number.Statement.{statement}
 use Rattle.calendar.proofs.dates.day_number.Tie as tie
 

@@ -4,7 +4,7 @@ use Prim.Native.Nat.{◌-◌, ◌≤◌}
 use borrow.Author.Rules.{rules}
 use native.Mathlib.Omega.{arith}
 use Rattle.calendar.specs.Calendar.{days_before_month}
-use Rattle.calendar.specs.laws.YearLaws.{january, days_in_year-range, days_before_month-within, days_before_month-suc}
+use Rattle.calendar.proofs.laws.YearLaws.{january, days_in_year-range, days_before_month-within, days_before_month-suc}
 use Rattle.calendar.proofs.dates.days_before_month.Statement.{statement}
 use Rattle.calendar.proofs.dates.days_before_month.Tie as tie
 

@@ -1,7 +1,7 @@
 -- `days_before_year` meets its contract: the sum over the years, closed.
 use mathlib.Core.Path.{sym}
 use borrow.Author.Rules.{rules}
-use Rattle.calendar.specs.laws.YearLaws.{days_before_year-closed}
+use Rattle.calendar.proofs.laws.YearLaws.{days_before_year-closed}
 use Rattle.calendar.proofs.dates.days_before_year.Statement.{statement}
 use Rattle.calendar.proofs.dates.days_before_year.Tie as tie
 

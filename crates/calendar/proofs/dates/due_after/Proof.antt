@@ -3,7 +3,7 @@ use borrow.Author.Rules.{rules}
 use native.Mathlib.Omega.{arith}
 use borrow.Author.Tests.{lt-ltb, le-ltb}
 use Rattle.calendar.specs.Calendar.{due_after}
-use Rattle.calendar.specs.laws.DateLaws.{of_is_month}
+use Rattle.calendar.proofs.laws.DateLaws.{of_is_month}
 use Rattle.calendar.proofs.dates.due_after.Statement.{statement}
 use Rattle.calendar.proofs.dates.due_after.Tie as tie
 

@@ -2,7 +2,7 @@
 use Prim.Native.Nat.{ℕ, ◌+◌, ◌*◌, ◌-◌, ◌/◌, ◌%◌}
 use borrow.Author.Rules.{rules}
 use native.Mathlib.Omega.{arith}
-use Rattle.calendar.specs.laws.YearLaws.{days_before_year-closed, days_before_year-suc}
+use Rattle.calendar.proofs.laws.YearLaws.{days_before_year-closed, days_before_year-suc}
 use Rattle.calendar.proofs.dates.year_of.Statement.{statement}
 use Rattle.calendar.proofs.dates.year_of.Tie as tie
 

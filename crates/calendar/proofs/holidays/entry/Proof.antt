@@ -3,7 +3,7 @@ use mathlib.Core.Path.{ap, ◌∙◌}
 use borrow.Author.Rules.{rules}
 use Rattle.integer.specs.Integer.{positive}
 use Rattle.integer.specs.Words.{word}
-use Rattle.integer.specs.Bits.{got}
+use Rattle.integer.proofs.Bits.{got}
 use Rattle.calendar.proofs.holidays.entry.Statement.{statement}
 use Rattle.calendar.proofs.holidays.entry.Tie as tie
 

@@ -1,7 +1,7 @@
 -- `first_from` meets its contract. The invariant: the entries below low lie before the day, those from high on do not. The list ascends, so the entry in the middle settles one half. The measure is high - low.
 use Prim.Native.Nat.{ℕ, ◌+◌, ◌-◌, ◌/◌}
 use native.Mathlib.Omega.{arith}
-use Rattle.calendar.specs.laws.HolidayLaws.{Bracket, bracket_start, bracket_up, bracket_down, bracket_end}
+use Rattle.calendar.proofs.laws.HolidayLaws.{Bracket, bracket_start, bracket_up, bracket_down, bracket_end}
 use Rattle.calendar.proofs.holidays.first_from.Statement.{statement}
 use Rattle.calendar.proofs.holidays.first_from.Tie as tie
 

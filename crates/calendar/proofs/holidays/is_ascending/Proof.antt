@@ -7,7 +7,7 @@ use borrow.Author.Rules.{rules}
 use borrow.Author.Tests.{not-true, not-false}
 use lib.ListN.{length}
 use Rattle.integer.specs.Below.{fold, all}
-use Rattle.integer.specs.laws.BelowLaws.{all_more, all_fails}
+use Rattle.integer.proofs.laws.BelowLaws.{all_more, all_fails}
 use Rattle.calendar.specs.Calendar.{is_later}
 use Rattle.calendar.proofs.holidays.is_ascending.Statement.{statement}
 use Rattle.calendar.proofs.holidays.is_ascending.Tie as tie

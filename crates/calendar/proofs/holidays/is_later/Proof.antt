@@ -5,7 +5,7 @@ use borrow.Author.Tests.{ne_eqb}
 use borrow.Author.Rules.{rules}
 use lib.Signed.{lt_z}
 use Rattle.integer.specs.Words.{word}
-use Rattle.integer.specs.Bits.{got}
+use Rattle.integer.proofs.Bits.{got}
 use Rattle.calendar.proofs.holidays.is_later.Statement.{statement}
 use Rattle.calendar.proofs.holidays.is_later.Tie as tie
 

@@ -2,7 +2,7 @@
 use mathlib.Core.Path.{sym, ap, ◌∙◌}
 use borrow.Author.Rules.{rules}
 use lib.Dec.{eqb}
-use Rattle.calendar.specs.laws.HolidayLaws.{listed-is, none_listed}
+use Rattle.calendar.proofs.laws.HolidayLaws.{listed-is, none_listed}
 use Rattle.calendar.proofs.holidays.is_listed.Statement.{statement}
 use Rattle.calendar.proofs.holidays.is_listed.Tie as tie
 

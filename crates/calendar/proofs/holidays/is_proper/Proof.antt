@@ -6,10 +6,10 @@ use borrow.Author.Tests.{not-true, not-false, eqb-true}
 use borrow.Author.Rules.{rules}
 use lib.ListN.{length}
 use Rattle.integer.specs.Below.{fold}
-use Rattle.integer.specs.Bits.{got}
+use Rattle.integer.proofs.Bits.{got}
 use Rattle.integer.specs.Words.{word}
 use Rattle.calendar.specs.Calendar.{is_day, is_proper}
-use Rattle.calendar.specs.laws.HolidayLaws.{proper_by_ends}
+use Rattle.calendar.proofs.laws.HolidayLaws.{proper_by_ends}
 use Rattle.calendar.proofs.holidays.is_proper.Statement.{statement}
 use Rattle.calendar.proofs.holidays.is_proper.Tie as tie
 

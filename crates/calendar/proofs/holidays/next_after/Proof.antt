@@ -2,7 +2,7 @@
 use mathlib.Core.Path.{sym, ◌∙◌}
 use native.Mathlib.Omega.{arith}
 use borrow.Author.Rules.{rules}
-use Rattle.calendar.specs.laws.HolidayLaws.{next_up, next_same}
+use Rattle.calendar.proofs.laws.HolidayLaws.{next_up, next_same}
 use Rattle.calendar.proofs.holidays.next_after.Statement.{statement}
 use Rattle.calendar.proofs.holidays.next_after.Tie as tie
 

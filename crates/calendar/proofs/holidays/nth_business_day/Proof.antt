@@ -7,7 +7,7 @@ use borrow.Author.Rules.{rules}
 use Rattle.rulebook.specs.Units.{last_day}
 use Rattle.calendar.specs.Calendar.{is_business_day, days_after}
 use Rattle.calendar.specs.Steps.{FirstFrom}
-use Rattle.calendar.specs.laws.BusinessLaws.{days_after-none, days_after-suc, days_after-mono, nth_here, nth-found, nth-none}
+use Rattle.calendar.proofs.laws.BusinessLaws.{days_after-none, days_after-suc, days_after-mono, nth_here, nth-found, nth-none}
 use Rattle.calendar.proofs.holidays.nth_business_day.Statement.{statement}
 use Rattle.calendar.proofs.holidays.nth_business_day.Tie as tie
 

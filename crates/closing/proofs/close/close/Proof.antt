@@ -1,7 +1,7 @@
 -- `close` meets its contract: the promise goes by what the judge says of the book.
 use mathlib.Core.Path.{sym, ◌∙◌}
-use Rattle.book.specs.laws.JudgedLaws.{book-ill}
-use Rattle.closing.specs.laws.CloseLaws.{ill_formed}
+use Rattle.book.proofs.laws.JudgedLaws.{book-ill}
+use Rattle.closing.proofs.laws.CloseLaws.{ill_formed}
 use borrow.Author.Rules.{rules}
 use Rattle.closing.proofs.close.close.Statement.{statement}
 use Rattle.closing.proofs.close.close.Tie as tie

@@ -2,8 +2,8 @@
 use mathlib.Core.Path.{sym, ◌∙◌}
 use native.Mathlib.Omega.{arith}
 use Rattle.book.specs.Judged.{Formed}
-use Rattle.book.specs.laws.JudgedLaws.{book-formed}
-use Rattle.closing.specs.laws.CloseLaws.{finished, no_room, missing}
+use Rattle.book.proofs.laws.JudgedLaws.{book-formed}
+use Rattle.closing.proofs.laws.CloseLaws.{finished, no_room, missing}
 use borrow.Author.Rules.{rules}
 use Rattle.closing.proofs.close.close_day.Statement.{statement}
 use Rattle.closing.proofs.close.close_day.Tie as tie

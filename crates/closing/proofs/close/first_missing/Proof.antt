@@ -8,8 +8,8 @@ use lib.IntN.{ℤ}
 use Rattle.rulebook.specs.Layout.{slot_start}
 use Rattle.closing.specs.Search.{first_absent}
 use Rattle.closing.specs.Slots.{then_day}
-use Rattle.closing.specs.laws.SlotsLaws.{slot-sized, then_late}
-use Rattle.closing.specs.laws.SearchSameLaws.{search-same}
+use Rattle.closing.proofs.laws.SlotsLaws.{slot-sized, then_late}
+use Rattle.closing.proofs.laws.SearchSameLaws.{search-same}
 use borrow.Author.Rules.{rules}
 use Rattle.closing.proofs.close.first_missing.Statement.{statement}
 use Rattle.closing.proofs.close.first_missing.Tie as tie

@@ -5,10 +5,10 @@ use lib.ListN.{set}
 use mir.Syntax.{w64}
 use mir.Val.{to_z, of_z}
 use mir.Facts.{to_z-of_z}
-use Rattle.integer.specs.Bits.{got, known}
-use Rattle.integer.specs.laws.IntegerLaws.{int}
+use Rattle.integer.proofs.Bits.{got, known}
+use Rattle.integer.proofs.laws.IntegerLaws.{int}
 use Rattle.integer.specs.Words.{word}
-use Rattle.amounts.specs.laws.CellLaws.{sum_cong}
+use Rattle.amounts.proofs.laws.CellLaws.{sum_cong}
 use Rattle.closing.proofs.ledger.grow.Statement.{statement}
 use Rattle.closing.proofs.ledger.grow.Tie as tie
 

@@ -5,11 +5,11 @@ use native.Mathlib.Omega.{arith}
 use lib.ListN.{length}
 use mir.Syntax.{w64}
 use mir.Val.{to_z, of_z}
-use Rattle.integer.specs.Bits.{got}
+use Rattle.integer.proofs.Bits.{got}
 use Rattle.integer.specs.Words.{word}
 use Rattle.rulebook.specs.Layout.{balance_word}
 use Rattle.rulebook.specs.Close.{balances_grown_by}
-use Rattle.closing.specs.laws.WrittenLaws.{grown-none, grown-next, grown-step}
+use Rattle.closing.proofs.laws.WrittenLaws.{grown-none, grown-next, grown-step}
 use Rattle.closing.proofs.ledger.grow_balances.Statement.{statement}
 use Rattle.closing.proofs.ledger.grow_balances.Tie as tie
 

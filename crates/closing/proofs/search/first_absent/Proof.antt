@@ -9,15 +9,15 @@ use lib.IntN.{ℤ}
 use lib.ListN.{length}
 use Rattle.integer.specs.declared.Found.{Found}
 use Rattle.integer.specs.Below.{fold, first}
-use Rattle.integer.specs.laws.BelowLaws.{first_more, first_stops}
-use Rattle.integer.specs.laws.WordsLaws.{row_fits_lem}
+use Rattle.integer.proofs.laws.BelowLaws.{first_more, first_stops}
+use Rattle.integer.proofs.laws.WordsLaws.{row_fits_lem}
 use Rattle.rulebook.specs.declared.Section.TheVariants.{Residual}
 use Rattle.rulebook.specs.Units.{intervals}
 use Rattle.rulebook.specs.Layout.{interval_words, account_words, interval_length, flag_at}
 use Rattle.rulebook.specs.Close.{absent_at, account_searched, residuals_searched}
-use Rattle.rulebook.specs.laws.SearchLaws.{absent-here, absent-not}
+use Rattle.rulebook.proofs.laws.SearchLaws.{absent-here, absent-not}
 use Rattle.closing.specs.Search.{flag_absent, absent_in, first_absent}
-use Rattle.closing.specs.laws.SearchLaws.{or_first, or_second, passed, passed-due, stops-account, stops-residuals}
+use Rattle.closing.proofs.laws.SearchLaws.{or_first, or_second, passed, passed-due, stops-account, stops-residuals}
 use Rattle.closing.proofs.search.first_absent.Statement.{statement}
 use Rattle.closing.proofs.search.first_absent.Tie as tie
 

@@ -5,11 +5,11 @@ use native.Mathlib.Omega.{arith}
 use lib.IntN.{pos, ◌+ℤ◌}
 use mir.Syntax.{w64}
 use mir.Val.{to_z, of_z}
-use Rattle.integer.specs.Bits.{Holds, holds-ok, holds_as, got}
+use Rattle.integer.proofs.Bits.{Holds, holds-ok, holds_as, got}
 use Rattle.integer.specs.Below.{fold, sum_ℤ}
-use Rattle.integer.specs.laws.BelowLaws.{fold-suc}
+use Rattle.integer.proofs.laws.BelowLaws.{fold-suc}
 use Rattle.integer.specs.Words.{word}
-use Rattle.closing.specs.laws.WrittenLaws.{amounts-le}
+use Rattle.closing.proofs.laws.WrittenLaws.{amounts-le}
 use Rattle.closing.proofs.statement.amounts_sum.Statement.{statement}
 use Rattle.closing.proofs.statement.amounts_sum.Tie as tie
 

@@ -6,11 +6,11 @@ use lib.IntN.{ℤ, pos, neg_ℤ, nat_abs, ◌-ℤ◌, +ℤ_idl}
 use mir.Syntax.{w64}
 use mir.Val.{SFits, to_z, of_z}
 use mir.Facts.{to_z-of_z}
-use Rattle.integer.specs.laws.IntegerLaws.{fits-abs, abs_neg}
-use Rattle.integer.specs.Bits.{got}
+use Rattle.integer.proofs.laws.IntegerLaws.{fits-abs, abs_neg}
+use Rattle.integer.proofs.Bits.{got}
 use Rattle.integer.specs.Below.{sum_ℤ}
 use Rattle.integer.specs.Words.{word}
-use Rattle.closing.specs.laws.WrittenLaws.{amounts-le}
+use Rattle.closing.proofs.laws.WrittenLaws.{amounts-le}
 use Rattle.closing.proofs.statement.mssl_amount.Statement.{statement}
 use Rattle.closing.proofs.statement.mssl_amount.Tie as tie
 

@@ -5,13 +5,13 @@ use native.Mathlib.Numerals.{add-one}
 use native.Mathlib.Omega.{arith}
 use borrow.Author.Rules.{rules}
 use lib.ListN.{length}
-use Rattle.integer.specs.Bits.{got}
+use Rattle.integer.proofs.Bits.{got}
 use Rattle.integer.specs.Words.{filled}
-use Rattle.integer.specs.laws.WordsLaws.{filled_zero, filled-step}
+use Rattle.integer.proofs.laws.WordsLaws.{filled_zero, filled-step}
 use Rattle.amounts.specs.declared.shares.RunningSums.{RunningSums}
 use Rattle.amounts.specs.declared.shares.DayShares.{DayShares}
 use Rattle.amounts.specs.Day.{SumsRanged, SharesRanged, sums_if, sums_before, shares_if, shares_in, shares_posted, slot_posted}
-use Rattle.amounts.specs.laws.DayLaws.{sums-ranged, shares-ranged}
+use Rattle.amounts.proofs.laws.DayLaws.{sums-ranged, shares-ranged}
 use Rattle.closing.proofs.statement.post_amounts.Statement.{statement}
 use Rattle.closing.proofs.statement.post_amounts.Tie as tie
 

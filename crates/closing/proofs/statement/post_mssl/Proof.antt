@@ -1,7 +1,7 @@
 -- `post_mssl` meets its contract.
 use mathlib.Core.Path.{ap, ◌∙◌}
 use lib.ListN.{set}
-use Rattle.integer.specs.Bits.{got}
+use Rattle.integer.proofs.Bits.{got}
 use Rattle.closing.specs.Written.{with_mssl}
 use borrow.Author.Rules.{rules}
 use Rattle.closing.proofs.statement.post_mssl.Statement.{statement}

@@ -6,8 +6,8 @@ use borrow.Author.Tests.{leb-true}
 use Rattle.rulebook.specs.DayAmount.{settles_residual}
 use Rattle.rulebook.specs.Layout.{size}
 use Rattle.rulebook.specs.Close.{slot_blanked}
-use Rattle.closing.specs.laws.SlotsLaws.{slot-sized}
-use Rattle.closing.specs.laws.SettlingLaws.{slot-blanked}
+use Rattle.closing.proofs.laws.SlotsLaws.{slot-sized}
+use Rattle.closing.proofs.laws.SettlingLaws.{slot-blanked}
 use borrow.Author.Rules.{rules}
 use Rattle.closing.proofs.write.blank_settled.Statement.{statement}
 use Rattle.closing.proofs.write.blank_settled.Tie as tie

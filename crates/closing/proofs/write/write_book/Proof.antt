@@ -7,11 +7,11 @@ use lib.IntN.{ℤ, pos, ◌+ℤ◌}
 use lib.ListN.{set}
 use mir.Syntax.{w64}
 use mir.Val.{to_z, of_z}
-use Rattle.integer.specs.Bits.{got}
+use Rattle.integer.proofs.Bits.{got}
 use Rattle.integer.specs.Words.{word}
 use Rattle.rulebook.specs.Layout.{mssl_word, next_day_word}
 use Rattle.rulebook.specs.Close.{slot_blanked}
-use Rattle.closing.specs.laws.SettlingLaws.{balances-room, credit-room, book-same}
+use Rattle.closing.proofs.laws.SettlingLaws.{balances-room, credit-room, book-same}
 use borrow.Author.Rules.{rules}
 use Rattle.closing.proofs.write.write_book.Statement.{statement}
 use Rattle.closing.proofs.write.write_book.Tie as tie

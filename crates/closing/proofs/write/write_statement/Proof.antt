@@ -7,16 +7,16 @@ use native.Mathlib.Omega.{arith}
 use lib.IntN.{ℤ}
 use lib.ListN.{length, take, drop}
 use Rattle.integer.specs.Words.{part, filled}
-use Rattle.integer.specs.laws.WordsLaws.{lent}
+use Rattle.integer.proofs.laws.WordsLaws.{lent}
 use Rattle.rulebook.specs.declared.Edition.{Edition}
 use Rattle.rulebook.specs.DayAmount.{settles_residual, edition_of}
 use Rattle.rulebook.specs.Layout.{slot_start}
 use Rattle.amounts.specs.declared.shares.Residuals.{Residuals}
 use Rattle.amounts.specs.Day.{DaysRanged, LoadsRanged, slot_posted}
 use Rattle.closing.specs.Slots.{slot_words, then_day, residuals_due}
-use Rattle.closing.specs.laws.SlotsLaws.{slot-sized, then_late}
+use Rattle.closing.proofs.laws.SlotsLaws.{slot-sized, then_late}
 use Rattle.closing.specs.Written.{Small, with_mssl}
-use Rattle.closing.specs.laws.SettlingLaws.{settling_ranged, settling_loads, amounts-small, amounts-room, statement-same}
+use Rattle.closing.proofs.laws.SettlingLaws.{settling_ranged, settling_loads, amounts-small, amounts-room, statement-same}
 use borrow.Author.Rules.{rules}
 use Rattle.closing.proofs.write.write_statement.Statement.{statement}
 use Rattle.closing.proofs.write.write_statement.Tie as tie

@@ -5,8 +5,8 @@ use native.Mathlib.Omega.{arith}
 use borrow.Author.Rules.{rules}
 use borrow.Fn.Kinds.{In}
 use borrow.Fn.PlainCycle.{Measures, is, falls, and}
-use Rattle.console.specs.laws.DecimalLaws.{decimal-small, decimal-large, length-decimal_small, length-decimal_large}
-use Rattle.console.specs.laws.WrittenLaws.{put_then}
+use Rattle.console.proofs.laws.DecimalLaws.{decimal-small, decimal-large, length-decimal_small, length-decimal_large}
+use Rattle.console.proofs.laws.WrittenLaws.{put_then}
 use Rattle.console.proofs.decimal.put_decimal.Reads as put-decimal
 use Rattle.console.proofs.decimal.put_decimal.Kinds as put-decimal-kinds
 use Rattle.console.proofs.decimal.+put_decimal.Lts-put_decimal as put-decimal-lts

@@ -1,6 +1,6 @@
 -- `put_byte` meets its contract: one byte is stored.
 use borrow.Author.Rules.{rules}
-use Rattle.console.specs.laws.WrittenLaws.{put_one}
+use Rattle.console.proofs.laws.WrittenLaws.{put_one}
 use Rattle.console.proofs.decimal.put_byte.Statement.{statement}
 use Rattle.console.proofs.decimal.put_byte.Tie as tie
 

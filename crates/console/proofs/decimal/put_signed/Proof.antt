@@ -6,11 +6,11 @@ use native.Mathlib.Omega.{arith}
 use borrow.Author.Rules.{rules}
 use lib.IntN.{nat_abs}
 use lib.ListN.{length}
-use Rattle.integer.specs.laws.IntegerLaws.{int}
-use Rattle.integer.specs.Bits.{known}
+use Rattle.integer.proofs.laws.IntegerLaws.{int}
+use Rattle.integer.proofs.Bits.{known}
 use Rattle.console.specs.Decimal.{decimal, minus_sign, signed_decimal}
-use Rattle.console.specs.laws.DecimalLaws.{signed-negative, signed-positive}
-use Rattle.console.specs.laws.WrittenLaws.{put_then}
+use Rattle.console.proofs.laws.DecimalLaws.{signed-negative, signed-positive}
+use Rattle.console.proofs.laws.WrittenLaws.{put_then}
 use Rattle.console.proofs.decimal.put_signed.Statement.{statement}
 use Rattle.console.proofs.decimal.put_signed.Tie as tie
 

@@ -1,7 +1,7 @@
 -- `file_whole` meets its contract: each test is one of the definition's.
 use borrow.Author.Rules.{rules}
 use mathlib.Core.Path.{sym}
-use Rattle.console.specs.laws.InputLaws.{whole-cut, whole_is}
+use Rattle.console.proofs.laws.InputLaws.{whole-cut, whole_is}
 use Rattle.console.proofs.input.file_whole.Statement.{statement}
 use Rattle.console.proofs.input.file_whole.Tie as tie
 

@@ -4,7 +4,7 @@ use mathlib.Core.Path.{◌≡◌, sym, ◌∙◌}
 use mathlib.Core.Bool.{true}
 use native.Mathlib.Omega.{arith}
 use Rattle.console.specs.Input.{file_whole}
-use Rattle.console.specs.laws.InputLaws.{item-end, item-close, item-unknown, item-cut, item-submit, whole_length}
+use Rattle.console.proofs.laws.InputLaws.{item-end, item-close, item-unknown, item-cut, item-submit, whole_length}
 use Rattle.console.proofs.input.item_of.Statement.{statement}
 use Rattle.console.proofs.input.item_of.Tie as tie
 

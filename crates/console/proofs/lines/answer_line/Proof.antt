@@ -1,8 +1,8 @@
 -- `answer_line` meets its contract: the word, two parts and the line feed, one after another.
 use borrow.Author.Rules.{rules}
 use Rattle.console.specs.Lines.{answer_line}
-use Rattle.console.specs.laws.LinesLaws.{line-two}
-use Rattle.console.specs.laws.WrittenLaws.{put_then}
+use Rattle.console.proofs.laws.LinesLaws.{line-two}
+use Rattle.console.proofs.laws.WrittenLaws.{put_then}
 use Rattle.console.proofs.lines.answer_line.Statement.{statement}
 use Rattle.console.proofs.lines.answer_line.Tie as tie
 

@@ -1,8 +1,8 @@
 -- `bad_line` meets its contract: the word, one part and the line feed, one after another.
 use borrow.Author.Rules.{rules}
 use Rattle.console.specs.Lines.{bad_line}
-use Rattle.console.specs.laws.LinesLaws.{line-one}
-use Rattle.console.specs.laws.WrittenLaws.{put_then}
+use Rattle.console.proofs.laws.LinesLaws.{line-one}
+use Rattle.console.proofs.laws.WrittenLaws.{put_then}
 use Rattle.console.proofs.lines.bad_line.Statement.{statement}
 use Rattle.console.proofs.lines.bad_line.Tie as tie
 

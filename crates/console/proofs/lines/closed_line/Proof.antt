@@ -1,8 +1,8 @@
 -- `closed_line` meets its contract: the word, three parts, the amounts and the line feed, one after another.
 use borrow.Author.Rules.{rules}
 use Rattle.console.specs.Lines.{closed_line}
-use Rattle.console.specs.laws.LinesLaws.{line-more}
-use Rattle.console.specs.laws.WrittenLaws.{put_then}
+use Rattle.console.proofs.laws.LinesLaws.{line-more}
+use Rattle.console.proofs.laws.WrittenLaws.{put_then}
 use Rattle.console.proofs.lines.closed_line.Statement.{statement}
 use Rattle.console.proofs.lines.closed_line.Tie as tie
 

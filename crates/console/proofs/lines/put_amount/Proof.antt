@@ -8,11 +8,11 @@ use lib.ListN.{length}
 use mir.Syntax.{w64}
 use mir.Val.{to_z, of_z}
 use mir.ValLaws.{to_z-of_z}
-use Rattle.integer.specs.laws.IntegerLaws.{int}
-use Rattle.integer.specs.Bits.{known}
+use Rattle.integer.proofs.laws.IntegerLaws.{int}
+use Rattle.integer.proofs.Bits.{known}
 use Rattle.console.specs.Decimal.{signed_decimal}
-use Rattle.console.specs.laws.DecimalLaws.{length-signed}
-use Rattle.console.specs.laws.WrittenLaws.{put_then}
+use Rattle.console.proofs.laws.DecimalLaws.{length-signed}
+use Rattle.console.proofs.laws.WrittenLaws.{put_then}
 use Rattle.console.proofs.lines.put_amount.Statement.{statement}
 use Rattle.console.proofs.lines.put_amount.Tie as tie
 

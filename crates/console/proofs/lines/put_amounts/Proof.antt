@@ -6,12 +6,12 @@ use native.Mathlib.Omega.{arith}
 use borrow.Author.Rules.{rules}
 use lib.ListN.{length, take}
 use lib.Seq.{take-length}
-use Rattle.integer.specs.Bits.{got}
+use Rattle.integer.proofs.Bits.{got}
 use Rattle.console.specs.Decimal.{signed_decimal}
 use Rattle.console.specs.Lines.{spaced}
-use Rattle.console.specs.laws.LinesLaws.{spaced-take, spaced-map_none}
+use Rattle.console.proofs.laws.LinesLaws.{spaced-take, spaced-map_none}
 use Rattle.console.specs.Written.{Put}
-use Rattle.console.specs.laws.WrittenLaws.{put_none, put_then}
+use Rattle.console.proofs.laws.WrittenLaws.{put_none, put_then}
 use Rattle.console.proofs.lines.put_amounts.Statement.{statement}
 use Rattle.console.proofs.lines.put_amounts.Tie as tie
 

@@ -7,7 +7,7 @@ use borrow.Author.Rules.{rules}
 use lib.ListN.{length, take}
 use lib.Seq.{take-suc, take-length}
 use Rattle.console.specs.Written.{Put}
-use Rattle.console.specs.laws.WrittenLaws.{put_none, put_then}
+use Rattle.console.proofs.laws.WrittenLaws.{put_none, put_then}
 use Rattle.console.proofs.lines.put_text.Statement.{statement}
 use Rattle.console.proofs.lines.put_text.Tie as tie
 

@@ -1,7 +1,7 @@
 -- `field_at` meets its contract: the two tests are that the position and the bytes after it lie within the file.
 use native.Mathlib.Omega.{arith}
 use borrow.Author.Rules.{rules}
-use Rattle.files.specs.laws.FieldsLaws.{field-whole, field_cut}
+use Rattle.files.proofs.laws.FieldsLaws.{field-whole, field_cut}
 use Rattle.files.proofs.fields.field_at.Statement.{statement}
 use Rattle.files.proofs.fields.field_at.Tie as tie
 

@@ -10,9 +10,9 @@ use mir.Syntax.{w64}
 use mir.Val.{to_z}
 use mir.Facts.{to_z_pos, to_z-of_z}
 use Rattle.integer.specs.Integer.{twos_complement}
-use Rattle.integer.specs.laws.BelowLaws.{lt_or_le}
+use Rattle.integer.proofs.laws.BelowLaws.{lt_or_le}
 use Rattle.rulebook.specs.File.{signed32}
-use Rattle.files.specs.laws.ValuesLaws.{signed32-range}
+use Rattle.files.proofs.laws.ValuesLaws.{signed32-range}
 use Rattle.files.proofs.fields.twos_complement.Statement.{statement}
 use Rattle.files.proofs.fields.twos_complement.Tie as tie
 

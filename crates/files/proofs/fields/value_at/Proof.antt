@@ -1,8 +1,8 @@
 -- `value_at` meets its contract: four bytes spell a number below 2 ^ 32.
 use borrow.Author.Rules.{rules}
-use Rattle.integer.specs.Bits.{got}
+use Rattle.integer.proofs.Bits.{got}
 use Rattle.rulebook.specs.File.{value_at}
-use Rattle.rulebook.specs.laws.FileLaws.{num-four}
+use Rattle.rulebook.proofs.laws.FileLaws.{num-four}
 use Rattle.files.proofs.fields.value_at.Statement.{statement}
 use Rattle.files.proofs.fields.value_at.Tie as tie
 

@@ -3,15 +3,15 @@ use mathlib.Core.Path.{◌≡◌, sym, ◌∙◌}
 use native.Mathlib.Omega.{arith}
 use borrow.Author.Rules.{rules}
 use borrow.Author.Tests.{lt-leb, le-leb}
-use Rattle.rulebook.specs.laws.PositionLaws.{section-end}
+use Rattle.rulebook.proofs.laws.PositionLaws.{section-end}
 use Rattle.rulebook.specs.declared.Section.TheVariants.{Vesting, Meter, Residual, Ncc}
 use Rattle.rulebook.specs.declared.Verdict.{Verdict}
 use Rattle.rulebook.specs.declared.Verdict.TheVariants.{Accepted, Refused}
 use Rattle.rulebook.specs.File.{meter_pos, residual_pos, ncc_pos, end_pos}
 use Rattle.rulebook.specs.Judging.{judged_section, judged}
 use Rattle.files.specs.Fields.{outcome}
-use Rattle.files.specs.laws.FieldsLaws.{outcome-passed, outcome-stopped}
-use Rattle.files.specs.laws.MarksLaws.{judgeable_more}
+use Rattle.files.proofs.laws.FieldsLaws.{outcome-passed, outcome-stopped}
+use Rattle.files.proofs.laws.MarksLaws.{judgeable_more}
 use Rattle.files.proofs.judge.judge_file.Statement.{statement}
 use Rattle.files.proofs.judge.judge_file.Tie as tie
 

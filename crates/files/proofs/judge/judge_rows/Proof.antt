@@ -11,8 +11,8 @@ use Rattle.rulebook.specs.File.{row_end}
 use Rattle.rulebook.specs.Judging.{judged_row}
 use Rattle.files.specs.Fields.{outcome}
 use Rattle.files.specs.Marks.{Before}
-use Rattle.files.specs.laws.FieldsLaws.{outcome-passed, outcome-stopped, up_stops}
-use Rattle.files.specs.laws.RowsLaws.{before_none, before_row, before_more}
+use Rattle.files.proofs.laws.FieldsLaws.{outcome-passed, outcome-stopped, up_stops}
+use Rattle.files.proofs.laws.RowsLaws.{before_none, before_row, before_more}
 use Rattle.files.proofs.judge.judge_rows.Statement.{statement}
 use Rattle.files.proofs.judge.judge_rows.Tie as tie
 

@@ -7,8 +7,8 @@ use lib.ListN.{length}
 use Rattle.rulebook.specs.File.{rows_in}
 use Rattle.files.specs.Judgeable.{Judgeable}
 use Rattle.files.specs.Marks.{unmarked}
-use Rattle.files.specs.laws.FieldsLaws.{whole_says, cut-says}
-use Rattle.files.specs.laws.RowsLaws.{section-cut, section-judged, section-empty}
+use Rattle.files.proofs.laws.FieldsLaws.{whole_says, cut-says}
+use Rattle.files.proofs.laws.RowsLaws.{section-cut, section-judged, section-empty}
 use Rattle.files.proofs.judge.judge_section.Statement.{statement}
 use Rattle.files.proofs.judge.judge_section.Tie as tie
 

@@ -5,7 +5,7 @@ use native.Mathlib.Omega.{arith}
 use borrow.Author.Rules.{rules}
 use lib.ListN.{length, length-set}
 use Rattle.integer.specs.Words.{filled}
-use Rattle.integer.specs.laws.WordsLaws.{filled_zero, filled-step, filled-whole}
+use Rattle.integer.proofs.laws.WordsLaws.{filled_zero, filled-step, filled-whole}
 use Rattle.files.specs.Marks.{unmarked}
 use Rattle.files.proofs.marks.clear_marks.Statement.{statement}
 use Rattle.files.proofs.marks.clear_marks.Tie as tie

@@ -8,12 +8,12 @@ use Rattle.rulebook.specs.declared.Verdict.TheVariants.{Accepted, Refused}
 use Rattle.rulebook.specs.declared.Why.TheVariants.{OutOfRange, DayNotOpen}
 use Rattle.rulebook.specs.File.{account_bytes, day_pos, account_at, day_at}
 use Rattle.rulebook.specs.Judging.{open_from, field_in, key}
-use Rattle.rulebook.specs.laws.JudgingLaws.{Keyed, keyed}
+use Rattle.rulebook.proofs.laws.JudgingLaws.{Keyed, keyed}
 use Rattle.files.specs.Fields.{outcome}
 use Rattle.files.specs.Marks.{mark_of}
-use Rattle.files.specs.laws.FieldsLaws.{outcome-passed, outcome-stopped}
-use Rattle.files.specs.laws.MarksLaws.{row-mark_fits}
-use Rattle.files.specs.laws.RowsLaws.{heading-account, heading-day}
+use Rattle.files.proofs.laws.FieldsLaws.{outcome-passed, outcome-stopped}
+use Rattle.files.proofs.laws.MarksLaws.{row-mark_fits}
+use Rattle.files.proofs.laws.RowsLaws.{heading-account, heading-day}
 use Rattle.files.proofs.rows.judge_key.Statement.{statement}
 use Rattle.files.proofs.rows.judge_key.Tie as tie
 

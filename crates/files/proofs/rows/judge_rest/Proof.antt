@@ -11,10 +11,10 @@ use Rattle.rulebook.specs.ReferencePrice.{most_facilities}
 use Rattle.rulebook.specs.Sections.{least_count, most_count}
 use Rattle.rulebook.specs.File.{count_bytes, count_pos, values_pos, count_at, values_of, row_end_of, row_end}
 use Rattle.rulebook.specs.Judging.{field_in, rest}
-use Rattle.rulebook.specs.laws.JudgingLaws.{FieldFine, field-says}
+use Rattle.rulebook.proofs.laws.JudgingLaws.{FieldFine, field-says}
 use Rattle.files.specs.Fields.{outcome}
-use Rattle.files.specs.laws.FieldsLaws.{outcome-passed, outcome-stopped}
-use Rattle.files.specs.laws.RowsLaws.{heading-count, heading-next, count-le, rest-values}
+use Rattle.files.proofs.laws.FieldsLaws.{outcome-passed, outcome-stopped}
+use Rattle.files.proofs.laws.RowsLaws.{heading-count, heading-next, count-le, rest-values}
 use Rattle.files.proofs.rows.judge_rest.Statement.{statement}
 use Rattle.files.proofs.rows.judge_rest.Tie as tie
 

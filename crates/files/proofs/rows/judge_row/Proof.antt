@@ -7,11 +7,11 @@ use borrow.Author.Rules.{rules}
 use lib.ListN.{length}
 use Rattle.rulebook.specs.declared.Verdict.TheVariants.{Accepted, Refused}
 use Rattle.rulebook.specs.Judging.{key}
-use Rattle.rulebook.specs.laws.JudgingLaws.{Keyed, keyed}
+use Rattle.rulebook.proofs.laws.JudgingLaws.{Keyed, keyed}
 use Rattle.files.specs.Marks.{mark_of, marked}
-use Rattle.files.specs.laws.FieldsLaws.{outcome-passed, outcome-stopped}
-use Rattle.files.specs.laws.MarksLaws.{judgeable_more, row-mark_fits}
-use Rattle.files.specs.laws.RowsLaws.{row-refused, row-again, row-rest}
+use Rattle.files.proofs.laws.FieldsLaws.{outcome-passed, outcome-stopped}
+use Rattle.files.proofs.laws.MarksLaws.{judgeable_more, row-mark_fits}
+use Rattle.files.proofs.laws.RowsLaws.{row-refused, row-again, row-rest}
 use Rattle.files.proofs.rows.judge_row.Statement.{statement}
 use Rattle.files.proofs.rows.judge_row.Tie as tie
 

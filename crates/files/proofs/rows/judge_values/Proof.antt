@@ -4,15 +4,15 @@ use Prim.Native.Nat.{◌*◌, ◌-◌, ◌≤◌}
 use native.Mathlib.Omega.{arith}
 use borrow.Author.Rules.{rules}
 use borrow.Author.Tests.{not-true, not-false}
-use Rattle.integer.specs.Bits.{got}
+use Rattle.integer.proofs.Bits.{got}
 use Rattle.rulebook.specs.declared.Verdict.TheVariants.{Accepted}
 use Rattle.rulebook.specs.Units.{in_range}
 use Rattle.rulebook.specs.Sections.{kind_of}
 use Rattle.rulebook.specs.File.{value_at}
 use Rattle.rulebook.specs.Judging.{up_to}
 use Rattle.files.specs.Values.{value_in}
-use Rattle.files.specs.laws.FieldsLaws.{up_none, up_more, up_stops}
-use Rattle.files.specs.laws.ValuesLaws.{value-cut, value-off, value-fine}
+use Rattle.files.proofs.laws.FieldsLaws.{up_none, up_more, up_stops}
+use Rattle.files.proofs.laws.ValuesLaws.{value-cut, value-off, value-fine}
 use Rattle.files.proofs.rows.judge_values.Statement.{statement}
 use Rattle.files.proofs.rows.judge_values.Tie as tie
 

@@ -4,9 +4,9 @@ use Prim.Native.Nat.{◌+◌, ◌*◌}
 use native.Mathlib.Nat.{one-mul}
 use native.Mathlib.Omega.{arith}
 use borrow.Author.Rules.{rules}
-use Rattle.integer.specs.laws.WordsLaws.{lent}
+use Rattle.integer.proofs.laws.WordsLaws.{lent}
 use Rattle.rulebook.specs.WellFormed.{balance_fits, balance_words_fit}
-use Rattle.opening.specs.laws.BlankLaws.{blank_part}
+use Rattle.opening.proofs.laws.BlankLaws.{blank_part}
 use Rattle.opening.proofs.header.balance_words_fit.Statement.{statement}
 use Rattle.opening.proofs.header.balance_words_fit.Tie as tie
 

@@ -5,7 +5,7 @@ use native.Mathlib.Omega.{arith}
 use borrow.Author.Rules.{rules}
 use Rattle.integer.specs.Below.{fold, all}
 use Rattle.rulebook.specs.WellFormed.{balance_words_fit}
-use Rattle.opening.specs.laws.LoopLaws.{all_step}
+use Rattle.opening.proofs.laws.LoopLaws.{all_step}
 use Rattle.opening.proofs.header.balances_fit.Statement.{statement}
 use Rattle.opening.proofs.header.balances_fit.Tie as tie
 

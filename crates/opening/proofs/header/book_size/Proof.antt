@@ -2,7 +2,7 @@
 use native.Mathlib.Omega.{arith}
 use borrow.Author.Rules.{rules}
 use Rattle.rulebook.specs.Layout.{interval_size, ring, base, size}
-use Rattle.opening.specs.laws.HeaderLaws.{slots_small}
+use Rattle.opening.proofs.laws.HeaderLaws.{slots_small}
 use Rattle.opening.proofs.header.book_size.Statement.{statement}
 use Rattle.opening.proofs.header.book_size.Tie as tie
 

@@ -3,7 +3,7 @@ use mathlib.Core.Path.{◌∙◌}
 use native.Mathlib.Omega.{arith}
 use borrow.Author.Rules.{rules}
 use Rattle.rulebook.specs.WellFormed.{header_fits}
-use Rattle.opening.specs.laws.BlankLaws.{blank_part}
+use Rattle.opening.proofs.laws.BlankLaws.{blank_part}
 use Rattle.opening.proofs.header.header_fits.Statement.{statement}
 use Rattle.opening.proofs.header.header_fits.Tie as tie
 

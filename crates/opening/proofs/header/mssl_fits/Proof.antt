@@ -2,7 +2,7 @@
 use native.Mathlib.Omega.{arith}
 use borrow.Author.Rules.{rules}
 use Rattle.rulebook.specs.WellFormed.{balance_fits}
-use Rattle.opening.specs.laws.HeaderLaws.{bound_small}
+use Rattle.opening.proofs.laws.HeaderLaws.{bound_small}
 use Rattle.opening.proofs.header.mssl_fits.Statement.{statement}
 use Rattle.opening.proofs.header.mssl_fits.Tie as tie
 

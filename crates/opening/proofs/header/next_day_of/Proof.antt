@@ -3,7 +3,7 @@ use mathlib.Core.Path.{ap}
 use native.Mathlib.Omega.{arith}
 use borrow.Author.Rules.{rules}
 use Rattle.integer.specs.Integer.{negative}
-use Rattle.opening.specs.laws.HeaderLaws.{header-true}
+use Rattle.opening.proofs.laws.HeaderLaws.{header-true}
 use Rattle.opening.proofs.header.next_day_of.Statement.{statement}
 use Rattle.opening.proofs.header.next_day_of.Tie as tie
 

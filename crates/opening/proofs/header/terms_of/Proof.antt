@@ -2,7 +2,7 @@
 use mathlib.Core.Path.{ap}
 use native.Mathlib.Omega.{arith}
 use Rattle.integer.specs.Integer.{negative}
-use Rattle.opening.specs.laws.HeaderLaws.{header-true}
+use Rattle.opening.proofs.laws.HeaderLaws.{header-true}
 use Rattle.opening.proofs.header.terms_of.Statement.{statement}
 use Rattle.opening.proofs.header.terms_of.Tie as tie
 

@@ -1,6 +1,6 @@
 -- `terms_words_fit` meets its contract: five words are read.
 use borrow.Author.Rules.{rules}
-use Rattle.rulebook.specs.laws.HeaderLaws.{terms-by_words}
+use Rattle.rulebook.proofs.laws.HeaderLaws.{terms-by_words}
 use Rattle.opening.proofs.header.terms_words_fit.Statement.{statement}
 use Rattle.opening.proofs.header.terms_words_fit.Tie as tie
 

@@ -3,8 +3,8 @@ use mathlib.Core.Path.{◌≡◌}
 use borrow.Author.Rules.{rules}
 use mir.Syntax.{w64}
 use mir.Val.{to_z, of_z}
-use Rattle.integer.specs.Bits.{got}
-use Rattle.integer.specs.laws.IntegerLaws.{int, parts}
+use Rattle.integer.proofs.Bits.{got}
+use Rattle.integer.proofs.laws.IntegerLaws.{int, parts}
 use Rattle.integer.specs.Words.{word}
 use Rattle.opening.proofs.header.unsigned_at.Statement.{statement}
 use Rattle.opening.proofs.header.unsigned_at.Tie as tie

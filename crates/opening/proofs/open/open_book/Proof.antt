@@ -1,8 +1,8 @@
 -- `open_book` meets its contract: each answer, with the words that it leaves, is the promise's.
 use native.Mathlib.Omega.{arith}
 use borrow.Author.Rules.{rules}
-use Rattle.opening.specs.laws.LoopLaws.{passed, left}
-use Rattle.opening.specs.laws.OpenLaws.{terms-in, terms-refused, size-refused, book-opened}
+use Rattle.opening.proofs.laws.LoopLaws.{passed, left}
+use Rattle.opening.proofs.laws.OpenLaws.{terms-in, terms-refused, size-refused, book-opened}
 use Rattle.opening.proofs.open.open_book.Statement.{statement}
 use Rattle.opening.proofs.open.open_book.Tie as tie
 

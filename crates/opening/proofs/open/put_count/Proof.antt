@@ -1,7 +1,7 @@
 -- `put_count` meets its contract: the number fits a word.
 use native.Mathlib.Omega.{arith}
 use borrow.Author.Rules.{rules}
-use Rattle.integer.specs.Bits.{holds-nat}
+use Rattle.integer.proofs.Bits.{holds-nat}
 use Rattle.opening.proofs.open.put_count.Statement.{statement}
 use Rattle.opening.proofs.open.put_count.Tie as tie
 

@@ -1,7 +1,7 @@
 -- `put_header` meets its contract: eight words are stored, one after another.
 use borrow.Author.Rules.{rules}
 use Rattle.rulebook.specs.Layout.{stored}
-use Rattle.rulebook.specs.laws.HeaderLaws.{change-small}
+use Rattle.rulebook.proofs.laws.HeaderLaws.{change-small}
 use Rattle.opening.proofs.open.put_header.Statement.{statement}
 use Rattle.opening.proofs.open.put_header.Tie as tie
 

@@ -1,8 +1,8 @@
 -- `put_new_book` meets its contract: the header is stored, then the part from word 8 to the size is cleared.
 use native.Mathlib.Omega.{arith}
 use borrow.Author.Rules.{rules}
-use Rattle.opening.specs.laws.HeaderLaws.{header-inside}
-use Rattle.opening.specs.laws.OpenLaws.{header-then_zeros}
+use Rattle.opening.proofs.laws.HeaderLaws.{header-inside}
+use Rattle.opening.proofs.laws.OpenLaws.{header-then_zeros}
 use Rattle.opening.proofs.open.put_new_book.Statement.{statement}
 use Rattle.opening.proofs.open.put_new_book.Tie as tie
 

@@ -5,9 +5,9 @@ use native.Mathlib.Omega.{arith}
 use borrow.Author.Rules.{rules}
 use Rattle.integer.specs.Below.{fold, all}
 use Rattle.integer.specs.Words.{part}
-use Rattle.integer.specs.laws.WordsLaws.{lent}
-use Rattle.opening.specs.laws.BlankLaws.{blank-rows}
-use Rattle.opening.specs.laws.LoopLaws.{all_step}
+use Rattle.integer.proofs.laws.WordsLaws.{lent}
+use Rattle.opening.proofs.laws.BlankLaws.{blank-rows}
+use Rattle.opening.proofs.laws.LoopLaws.{all_step}
 use Rattle.opening.specs.Blank.{blank, row_words}
 use Rattle.opening.proofs.words.are_blank.Statement.{statement}
 use Rattle.opening.proofs.words.are_blank.Tie as tie

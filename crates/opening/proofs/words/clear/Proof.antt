@@ -7,7 +7,7 @@ use lib.IntN.{pos}
 use lib.ListN.{length, length-set}
 use Rattle.integer.specs.Below.{tabulate}
 use Rattle.integer.specs.Words.{filled}
-use Rattle.integer.specs.laws.WordsLaws.{filled-suc, filled-all}
+use Rattle.integer.proofs.laws.WordsLaws.{filled-suc, filled-all}
 use Rattle.opening.proofs.words.clear.Statement.{statement}
 use Rattle.opening.proofs.words.clear.Tie as tie
 

@@ -1,7 +1,7 @@
 -- `in_range_at` meets its contract: the word is read, then judged by its kind.
 use mathlib.Core.Path.{ap, ◌∙◌}
 use borrow.Author.Rules.{rules}
-use Rattle.integer.specs.Bits.{got}
+use Rattle.integer.proofs.Bits.{got}
 use Rattle.rulebook.specs.Units.{in_range}
 use Rattle.opening.proofs.words.in_range_at.Statement.{statement}
 use Rattle.opening.proofs.words.in_range_at.Tie as tie

@@ -7,7 +7,7 @@ use lib.ListN.{length}
 use Rattle.integer.specs.Below.{fold, all}
 use Rattle.integer.specs.Words.{word}
 use Rattle.rulebook.specs.WellFormed.{is_zero}
-use Rattle.opening.specs.laws.LoopLaws.{all_step}
+use Rattle.opening.proofs.laws.LoopLaws.{all_step}
 use Rattle.opening.specs.Blank.{blank}
 use Rattle.opening.proofs.words.is_blank.Statement.{statement}
 use Rattle.opening.proofs.words.is_blank.Tie as tie

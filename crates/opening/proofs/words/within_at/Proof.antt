@@ -6,9 +6,9 @@ use lib.IntN.{pos, ◌-ℤ◌}
 use mir.Syntax.{w64}
 use mir.Val.{to_z, of_z}
 use mir.ValLaws.{to_z-of_z}
-use Rattle.integer.specs.Bits.{got, holds-nat, fits_sub}
+use Rattle.integer.proofs.Bits.{got, holds-nat, fits_sub}
 use Rattle.integer.specs.Words.{word}
-use Rattle.opening.specs.laws.WordLaws.{within-is}
+use Rattle.opening.proofs.laws.WordLaws.{within-is}
 use Rattle.opening.proofs.words.within_at.Statement.{statement}
 use Rattle.opening.proofs.words.within_at.Tie as tie
 

@@ -1,7 +1,7 @@
 -- `zero_at` meets its contract: a word is zero where its bits are.
 use borrow.Author.Rules.{rules}
 use Rattle.integer.specs.Words.{word}
-use Rattle.opening.specs.laws.WordLaws.{zero_bits}
+use Rattle.opening.proofs.laws.WordLaws.{zero_bits}
 use Rattle.opening.proofs.words.zero_at.Statement.{statement}
 use Rattle.opening.proofs.words.zero_at.Tie as tie
 

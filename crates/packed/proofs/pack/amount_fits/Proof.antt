@@ -10,7 +10,7 @@ use lib.IntN.{ℤ, pos, negsuc}
 use lib.Signed.{le_z}
 use mir.Syntax.{w64}
 use mir.Val.{to_z, of_z}
-use Rattle.integer.specs.laws.BelowLaws.{lt_or_le}
+use Rattle.integer.proofs.laws.BelowLaws.{lt_or_le}
 use Rattle.packed.specs.Packed.{amount_fits}
 use Rattle.packed.proofs.pack.amount_fits.Statement.{statement}
 use Rattle.packed.proofs.pack.amount_fits.Tie as tie

@@ -6,7 +6,7 @@ use native.Mathlib.Omega.{arith}
 use borrow.Author.Tests.{not-true, not-false, le-leb, lt-leb}
 use lib.ListN.{length}
 use Rattle.packed.specs.Packed.{field_bytes, statement_fits, pack_call}
-use Rattle.packed.specs.laws.StatementLaws.{fields_grid}
+use Rattle.packed.proofs.laws.StatementLaws.{fields_grid}
 use borrow.Author.Rules.{rules}
 use Rattle.packed.proofs.pack.pack.Statement.{statement}
 use Rattle.packed.proofs.pack.pack.Tie as tie

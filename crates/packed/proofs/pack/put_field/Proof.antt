@@ -9,12 +9,12 @@ use lib.IntN.{ℤ, nat_abs}
 use mir.Syntax.{w64}
 use mir.Val.{to_z, of_z}
 use Rattle.integer.specs.Below.{tabulate}
-use Rattle.integer.specs.laws.BelowLaws.{length-tabulate, get_d_tabulate, tabulate-of}
+use Rattle.integer.proofs.laws.BelowLaws.{length-tabulate, get_d_tabulate, tabulate-of}
 use Rattle.integer.specs.Words.{filled}
-use Rattle.integer.specs.laws.WordsLaws.{filled-suc, filled-all}
+use Rattle.integer.proofs.laws.WordsLaws.{filled-suc, filled-all}
 use Rattle.packed.specs.Packed.{sign_of, field_byte}
 use Rattle.packed.specs.Pairs.{pair_at}
-use Rattle.packed.specs.laws.PairLaws.{pair-byte, last_byte}
+use Rattle.packed.proofs.laws.PairLaws.{pair-byte, last_byte}
 use borrow.Author.Rules.{rules}
 use Rattle.packed.proofs.pack.put_field.Statement.{statement}
 use Rattle.packed.proofs.pack.put_field.Tie as tie

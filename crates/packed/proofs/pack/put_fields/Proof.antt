@@ -7,10 +7,10 @@ use lib.ListN.{length, take, drop}
 use lib.IntN.{ℤ}
 use Rattle.integer.specs.Below.{tabulate}
 use Rattle.integer.specs.Words.{word, grid_row, grid}
-use Rattle.integer.specs.laws.WordsLaws.{length-of_part, grid-zero, grid-suc}
-use Rattle.integer.specs.Bits.{got}
+use Rattle.integer.proofs.laws.WordsLaws.{length-of_part, grid-zero, grid-suc}
+use Rattle.integer.proofs.Bits.{got}
 use Rattle.packed.specs.Packed.{field_bytes, field_byte}
-use Rattle.packed.specs.laws.StatementLaws.{statement-is}
+use Rattle.packed.proofs.laws.StatementLaws.{statement-is}
 use Rattle.packed.proofs.pack.put_fields.Statement.{statement}
 use Rattle.packed.proofs.pack.put_fields.Tie as tie
 

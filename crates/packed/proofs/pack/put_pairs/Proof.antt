@@ -8,8 +8,8 @@ use mathlib.Core.List.{append-nil}
 use lib.ListN.{length, get_or, set, take, drop}
 use lib.Seq.{take-length, drop-length}
 use Rattle.integer.specs.Below.{tabulate}
-use Rattle.integer.specs.laws.BelowLaws.{length-tabulate, get_d_tabulate}
-use Rattle.integer.specs.laws.WordsLaws.{filled-back}
+use Rattle.integer.proofs.laws.BelowLaws.{length-tabulate, get_d_tabulate}
+use Rattle.integer.proofs.laws.WordsLaws.{filled-back}
 use Rattle.packed.specs.Pairs.{pair_of, pair_at}
 use Rattle.packed.proofs.pack.put_pairs.Statement.{statement}
 use Rattle.packed.proofs.pack.put_pairs.Tie as tie

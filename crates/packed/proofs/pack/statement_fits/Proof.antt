@@ -7,8 +7,8 @@ use borrow.Author.Rules.{rules}
 use borrow.Author.Tests.{not-true, not-false}
 use lib.ListN.{length}
 use Rattle.integer.specs.Below.{fold, all}
-use Rattle.integer.specs.laws.BelowLaws.{fold_step}
-use Rattle.integer.specs.Bits.{got}
+use Rattle.integer.proofs.laws.BelowLaws.{fold_step}
+use Rattle.integer.proofs.Bits.{got}
 use Rattle.integer.specs.Words.{word}
 use Rattle.packed.specs.Packed.{count_fits, amount_fits, statement_fits}
 use Rattle.packed.proofs.pack.statement_fits.Statement.{statement}

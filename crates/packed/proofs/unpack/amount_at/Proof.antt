@@ -9,10 +9,10 @@ use mir.Syntax.{w64}
 use mir.Val.{to_z, of_z}
 use mir.ValLaws.{to_z-of_z}
 use Rattle.integer.specs.Integer.{minus}
-use Rattle.integer.specs.Bits.{got, fits_sub}
-use Rattle.integer.specs.laws.IntegerLaws.{parts-eq, sub_parts, neg_parts}
+use Rattle.integer.proofs.Bits.{got, fits_sub}
+use Rattle.integer.proofs.laws.IntegerLaws.{parts-eq, sub_parts, neg_parts}
 use Rattle.packed.specs.Packed.{minus_sign, sign_at, magnitude_at, amount_at}
-use Rattle.packed.specs.laws.PairLaws.{half-odd}
+use Rattle.packed.proofs.laws.PairLaws.{half-odd}
 use borrow.Author.Rules.{rules}
 use Rattle.packed.proofs.unpack.amount_at.Statement.{statement}
 use Rattle.packed.proofs.unpack.amount_at.Tie as tie

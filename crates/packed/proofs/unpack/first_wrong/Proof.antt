@@ -6,10 +6,10 @@ use borrow.Author.Rules.{rules}
 use borrow.Author.Tests.{not-true, not-false, ne_eqb}
 use lib.ListN.{length}
 use Rattle.integer.specs.Below.{fold, first, or_else}
-use Rattle.integer.specs.laws.BelowLaws.{first_more, first_stops}
+use Rattle.integer.proofs.laws.BelowLaws.{first_more, first_stops}
 use Rattle.integer.specs.declared.Found.TheVariants.{At, Nothing}
 use Rattle.packed.specs.Packed.{field_bytes, whole_fields, wrong_in, cut_field, first_wrong}
-use Rattle.packed.specs.laws.PairLaws.{nothing-of, wrong-there}
+use Rattle.packed.proofs.laws.PairLaws.{nothing-of, wrong-there}
 use Rattle.packed.proofs.unpack.first_wrong.Statement.{statement}
 use Rattle.packed.proofs.unpack.first_wrong.Tie as tie
 

@@ -1,5 +1,5 @@
 -- `is_field` meets its contract: the tests of the code are those of the field by its bytes (`right_as_asked`).
-use Rattle.packed.specs.laws.PairLaws.{right_as_asked}
+use Rattle.packed.proofs.laws.PairLaws.{right_as_asked}
 use borrow.Author.Rules.{rules}
 use Rattle.packed.proofs.unpack.is_field.Statement.{statement}
 use Rattle.packed.proofs.unpack.is_field.Tie as tie

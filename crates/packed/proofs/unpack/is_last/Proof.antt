@@ -6,7 +6,7 @@ use Prim.Native.Nat.{ℕ, ◌/◌, ◌%◌}
 use native.Mathlib.Omega.{arith}
 use borrow.Author.Tests.{lt-ltb, le-ltb, le-leb, lt-leb}
 use lib.Dec.{ltb, eqb}
-use Rattle.integer.specs.laws.BelowLaws.{lt_or_le}
+use Rattle.integer.proofs.laws.BelowLaws.{lt_or_le}
 use Rattle.packed.specs.Packed.{plus_sign, minus_sign}
 use Rattle.packed.specs.Pairs.{is_last}
 use Rattle.packed.proofs.unpack.is_last.Statement.{statement}

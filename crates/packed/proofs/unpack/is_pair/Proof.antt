@@ -6,7 +6,7 @@ use Prim.Native.Nat.{ℕ, ◌/◌, ◌%◌}
 use native.Mathlib.Omega.{arith}
 use borrow.Author.Tests.{lt-ltb, le-ltb, le-leb, lt-leb}
 use lib.Dec.{ltb}
-use Rattle.integer.specs.laws.BelowLaws.{lt_or_le}
+use Rattle.integer.proofs.laws.BelowLaws.{lt_or_le}
 use Rattle.packed.specs.Pairs.{is_pair}
 use Rattle.packed.proofs.unpack.is_pair.Statement.{statement}
 use Rattle.packed.proofs.unpack.is_pair.Tie as tie

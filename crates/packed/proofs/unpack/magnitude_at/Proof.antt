@@ -1,7 +1,7 @@
 -- `magnitude_at` meets its contract: 14 digits in pairs, and the last (`magnitude-split`).
 use mathlib.Core.Path.{sym}
 use native.Mathlib.Omega.{arith}
-use Rattle.packed.specs.laws.PairLaws.{magnitude-split}
+use Rattle.packed.proofs.laws.PairLaws.{magnitude-split}
 use borrow.Author.Rules.{rules}
 use Rattle.packed.proofs.unpack.magnitude_at.Statement.{statement}
 use Rattle.packed.proofs.unpack.magnitude_at.Tie as tie

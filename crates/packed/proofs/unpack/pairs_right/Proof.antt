@@ -6,7 +6,7 @@ use native.Mathlib.Omega.{arith}
 use borrow.Author.Rules.{rules}
 use lib.ListN.{get_or}
 use Rattle.integer.specs.Below.{fold, all}
-use Rattle.integer.specs.laws.BelowLaws.{fold_step}
+use Rattle.integer.proofs.laws.BelowLaws.{fold_step}
 use Rattle.packed.specs.Pairs.{pairs, is_pair}
 use Rattle.packed.proofs.unpack.pairs_right.Statement.{statement}
 use Rattle.packed.proofs.unpack.pairs_right.Tie as tie

@@ -5,7 +5,7 @@ use native.Mathlib.Omega.{arith}
 use native.Mathlib.Nat.{pow-succ', pow-le-pow_right}
 use lib.ListN.{get_or}
 use Rattle.integer.specs.Below.{turns}
-use Rattle.integer.specs.laws.BelowLaws.{turns-suc}
+use Rattle.integer.proofs.laws.BelowLaws.{turns-suc}
 use Rattle.packed.specs.Pairs.{pairs, with_pair, pairs_value}
 use Rattle.packed.proofs.unpack.pairs_value.Statement.{statement}
 use Rattle.packed.proofs.unpack.pairs_value.Tie as tie

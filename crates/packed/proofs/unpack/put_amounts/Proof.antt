@@ -3,9 +3,9 @@ use mathlib.Core.Path.{◌≡◌, refl, sym, ◌∙◌}
 use Prim.Native.Nat.{◌*◌, ◌-◌, ◌≤◌}
 use native.Mathlib.Omega.{arith}
 use lib.ListN.{length}
-use Rattle.integer.specs.Bits.{got}
+use Rattle.integer.proofs.Bits.{got}
 use Rattle.integer.specs.Words.{filled}
-use Rattle.integer.specs.laws.WordsLaws.{filled_zero, filled-step}
+use Rattle.integer.proofs.laws.WordsLaws.{filled_zero, filled-step}
 use Rattle.packed.specs.Packed.{field_bytes, whole_fields, amount_at}
 use Rattle.packed.proofs.unpack.put_amounts.Statement.{statement}
 use Rattle.packed.proofs.unpack.put_amounts.Tie as tie

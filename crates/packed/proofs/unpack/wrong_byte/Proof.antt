@@ -7,7 +7,7 @@ use borrow.Author.Rules.{rules}
 use borrow.Author.Tests.{not-true, not-false}
 use lib.ListN.{get_or}
 use Rattle.integer.specs.Below.{fold, first}
-use Rattle.integer.specs.laws.BelowLaws.{first_more, first_stops}
+use Rattle.integer.proofs.laws.BelowLaws.{first_more, first_stops}
 use Rattle.integer.specs.declared.Found.TheVariants.{Nothing}
 use Rattle.packed.specs.Pairs.{pairs, is_pair, found_or, wrong_byte}
 use Rattle.packed.specs.Packed.{unless}

@@ -1,5 +1,5 @@
 -- `close_with` meets its contract: the statement comes back before the words beyond.
-use Rattle.replay.specs.laws.FrameLaws.{closed-with_of}
+use Rattle.replay.proofs.laws.FrameLaws.{closed-with_of}
 use borrow.Author.Rules.{rules}
 use Rattle.replay.proofs.book_calls.close_with.Statement.{statement}
 use Rattle.replay.proofs.book_calls.close_with.Tie as tie

@@ -1,6 +1,6 @@
 -- `open` meets its contract: the words lent come back before those beyond.
 use Rattle.replay.specs.Frames.{Opens}
-use Rattle.replay.specs.laws.FrameLaws.{lent_of}
+use Rattle.replay.proofs.laws.FrameLaws.{lent_of}
 use borrow.Author.Rules.{rules}
 use Rattle.replay.proofs.book_calls.open.Statement.{statement}
 use Rattle.replay.proofs.book_calls.open.Tie as tie

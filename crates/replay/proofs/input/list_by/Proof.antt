@@ -3,7 +3,7 @@ use Prim.Native.Nat.{◌*◌, ◌≤◌}
 use native.Mathlib.Omega.{arith}
 use lib.ListN.{length}
 use lib.Seq.{length_front, length-take-le}
-use Rattle.replay.specs.laws.FrameLaws.{listed_of}
+use Rattle.replay.proofs.laws.FrameLaws.{listed_of}
 use Rattle.replay.proofs.Counting.{counts}
 use borrow.Author.Rules.{rules}
 use Rattle.replay.proofs.input.list_by.Statement.{statement}

@@ -1,6 +1,6 @@
 -- `long_in` meets its contract: eight bytes are four and four.
 use native.Mathlib.Omega.{arith}
-use Rattle.replay.specs.laws.FieldLaws.{num-eight}
+use Rattle.replay.proofs.laws.FieldLaws.{num-eight}
 use borrow.Author.Rules.{rules}
 use Rattle.replay.proofs.input.long_in.Statement.{statement}
 use Rattle.replay.proofs.input.long_in.Tie as tie

@@ -1,6 +1,6 @@
 -- `number_in` meets its contract: four bytes spell a number below 2 ^ 32.
 use native.Mathlib.Omega.{arith}
-use Rattle.rulebook.specs.laws.FileLaws.{num-four}
+use Rattle.rulebook.proofs.laws.FileLaws.{num-four}
 use borrow.Author.Rules.{rules}
 use Rattle.replay.proofs.input.number_in.Statement.{statement}
 use Rattle.replay.proofs.input.number_in.Tie as tie

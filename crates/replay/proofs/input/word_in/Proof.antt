@@ -8,10 +8,10 @@ use mir.Val.{SFits}
 use mir.ValLaws.{to_z-of_z}
 use mathlib.Core.Path.{◌≡◌, sym, ap, ◌∙◌}
 use Rattle.replay.specs.Fields.{signed64, word_in}
-use Rattle.replay.specs.laws.FieldLaws.{num-eight, signed_below, signed_above}
+use Rattle.replay.proofs.laws.FieldLaws.{num-eight, signed_below, signed_above}
 use Rattle.integer.specs.Integer.{positive}
-use Rattle.integer.specs.laws.IntegerLaws.{parts, add_parts}
-use Rattle.integer.specs.Bits.{holds-nat}
+use Rattle.integer.proofs.laws.IntegerLaws.{parts, add_parts}
+use Rattle.integer.proofs.Bits.{holds-nat}
 use Rattle.replay.proofs.input.word_in.Statement.{statement}
 use Rattle.replay.proofs.input.word_in.Tie as tie
 

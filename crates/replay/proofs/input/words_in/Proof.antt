@@ -6,9 +6,9 @@ use native.Mathlib.Omega.{arith}
 use borrow.Author.Rules.{rules}
 use lib.IntN.{ℤ}
 use lib.ListN.{length}
-use Rattle.integer.specs.Bits.{got}
+use Rattle.integer.proofs.Bits.{got}
 use Rattle.integer.specs.Words.{filled}
-use Rattle.integer.specs.laws.WordsLaws.{filled_zero, filled-step, filled-whole}
+use Rattle.integer.proofs.laws.WordsLaws.{filled_zero, filled-step, filled-whole}
 use Rattle.replay.specs.Fields.{word_in, words_in}
 use Rattle.replay.proofs.input.words_in.Statement.{statement}
 use Rattle.replay.proofs.input.words_in.Tie as tie

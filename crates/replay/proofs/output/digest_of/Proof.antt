@@ -6,10 +6,10 @@ use lib.ListN.{length}
 use mathlib.Core.Path.{◌≡◌, refl, sym, ap, ap₂, ◌∙◌}
 use mathlib.Core.List.{List}
 use lib.IntN.{ℤ}
-use Rattle.integer.specs.Bits.{got}
+use Rattle.integer.proofs.Bits.{got}
 use Rattle.integer.specs.Words.{word}
 use Rattle.integer.specs.Below.{turns}
-use Rattle.integer.specs.laws.BelowLaws.{turns-suc}
+use Rattle.integer.proofs.laws.BelowLaws.{turns-suc}
 use Rattle.replay.specs.Digests.{more_word, digest}
 use Rattle.replay.proofs.output.digest_of.Statement.{statement}
 use Rattle.replay.proofs.output.digest_of.Tie as tie

@@ -6,7 +6,7 @@ use lib.ListN.{length, get_or}
 use mathlib.Core.Path.{◌≡◌, refl, sym, ap, ap₂, ◌∙◌}
 use mathlib.Core.List.{List}
 use Rattle.integer.specs.Below.{turns}
-use Rattle.integer.specs.laws.BelowLaws.{turns-suc}
+use Rattle.integer.proofs.laws.BelowLaws.{turns-suc}
 use Rattle.replay.specs.Digests.{more, file_digest}
 use Rattle.replay.proofs.output.file_digest_of.Statement.{statement}
 use Rattle.replay.proofs.output.file_digest_of.Tie as tie

@@ -4,8 +4,8 @@ use Prim.Native.Nat.{ℕ, ◌<◌}
 use native.Mathlib.Omega.{arith}
 use lib.IntN.{ℤ, pos, negsuc}
 use Rattle.integer.specs.Integer.{negative}
-use Rattle.integer.specs.laws.IntegerLaws.{int}
-use Rattle.integer.specs.Bits.{known}
+use Rattle.integer.proofs.laws.IntegerLaws.{int}
+use Rattle.integer.proofs.Bits.{known}
 use Rattle.replay.specs.Digests.{sign}
 use Rattle.replay.proofs.output.sign.Statement.{statement}
 use Rattle.replay.proofs.output.sign.Tie as tie

@@ -1,6 +1,6 @@
 -- `pack_from` meets its contract: the bytes lent come back before those beyond.
 use mathlib.Core.Path.{sym, ◌∙◌}
-use Rattle.replay.specs.laws.FrameLaws.{packed-of}
+use Rattle.replay.proofs.laws.FrameLaws.{packed-of}
 use borrow.Author.Rules.{rules}
 use Rattle.replay.proofs.packed_calls.pack_from.Statement.{statement}
 use Rattle.replay.proofs.packed_calls.pack_from.Tie as tie

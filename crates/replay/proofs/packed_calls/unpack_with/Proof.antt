@@ -1,5 +1,5 @@
 -- `unpack_with` meets its contract: the words lent come back before those beyond.
-use Rattle.replay.specs.laws.FrameLaws.{unpacked_of}
+use Rattle.replay.proofs.laws.FrameLaws.{unpacked_of}
 use borrow.Author.Rules.{rules}
 use Rattle.replay.proofs.packed_calls.unpack_with.Statement.{statement}
 use Rattle.replay.proofs.packed_calls.unpack_with.Tie as tie

@@ -1,7 +1,7 @@
 -- `share_from` meets its contract: the words lent come back before those beyond.
 use mir.Syntax.{w64}
 use mir.ValLaws.{to_z-of_z}
-use Rattle.replay.specs.laws.FrameLaws.{shared_of}
+use Rattle.replay.proofs.laws.FrameLaws.{shared_of}
 use borrow.Author.Rules.{rules}
 use Rattle.replay.proofs.rules_calls.share_from.Statement.{statement}
 use Rattle.replay.proofs.rules_calls.share_from.Tie as tie

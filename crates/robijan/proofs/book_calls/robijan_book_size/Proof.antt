@@ -2,7 +2,7 @@
 use mathlib.Core.Path.{sym, ◌∙◌}
 use mathlib.Core.List.{[]}
 use borrow.Author.Rules.{rules}
-use Rattle.opening.specs.laws.OpenLaws.{terms-in}
+use Rattle.opening.proofs.laws.OpenLaws.{terms-in}
 use Rattle.robijan.specs.Returned.{size_returned}
 use Rattle.robijan.proofs.book_calls.robijan_book_size.Statement.{statement}
 use Rattle.robijan.proofs.book_calls.robijan_book_size.Tie as tie

@@ -7,9 +7,9 @@ use lib.IntN.{nat_abs}
 use mir.Syntax.{w64}
 use mir.Val.{SFits}
 use mir.Facts.{to_z-of_z}
-use Rattle.integer.specs.laws.IntegerLaws.{int, fits-abs}
-use Rattle.integer.specs.Bits.{known, got}
-use Rattle.integer.specs.laws.BelowLaws.{lt_or_le}
+use Rattle.integer.proofs.laws.IntegerLaws.{int, fits-abs}
+use Rattle.integer.proofs.Bits.{known, got}
+use Rattle.integer.proofs.laws.BelowLaws.{lt_or_le}
 use Rattle.rulebook.specs.ReferencePrice.{average}
 use Rattle.rules.proofs.price.price_of.Goals as goal
 use Rattle.rules.proofs.price.price_of.Goals.{Start}

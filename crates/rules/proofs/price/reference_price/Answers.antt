@@ -3,12 +3,12 @@ use mathlib.Core.Path.{◌≡◌, sym, ap, ◌∙◌, subst}
 use native.Mathlib.Omega.{arith}
 use borrow.Author.Rules.{rules}
 use lib.ListN.{length}
-use Rattle.integer.specs.Bits.{got}
+use Rattle.integer.proofs.Bits.{got}
 use Rattle.integer.specs.Words.{word}
 use Rattle.rulebook.specs.declared.Kind.TheVariants.{Injection, Price}
-use Rattle.rulebook.specs.laws.UnitsLaws.{price-range, injection-range}
+use Rattle.rulebook.proofs.laws.UnitsLaws.{price-range, injection-range}
 use Rattle.rulebook.specs.Calls.{price_call}
-use Rattle.rulebook.specs.laws.CallsLaws.{in_range-at, prices-in}
+use Rattle.rulebook.proofs.laws.CallsLaws.{in_range-at, prices-in}
 use Rattle.rules.specs.PriceSums.{sums-count, sums-within, sums-price}
 use Rattle.rules.proofs.price.reference_price.Goals as goal
 

@@ -1,7 +1,7 @@
 -- `weight_of` meets its contract: the number read is the one given.
 use borrow.Author.Rules.{rules}
-use Rattle.integer.specs.laws.IntegerLaws.{int}
-use Rattle.integer.specs.Bits.{known}
+use Rattle.integer.proofs.laws.IntegerLaws.{int}
+use Rattle.integer.proofs.Bits.{known}
 use Rattle.rules.proofs.price.weight_of.Goals as goal
 
 pub returns : goal.returns

@@ -4,8 +4,8 @@ use borrow.Author.Rules.{rules}
 use lib.IntN.{pos, nat_abs, ◌+ℤ◌, ◌*ℤ◌}
 use mir.Syntax.{w64}
 use mir.Val.{SFits, to_z, of_z}
-use Rattle.integer.specs.laws.IntegerLaws.{int, fits-abs, abs-mul_le}
-use Rattle.integer.specs.Bits.{Holds, holds, holds-ok, holds_as, fits-add, op_fits, op_holds}
+use Rattle.integer.proofs.laws.IntegerLaws.{int, fits-abs, abs-mul_le}
+use Rattle.integer.proofs.Bits.{Holds, holds, holds-ok, holds_as, fits-add, op_fits, op_holds}
 use Rattle.rulebook.specs.Units.{most_price, most_quantity}
 use Rattle.rules.proofs.price.weighted_more.Goals as goal
 use Rattle.rules.proofs.price.weighted_more.Goals.{After-signed}

@@ -6,8 +6,8 @@ use lib.IntN.{nat_abs}
 use mir.Syntax.{w64}
 use mir.Val.{SFits, to_z, of_z}
 use mir.Facts.{to_z-of_z}
-use Rattle.integer.specs.laws.IntegerLaws.{int, parts, fits-abs}
-use Rattle.integer.specs.Bits.{known, got}
+use Rattle.integer.proofs.laws.IntegerLaws.{int, parts, fits-abs}
+use Rattle.integer.proofs.Bits.{known, got}
 use Rattle.rulebook.specs.Units.{most_quantity}
 use Rattle.rules.specs.PriceSums.{weight-le}
 use Rattle.rules.proofs.price.with_facility.Goals as goal

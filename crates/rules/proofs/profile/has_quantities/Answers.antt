@@ -1,6 +1,6 @@
 -- `has_quantities` meets its contract: each word that is read is judged.
 use borrow.Author.Rules.{rules}
-use Rattle.integer.specs.Bits.{got}
+use Rattle.integer.proofs.Bits.{got}
 use Rattle.rules.proofs.profile.has_quantities.Goals as goal
 
 pub returns : goal.returns

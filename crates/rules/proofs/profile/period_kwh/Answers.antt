@@ -3,7 +3,7 @@ use Prim.Native.Nat.{◌*◌}
 use native.Mathlib.Omega.{arith}
 use borrow.Author.Rules.{rules}
 use Rattle.integer.specs.Words.{word}
-use Rattle.integer.specs.laws.BelowLaws.{and-true}
+use Rattle.integer.proofs.laws.BelowLaws.{and-true}
 use Rattle.rulebook.specs.declared.Kind.TheVariants.{Quantity}
 use Rattle.rulebook.specs.Units.{in_range}
 use Rattle.rules.proofs.profile.period_kwh.Goals as goal

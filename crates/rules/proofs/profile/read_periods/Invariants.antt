@@ -8,7 +8,7 @@ use borrow.Author.Tests.{not-true, not-false}
 use lib.IntN.{ℤ}
 use lib.ListN.{length}
 use Rattle.integer.specs.Below.{fold, all}
-use Rattle.integer.specs.laws.BelowLaws.{fold-by_two, all_more, all_fails}
+use Rattle.integer.proofs.laws.BelowLaws.{fold-by_two, all_more, all_fails}
 use Rattle.integer.specs.Words.{word}
 use Rattle.rulebook.specs.declared.Kind.TheVariants.{Quantity}
 use Rattle.rulebook.specs.Units.{intervals, in_range, most_quantity}
@@ -17,7 +17,7 @@ use Rattle.rulebook.specs.Calls.{all_in_range, quantities_in}
 use Rattle.rules.specs.declared.profile.Span.{Span}
 use Rattle.rules.specs.declared.profile.Periods.TheVariants.{Told}
 use Rattle.rules.specs.PeriodsTold.{period_in_range, span_of}
-use Rattle.rules.specs.laws.PeriodsToldLaws.{span_zero, span_suc}
+use Rattle.rules.proofs.laws.PeriodsToldLaws.{span_zero, span_suc}
 use Rattle.rules.proofs.profile.read_periods.Given as goal
 
 abbrev pub invariant-loop-b : goal.invariant-loop-b

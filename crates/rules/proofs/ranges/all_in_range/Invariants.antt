@@ -6,8 +6,8 @@ use borrow.Author.Rules.{rules}
 use borrow.Author.Tests.{not-true, not-false}
 use lib.ListN.{length}
 use Rattle.integer.specs.Below.{fold, all}
-use Rattle.integer.specs.laws.BelowLaws.{all_more, all_fails}
-use Rattle.integer.specs.Bits.{got}
+use Rattle.integer.proofs.laws.BelowLaws.{all_more, all_fails}
+use Rattle.integer.proofs.Bits.{got}
 use Rattle.integer.specs.Words.{word}
 use Rattle.rulebook.specs.Units.{in_range}
 use Rattle.rulebook.specs.Calls.{all_in_range}

@@ -1,7 +1,7 @@
 -- `quantity_at` meets its contract: the word that is read is in range.
 use mathlib.Core.Path.{◌≡◌, sym, ◌∙◌}
 use borrow.Author.Rules.{rules}
-use Rattle.integer.specs.Bits.{got}
+use Rattle.integer.proofs.Bits.{got}
 use Rattle.rules.proofs.ranges.quantity_at.Goals as goal
 
 pub returns : goal.returns

@@ -4,12 +4,12 @@ use native.Mathlib.Omega.{arith}
 use borrow.Author.Rules.{rules}
 use mir.Syntax.{w64}
 use mir.Val.{to_z, of_z}
-use Rattle.integer.specs.Bits.{got}
+use Rattle.integer.proofs.Bits.{got}
 use Rattle.rulebook.specs.Shares.{share, edition_share}
-use Rattle.rulebook.specs.laws.SharesLaws.{share-cap}
+use Rattle.rulebook.proofs.laws.SharesLaws.{share-cap}
 use Rattle.rulebook.specs.declared.Kind.TheVariants.{Quantity}
 use Rattle.rulebook.specs.Calls.{share_word}
-use Rattle.rulebook.specs.laws.CallsLaws.{in_range-at}
+use Rattle.rulebook.proofs.laws.CallsLaws.{in_range-at}
 use Rattle.rules.proofs.share.first_share_at.Goals as goal
 
 pub quantity_at-requires : goal.quantity_at-requires

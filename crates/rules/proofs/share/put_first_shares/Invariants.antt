@@ -6,9 +6,9 @@ use lib.ListN.{length, length-set}
 use mir.Syntax.{w64}
 use mir.Val.{to_z, of_z}
 use Rattle.integer.specs.Below.{tabulate}
-use Rattle.integer.specs.Bits.{got}
+use Rattle.integer.proofs.Bits.{got}
 use Rattle.integer.specs.Words.{filled}
-use Rattle.integer.specs.laws.WordsLaws.{filled-suc}
+use Rattle.integer.proofs.laws.WordsLaws.{filled-suc}
 use Rattle.rulebook.specs.declared.Edition.TheVariants.{First}
 use Rattle.rulebook.specs.Calls.{share_word}
 use Rattle.rules.proofs.share.put_first_shares.Given as goal

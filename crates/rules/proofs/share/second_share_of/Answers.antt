@@ -4,7 +4,7 @@ use native.Mathlib.Omega.{arith}
 use borrow.Author.Rules.{rules}
 use mir.Syntax.{w64}
 use mir.Val.{to_z, of_z}
-use Rattle.rulebook.specs.laws.SecondShareLaws.{second_is, share-rises}
+use Rattle.rulebook.proofs.laws.SecondShareLaws.{second_is, share-rises}
 use Rattle.rules.proofs.share.second_share_of.Goals as goal
 
 pub overflow_sub-result : goal.overflow_sub-result

@@ -10,12 +10,12 @@ use lib.Dec.{leb}
 use lib.IntN.{pos}
 use lib.ListN.{length}
 use Rattle.integer.specs.Integer.{minus}
-use Rattle.integer.specs.laws.BelowLaws.{and-true}
+use Rattle.integer.proofs.laws.BelowLaws.{and-true}
 use Rattle.rulebook.specs.declared.Kind.TheVariants.{Quantity}
 use Rattle.rulebook.specs.Units.{between}
 use Rattle.rulebook.specs.Shares.{most_accounts, least_residual, most_residual}
 use Rattle.rulebook.specs.Calls.{all_in_range, share_input}
-use Rattle.rules.specs.laws.SpareToldLaws.{tests-pass, tests-fail}
+use Rattle.rules.proofs.laws.SpareToldLaws.{tests-pass, tests-fail}
 use Rattle.rules.proofs.share.share_input.Goals as goal
 use Rattle.rules.proofs.share.share_input.Goals.{After-is_between}
 

@@ -8,10 +8,10 @@ use mir.Syntax.{w64}
 use mir.Val.{to_z, of_z}
 use native.Mathlib.Nat.{mul-le-mul}
 use Rattle.integer.specs.Integer.{positive}
-use Rattle.integer.specs.laws.IntegerLaws.{int}
-use Rattle.integer.specs.Bits.{known}
-use Rattle.integer.specs.laws.BelowLaws.{lt_or_le}
-use Rattle.rulebook.specs.laws.SharesLaws.{share-none, share-full, share_part}
+use Rattle.integer.proofs.laws.IntegerLaws.{int}
+use Rattle.integer.proofs.Bits.{known}
+use Rattle.integer.proofs.laws.BelowLaws.{lt_or_le}
+use Rattle.rulebook.proofs.laws.SharesLaws.{share-none, share-full, share_part}
 use Rattle.rules.proofs.share.share_of.Goals as goal
 use Rattle.rules.proofs.share.share_of.Goals.{Else-s-eq0}
 

@@ -2,9 +2,9 @@
 use mathlib.Core.Path.{◌≡◌}
 use native.Mathlib.Omega.{arith}
 use borrow.Author.Rules.{rules}
-use Rattle.integer.specs.Bits.{got}
+use Rattle.integer.proofs.Bits.{got}
 use Rattle.rulebook.specs.Tranches.{tranche2}
-use Rattle.rulebook.specs.laws.TranchesLaws.{tranche-split}
+use Rattle.rulebook.proofs.laws.TranchesLaws.{tranche-split}
 use Rattle.rules.proofs.tranche.split.Goals as goal
 
 pub signed-requires : goal.signed-requires

@@ -5,7 +5,7 @@ use lib.IntN.{ℤ}
 use mir.Syntax.{w64}
 use mir.Val.{to_z, of_z}
 use borrow.Author.Rules.{rules}
-use Rattle.integer.specs.laws.BelowLaws.{and-true}
+use Rattle.integer.proofs.laws.BelowLaws.{and-true}
 use Rattle.rulebook.specs.declared.Kind.TheVariants.{Quantity}
 use Rattle.rulebook.specs.Units.{in_range}
 use Rattle.rulebook.specs.Calls.{tranche_input, tranche_call}

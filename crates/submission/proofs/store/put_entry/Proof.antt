@@ -7,7 +7,7 @@ use lib.ListN.{length, length-set}
 use mir.Syntax.{w64}
 use mir.Val.{to_z, of_z}
 use Rattle.integer.specs.Words.{filled}
-use Rattle.integer.specs.laws.WordsLaws.{filled_zero, filled-suc, filled-whole}
+use Rattle.integer.proofs.laws.WordsLaws.{filled_zero, filled-suc, filled-whole}
 use Rattle.submission.specs.Stored.{word_from}
 use Rattle.submission.proofs.store.put_entry.Statement.{statement}
 use Rattle.submission.proofs.store.put_entry.Tie as tie

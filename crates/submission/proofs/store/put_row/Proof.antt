@@ -4,7 +4,7 @@ use Prim.Native.Nat.{◌+◌, ◌*◌, ◌-◌, ◌≤◌}
 use native.Mathlib.Omega.{arith}
 use lib.ListN.{length}
 use Rattle.integer.specs.Words.{grid_row, grid}
-use Rattle.integer.specs.laws.WordsLaws.{row_fits_lem, grid-zero, grid-suc}
+use Rattle.integer.proofs.laws.WordsLaws.{row_fits_lem, grid-zero, grid-suc}
 use Rattle.rulebook.specs.Units.{intervals}
 use Rattle.submission.specs.Stored.{row_from}
 use Rattle.submission.proofs.store.put_row.Statement.{statement}

@@ -6,7 +6,7 @@ use Rattle.rulebook.specs.declared.Section.TheVariants.{Meter, Residual, Ncc}
 use Rattle.rulebook.specs.File.{meter_pos, residual_pos, ncc_pos, section_end}
 use Rattle.rulebook.specs.Submit.{rows_stored}
 use Rattle.submission.specs.Stored.{SectionFits}
-use Rattle.submission.specs.laws.StoredLaws.{rows_four}
+use Rattle.submission.proofs.laws.StoredLaws.{rows_four}
 use Rattle.submission.proofs.store.store_file.Statement.{statement}
 use Rattle.submission.proofs.store.store_file.Tie as tie
 

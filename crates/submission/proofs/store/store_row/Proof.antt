@@ -10,9 +10,9 @@ use Rattle.rulebook.specs.ReferencePrice.{most_facilities}
 use Rattle.rulebook.specs.Layout.{present, width, interval_size, row_word, size}
 use Rattle.rulebook.specs.Sections.{per_interval}
 use Rattle.submission.specs.declared.store.Form.{Form}
-use Rattle.files.specs.laws.RowsLaws.{count-le}
+use Rattle.files.proofs.laws.RowsLaws.{count-le}
 use Rattle.submission.specs.Stored.{form_of}
-use Rattle.submission.specs.laws.StoredLaws.{flag_small, accounts-few, row-start, row_room, row-stored}
+use Rattle.submission.proofs.laws.StoredLaws.{flag_small, accounts-few, row-start, row_room, row-stored}
 use Rattle.submission.proofs.store.store_row.Statement.{statement}
 use Rattle.submission.proofs.store.store_row.Tie as tie
 

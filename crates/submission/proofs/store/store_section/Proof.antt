@@ -6,9 +6,9 @@ use lib.ListN.{length}
 use Rattle.rulebook.specs.File.{row_at, row_pos, rows_in, section_end}
 use Rattle.rulebook.specs.Submit.{row_stored}
 use Rattle.rulebook.specs.Units.{intervals}
-use Rattle.files.specs.laws.RowsLaws.{pos-none, pos-more}
+use Rattle.files.proofs.laws.RowsLaws.{pos-none, pos-more}
 use Rattle.submission.specs.Stored.{first_stored}
-use Rattle.submission.specs.laws.StoredLaws.{first-none, first_more, first-all}
+use Rattle.submission.proofs.laws.StoredLaws.{first-none, first_more, first-all}
 use Rattle.submission.proofs.store.store_section.Statement.{statement}
 use Rattle.submission.proofs.store.store_section.Tie as tie
 

@@ -1,8 +1,8 @@
 -- `submit` meets its contract: the promise goes by what the judge says of the book.
 use mathlib.Core.Path.{sym, ◌∙◌}
 use borrow.Author.Rules.{rules}
-use Rattle.book.specs.laws.JudgedLaws.{book-ill}
-use Rattle.submission.specs.laws.SubmitLaws.{ill_formed}
+use Rattle.book.proofs.laws.JudgedLaws.{book-ill}
+use Rattle.submission.proofs.laws.SubmitLaws.{ill_formed}
 use Rattle.submission.proofs.submit.submit.Statement.{statement}
 use Rattle.submission.proofs.submit.submit.Tie as tie
 

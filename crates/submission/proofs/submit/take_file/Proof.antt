@@ -9,9 +9,9 @@ use Rattle.rulebook.specs.Judging.{limits_of, judged}
 use Rattle.rulebook.specs.Promises.{SubmitPromise}
 use Rattle.files.specs.Judgeable.{Judgeable}
 use Rattle.book.specs.Judged.{Formed}
-use Rattle.book.specs.laws.JudgedLaws.{book-formed}
+use Rattle.book.proofs.laws.JudgedLaws.{book-formed}
 use Rattle.submission.specs.Marks.{most_marks}
-use Rattle.submission.specs.laws.SubmitLaws.{marks_enough, file-fits, file-taken, file-refused}
+use Rattle.submission.proofs.laws.SubmitLaws.{marks_enough, file-fits, file-taken, file-refused}
 use Rattle.submission.proofs.submit.take_file.Statement.{statement}
 use Rattle.submission.proofs.submit.take_file.Tie as tie
 

@@ -1,0 +1,3 @@
+pub mod laws
+pub mod examples
+pub mod InterpreterTheorems

@@ -1,0 +1,4 @@
+pub mod laws
+pub mod examples
+pub mod FileTheorems
+pub mod Theorems
