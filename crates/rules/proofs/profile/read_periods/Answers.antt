@@ -41,3 +41,27 @@ returns c =
     let profile = c.args.profile.now in
     let e : l.b ≡ balancing_periods = omega arith in
     rw (all-quantities profile c.requires, rw e at l.invariant.1) (ap Told (rw e at l.invariant.2))
+
+pub returns-then-not-has_quantities : goal.returns-then-not-has_quantities
+returns-then-not-has_quantities c =
+    let profile = c.args.profile.now in
+    rw (all-quantities profile c.requires, all_fails balancing_periods (period_in_range profile) c.loop-b.b (omega arith) (sym c.has_quantities.ensures ∙ c.if-not-has_quantities.true))
+
+-- the words that were judged are quantities
+judged : (c : Else-not-has_quantities) → period_in_range c.args.profile.now c.loop-b.b ≡ true
+judged c = sym c.has_quantities.ensures ∙ c.if-not-has_quantities.false
+
+pub period_kwh-requires : goal.period_kwh-requires
+period_kwh-requires c = (omega arith, judged (goal.at.period_kwh-requires c).Else-not-has_quantities)
+
+pub loop-b-preserved : goal.loop-b-preserved
+loop-b-preserved c =
+    let profile = c.args.profile.now in
+    let b = c.loop-b.b in
+    let kwh = c.period_kwh.ensures in
+    let total = ap (λ (s : Span). s.total) c.with_period-span.ensures in (
+      omega arith,
+      all_more b (period_in_range profile) c.loop-b.invariant.1 (judged (goal.at.loop-b-preserved c).Else-not-has_quantities),
+      rw (c.with_period-span.ensures, c.loop-b.invariant.2, kwh.0) (sym (span_suc b (period_kwh (quantities_in profile)))),
+      omega (arith, total, kwh.1),
+    )

@@ -24,3 +24,15 @@ returns c =
     let xs = c.args.xs.now in
     let e : c.loop-i.i ≡ length xs = omega arith in
     sym (rw e at c.loop-i.invariant.2)
+
+pub returns-then-not-in_range : goal.returns-then-not-in_range
+unfolding all_in_range
+returns-then-not-in_range c =
+    let s = c.args in
+    let r = c.word_at in
+    sym (all_fails (length s.xs.now) _ c.loop-i.i (omega arith) (sym (c.in_range.ensures ∙ ap (in_range s.kind) (got r.result r.type_inv ∙ r.ensures)) ∙ c.if-not-in_range.true))
+
+pub loop-i-preserved : goal.loop-i-preserved
+loop-i-preserved c =
+    let r = c.word_at in
+    (omega arith, refl, all_more c.loop-i.i _ c.loop-i.invariant.2 (sym (c.in_range.ensures ∙ ap (in_range c.args.kind) (got r.result r.type_inv ∙ r.ensures)) ∙ c.if-not-in_range.false))

@@ -26,3 +26,13 @@ returns c =
     let e : c.loop-a.a ≡ length c.args.uegq.now = omega arith in
     let x : to_z w64 (of_z w64 c.args.r) ≡ c.args.r = search rules in
     rw (c.loop-a.invariant.2, e, x)
+
+pub loop-a-preserved : goal.loop-a-preserved
+loop-a-preserved c =
+    let w = c.put_word in
+    let l = c.loop-a in
+    let a = c.args in
+    let v = c.first_share_at in
+    let z : to_z w64 (of_z w64 v.result) ≡ v.result = got v.result v.type_inv in
+    let k : l.a < length a.output.now = omega arith in
+    (omega arith, ap length w.ensures ∙ simp length-set l.invariant.1, rw filled-suc (cc))

@@ -77,3 +77,20 @@ returns c =
     let e : c.loop-a.a ≡ length c.args.uegq.now = omega arith in
     let x : to_z w64 (of_z w64 c.args.r) ≡ c.args.r = search rules in
     rw (c.loop-a.invariant.5, e, x)
+
+pub loop-a-preserved : goal.loop-a-preserved
+loop-a-preserved c =
+    let w = c.put_word in
+    let l = c.loop-a in
+    let a = c.args in
+    let k : l.a < length a.output.now = omega arith in
+    let u = c.quantity_at-sum.ensures.0 in
+    let d = difference (to_z w64 (of_z w64 a.r)) a.uegq.now l.a a.s l.sum c.share_of-shared.result l.given c.requires.1 l.invariant.2
+    (c.share_of-shared.ensures ∙ ap (λ (x : ℕ). share_of (to_z w64 (of_z w64 a.r)) a.s (l.sum + x)) u) l.invariant.4 in (
+      omega arith,
+      w.auto.words ∙ l.invariant.1,
+      fold_step ◌+◌ 0 l.a (quantities_in a.uegq.now) l.invariant.2 u,
+      omega (arith, c.quantity_at-sum.ensures.1, l.invariant.3),
+      c.share_of-shared.ensures,
+      w.ensures ∙ filled-step l.a (share_word Second (to_z w64 (of_z w64 a.r)) a.uegq.now) a.output.now k l.invariant.5 (got c.signed.result c.signed.type_inv ∙ c.signed.ensures ∙ d),
+    )
