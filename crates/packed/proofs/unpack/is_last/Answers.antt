@@ -9,8 +9,7 @@ use lib.Dec.{ltb, eqb}
 use Rattle.integer.proofs.laws.BelowLaws.{lt_or_le}
 use Rattle.packed.specs.Packed.{plus_sign, minus_sign}
 use Rattle.packed.specs.Pairs.{is_last}
-use Rattle.packed.proofs.unpack.is_last.Statement.{statement}
-use Rattle.packed.proofs.unpack.is_last.Tie as tie
+use Rattle.packed.proofs.unpack.is_last.Goals as goal
 
 both : (b : ℕ) → (ltb b 160 && (eqb (b % 16) plus_sign || eqb (b % 16) minus_sign)) ≡ is_last b
 both b =
@@ -18,8 +17,5 @@ both b =
     (λ u. rw (le-ltb b 160 u, lt-leb (b / 16) 9 (omega arith)))
     (lt_or_le b 160)
 
-returns : tie.Need-returns
+pub returns : goal.returns
 returns c = both c.args.b
-
-pub is-last-spec : {M : Type 1} → statement M
-is-last-spec = tie.close (tie.spec returns)

@@ -10,8 +10,7 @@ use lib.Signed.{lt_z}
 use mir.Syntax.{w64}
 use mir.Val.{to_z, of_z}
 use Rattle.packed.specs.Packed.{minus_sign, plus_sign, sign_of}
-use Rattle.packed.proofs.pack.sign.Statement.{statement}
-use Rattle.packed.proofs.pack.sign.Tie as tie
+use Rattle.packed.proofs.pack.sign.Goals as goal
 
 below : (z : ℤ) → lt_z z (pos 0) ≡ true → minus_sign ≡ sign_of z
 below (pos n) e = absurd (let f = le-ltb n 0 (omega arith) in let l : ◌≡◌ {A = ℕ} 0 1 = cc in omega arith)
@@ -21,17 +20,14 @@ above : (z : ℤ) → lt_z z (pos 0) ≡ false → plus_sign ≡ sign_of z
 above (pos n) e = refl
 above (negsuc n) e = absurd (let l : ◌≡◌ {A = ℕ} 0 1 = cc in omega arith)
 
-returns : tie.Need-returns
-returns c =
-    let z = c.before.args.z in
+pub returns-then-z-lt0 : goal.returns-then-z-lt0
+returns-then-z-lt0 c =
+    let z = c.args.z in
     let x : to_z w64 (of_z w64 z) ≡ z = search rules in
-    (below z (rw x at c.if1.true), omega arith)
+    (below z (rw x at c.if-z-lt0.true), omega arith)
 
-returns-2 : tie.Need-returns-2
-returns-2 c =
-    let z = c.before.args.z in
+pub returns-else-z-lt0 : goal.returns-else-z-lt0
+returns-else-z-lt0 c =
+    let z = c.args.z in
     let x : to_z w64 (of_z w64 z) ≡ z = search rules in
-    (above z (rw x at c.if1.false), omega arith)
-
-pub sign-spec : {M : Type 1} → statement M
-sign-spec = tie.close (tie.spec returns returns-2)
+    (above z (rw x at c.if-z-lt0.false), omega arith)

@@ -8,8 +8,7 @@ use borrow.Author.Tests.{lt-ltb, le-ltb, le-leb, lt-leb}
 use lib.Dec.{ltb}
 use Rattle.integer.proofs.laws.BelowLaws.{lt_or_le}
 use Rattle.packed.specs.Pairs.{is_pair}
-use Rattle.packed.proofs.unpack.is_pair.Statement.{statement}
-use Rattle.packed.proofs.unpack.is_pair.Tie as tie
+use Rattle.packed.proofs.unpack.is_pair.Goals as goal
 
 both : (b : ℕ) → (ltb b 160 && ltb (b % 16) 10) ≡ is_pair b
 both b =
@@ -19,8 +18,5 @@ both b =
     (λ u. rw (le-ltb b 160 u, lt-leb (b / 16) 9 (omega arith)))
     (lt_or_le b 160)
 
-returns : tie.Need-returns
+pub returns : goal.returns
 returns c = both c.args.b
-
-pub is-pair-spec : {M : Type 1} → statement M
-is-pair-spec = tie.close (tie.spec returns)

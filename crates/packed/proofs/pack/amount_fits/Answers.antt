@@ -12,8 +12,7 @@ use mir.Syntax.{w64}
 use mir.Val.{to_z, of_z}
 use Rattle.integer.proofs.laws.BelowLaws.{lt_or_le}
 use Rattle.packed.specs.Packed.{amount_fits}
-use Rattle.packed.proofs.pack.amount_fits.Statement.{statement}
-use Rattle.packed.proofs.pack.amount_fits.Tie as tie
+use Rattle.packed.proofs.pack.amount_fits.Goals as goal
 
 between_ends : (z : ℤ) → (le_z (negsuc 999999999999998) z && le_z z (pos 999999999999999)) ≡ amount_fits z
 between_ends (pos n) = refl
@@ -22,10 +21,7 @@ between_ends (negsuc n) =
     (λ l. rw (le-leb n 999999999999998 l, le-leb (suc n) 999999999999999 (omega arith)))
     (lt_or_le 999999999999998 n)
 
-returns : tie.Need-returns
+pub returns : goal.returns
 returns c =
     let x : to_z w64 (of_z w64 c.args.z) ≡ c.args.z = search rules in
     rw x (between_ends c.args.z)
-
-pub amount-fits-spec : {M : Type 1} → statement M
-amount-fits-spec = tie.close (tie.spec returns)
