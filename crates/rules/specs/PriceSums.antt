@@ -1,7 +1,6 @@
 -- The sums of which V is the average, facility by facility. Assumes nothing.
 use Rattle.std.specs.Prelude.{◌≡◌, refl, ℕ, ◌+◌, ◌*◌, ◌≤◌, ◌<◌, ℤ, pos, nat_abs, ◌+ℤ◌, ◌*ℤ◌}
-use Rattle.std.proofs.Common.{sym, ap, ◌∙◌, le_refl, arith}
-use Rattle.integer.specs.Integer.{positive}
+use Rattle.std.proofs.Common.{arith}
 use Rattle.integer.proofs.laws.IntegerLaws.{parts, abs-mul_le}
 use Rattle.integer.specs.Below.{fold, sum_ℤ}
 use Rattle.integer.proofs.laws.BelowLaws.{fold-suc, sum_ℕ-le, abs-sum_ℤ}

@@ -1,5 +1,4 @@
 -- `price_input` meets its contract: its tests are those of `price_input`.
-use borrow.Author.Rules.{rules}
 use Rattle.rulebook.specs.Calls.{price_input}
 use Rattle.rules.proofs.price.price_input.Goals as goal
 

@@ -1,9 +1,6 @@
 -- `price_of` meets its contract: the test of the weights picks the average, and both sums are within 2 ^ 62.
-use mathlib.Core.Path.{◌≡◌, ◌∙◌}
 use mathlib.Core.Logic.{⊎_elim}
-use borrow.Author.Rules.{rules}
 use borrow.Author.Tests.{eq-eqb, ne_eqb}
-use lib.IntN.{nat_abs}
 use mir.Syntax.{w64}
 use mir.Val.{SFits}
 use mir.Facts.{to_z-of_z}

@@ -1,7 +1,6 @@
 -- `reference_price` meets its contract: V of the lists' sums, or the refusal; what is accepted is in range.
-use mathlib.Core.Path.{◌≡◌, sym, ap, ◌∙◌, subst}
+use mathlib.Core.Path.{sym, ◌∙◌}
 use native.Mathlib.Omega.{arith}
-use borrow.Author.Rules.{rules}
 use lib.ListN.{length}
 use Rattle.integer.proofs.Bits.{got}
 use Rattle.integer.specs.Words.{word}

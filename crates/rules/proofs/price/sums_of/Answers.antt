@@ -1,12 +1,10 @@
 -- `sums_of` meets its contract: each turn takes one facility more, and the sums stay within their bounds.
-use mathlib.Core.Path.{◌≡◌, sym, ap, ◌∙◌, subst}
+use mathlib.Core.Path.{◌≡◌, sym, ap, ◌∙◌}
 use mathlib.Core.List.{List}
-use Prim.Native.Nat.{ℕ, ◌-◌, ◌≤◌, ◌<◌}
+use Prim.Native.Nat.{ℕ, ◌≤◌, ◌<◌}
 use native.Mathlib.Omega.{arith}
-use borrow.Author.Rules.{rules}
 use lib.IntN.{ℤ, nat_abs}
 use lib.ListN.{length}
-use Rattle.integer.proofs.laws.IntegerLaws.{int}
 use Rattle.integer.proofs.Bits.{got}
 use Rattle.integer.specs.Words.{word}
 use Rattle.rulebook.specs.declared.Kind.TheVariants.{Injection, Price}
@@ -14,7 +12,7 @@ use Rattle.rulebook.specs.Units.{most_price, most_quantity}
 use Rattle.rulebook.specs.Calls.{PricesIn}
 use Rattle.rulebook.proofs.laws.UnitsLaws.{price-range, injection-range}
 use Rattle.rulebook.proofs.laws.CallsLaws.{in_range-at}
-use Rattle.rules.specs.PriceSums.{sums_of, added, SumsWithin, sums-zero, sums-suc, sums-count, sums-within}
+use Rattle.rules.specs.PriceSums.{sums_of, sums-zero, sums-suc, sums-count, sums-within}
 use Rattle.rules.proofs.price.sums_of.Goals as goal
 
 -- each MEP and IEQ of accepted lists

@@ -1,5 +1,4 @@
 -- `weight_of` meets its contract: the number read is the one given.
-use borrow.Author.Rules.{rules}
 use Rattle.integer.proofs.laws.IntegerLaws.{int}
 use Rattle.integer.proofs.Bits.{known}
 use Rattle.rules.proofs.price.weight_of.Goals as goal

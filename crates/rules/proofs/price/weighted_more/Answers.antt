@@ -1,6 +1,5 @@
 -- `weighted_more` meets its contract: the product is at most 10^13 and the sum at most 4 × 10^13, so both fit.
 use Prim.Native.Nat.{◌*◌, ◌≤◌}
-use borrow.Author.Rules.{rules}
 use lib.IntN.{pos, nat_abs, ◌+ℤ◌, ◌*ℤ◌}
 use mir.Syntax.{w64}
 use mir.Val.{SFits, to_z, of_z}

@@ -1,12 +1,9 @@
 -- `with_facility` meets its contract: three facilities' sums leave room for a fourth's.
-use mathlib.Core.Path.{◌≡◌}
 use Prim.Native.Nat.{◌≤◌}
-use borrow.Author.Rules.{rules}
-use lib.IntN.{nat_abs}
 use mir.Syntax.{w64}
 use mir.Val.{SFits, to_z, of_z}
 use mir.Facts.{to_z-of_z}
-use Rattle.integer.proofs.laws.IntegerLaws.{int, parts, fits-abs}
+use Rattle.integer.proofs.laws.IntegerLaws.{int, fits-abs}
 use Rattle.integer.proofs.Bits.{known, got}
 use Rattle.rulebook.specs.Units.{most_quantity}
 use Rattle.rules.specs.PriceSums.{weight-le}

@@ -1,6 +1,5 @@
 -- `check_periods` meets its contract: each return is a case of `profile_told`.
 use mathlib.Core.Path.{sym, ap, ◌∙◌}
-use borrow.Author.Rules.{rules}
 use Rattle.rulebook.specs.declared.Kind.TheVariants.{Quantity}
 use Rattle.rulebook.specs.Calls.{all_in_range, quantities_in, profile_told}
 use Rattle.rules.specs.PeriodsTold.{span_keeps}

@@ -1,5 +1,4 @@
 -- `has_quantities` meets its contract: each word that is read is judged.
-use borrow.Author.Rules.{rules}
 use Rattle.integer.proofs.Bits.{got}
 use Rattle.rules.proofs.profile.has_quantities.Goals as goal
 

@@ -1,5 +1,4 @@
 -- `is_possible` meets its contract: its limits are those of `total_possible`, and 24 times the larger one is at most 300,000,000.
-use borrow.Author.Rules.{rules}
 use Rattle.rulebook.specs.Profile.{total_possible}
 use Rattle.rules.proofs.profile.is_possible.Goals as goal
 

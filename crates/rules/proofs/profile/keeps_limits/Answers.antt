@@ -1,5 +1,4 @@
 -- `keeps_limits` meets its contract: its limits are those of `span_keeps`.
-use borrow.Author.Rules.{rules}
 use Rattle.rules.proofs.profile.keeps_limits.Goals as goal
 
 pub returns : goal.returns

@@ -1,7 +1,6 @@
 -- `period_kwh` meets its contract: both words of the period are quantities.
 use Prim.Native.Nat.{◌*◌}
 use native.Mathlib.Omega.{arith}
-use borrow.Author.Rules.{rules}
 use Rattle.integer.specs.Words.{word}
 use Rattle.integer.proofs.laws.BelowLaws.{and-true}
 use Rattle.rulebook.specs.declared.Kind.TheVariants.{Quantity}

@@ -1,23 +1,11 @@
-use mathlib.Core.Path.{◌≡◌, refl, sym, ap, ◌∙◌}
-use mathlib.Core.Bool.{true, and_assoc, ◌&&◌}
-use mathlib.Core.List.{List}
+use mathlib.Core.Path.{◌≡◌}
+use mathlib.Core.Bool.{true}
 use Prim.Native.Nat.{◌*◌, ◌-◌, ◌≤◌}
-use native.Mathlib.Omega.{arith}
-use borrow.Author.Rules.{rules}
-use borrow.Author.Tests.{not-true, not-false}
-use lib.IntN.{ℤ}
-use lib.ListN.{length}
-use Rattle.integer.specs.Below.{fold, all}
-use Rattle.integer.proofs.laws.BelowLaws.{fold-by_two, all_more, all_fails}
-use Rattle.integer.specs.Words.{word}
-use Rattle.rulebook.specs.declared.Kind.TheVariants.{Quantity}
-use Rattle.rulebook.specs.Units.{intervals, in_range, most_quantity}
+use Rattle.integer.specs.Below.{all}
+use Rattle.rulebook.specs.Units.{most_quantity}
 use Rattle.rulebook.specs.Profile.{balancing_periods, period_kwh}
-use Rattle.rulebook.specs.Calls.{all_in_range, quantities_in}
-use Rattle.rules.specs.declared.profile.Span.{Span}
-use Rattle.rules.specs.declared.profile.Periods.TheVariants.{Told}
+use Rattle.rulebook.specs.Calls.{quantities_in}
 use Rattle.rules.specs.PeriodsTold.{period_in_range, span_of}
-use Rattle.rules.proofs.laws.PeriodsToldLaws.{span_zero, span_suc}
 use Rattle.rules.proofs.profile.read_periods.Given as goal
 
 abbrev pub invariant-loop-b : goal.invariant-loop-b

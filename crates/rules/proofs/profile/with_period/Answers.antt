@@ -1,5 +1,4 @@
 -- `with_period` meets its contract: each field is that of `extended`.
-use borrow.Author.Rules.{rules}
 use Rattle.rules.proofs.profile.with_period.Goals as goal
 
 pub returns : goal.returns

@@ -1,16 +1,10 @@
-use mathlib.Core.Path.{◌≡◌, refl, sym, ap, ◌∙◌}
+use mathlib.Core.Path.{◌≡◌}
 use mathlib.Core.Bool.{true}
 use Prim.Native.Nat.{◌-◌, ◌≤◌}
-use native.Mathlib.Omega.{arith}
-use borrow.Author.Rules.{rules}
-use borrow.Author.Tests.{not-true, not-false}
 use lib.ListN.{length}
-use Rattle.integer.specs.Below.{fold, all}
-use Rattle.integer.proofs.laws.BelowLaws.{all_more, all_fails}
-use Rattle.integer.proofs.Bits.{got}
+use Rattle.integer.specs.Below.{all}
 use Rattle.integer.specs.Words.{word}
 use Rattle.rulebook.specs.Units.{in_range}
-use Rattle.rulebook.specs.Calls.{all_in_range}
 use Rattle.rules.proofs.ranges.all_in_range.Given as goal
 
 abbrev pub invariant-loop-i : goal.invariant-loop-i

@@ -1,6 +1,4 @@
 -- `quantity_at` meets its contract: the word that is read is in range.
-use mathlib.Core.Path.{◌≡◌, sym, ◌∙◌}
-use borrow.Author.Rules.{rules}
 use Rattle.integer.proofs.Bits.{got}
 use Rattle.rules.proofs.ranges.quantity_at.Goals as goal
 

@@ -1,6 +1,6 @@
 -- `put_first_shares` meets its contract: each turn fills one word more.
 use mathlib.Core.Path.{◌≡◌, ap, ◌∙◌}
-use Prim.Native.Nat.{◌-◌, ◌≤◌, ◌<◌}
+use Prim.Native.Nat.{◌<◌}
 use native.Mathlib.Omega.{arith}
 use borrow.Author.Rules.{rules}
 use lib.ListN.{length, length-set}
@@ -8,10 +8,7 @@ use mir.Syntax.{w64}
 use mir.Val.{to_z, of_z}
 use Rattle.integer.specs.Below.{tabulate}
 use Rattle.integer.proofs.Bits.{got}
-use Rattle.integer.specs.Words.{filled}
 use Rattle.integer.proofs.laws.WordsLaws.{filled-suc}
-use Rattle.rulebook.specs.declared.Edition.TheVariants.{First}
-use Rattle.rulebook.specs.Calls.{share_word}
 use Rattle.rules.proofs.share.put_first_shares.Goals as goal
 
 pub loop-a-init : goal.loop-a-init

@@ -1,14 +1,7 @@
-use mathlib.Core.Path.{◌≡◌, ap, ◌∙◌}
-use Prim.Native.Nat.{◌-◌, ◌≤◌, ◌<◌}
-use native.Mathlib.Omega.{arith}
-use borrow.Author.Rules.{rules}
-use lib.ListN.{length, length-set}
-use mir.Syntax.{w64}
-use mir.Val.{to_z, of_z}
-use Rattle.integer.specs.Below.{tabulate}
-use Rattle.integer.proofs.Bits.{got}
+use mathlib.Core.Path.{◌≡◌}
+use Prim.Native.Nat.{◌-◌, ◌≤◌}
+use lib.ListN.{length}
 use Rattle.integer.specs.Words.{filled}
-use Rattle.integer.proofs.laws.WordsLaws.{filled-suc}
 use Rattle.rulebook.specs.declared.Edition.TheVariants.{First}
 use Rattle.rulebook.specs.Calls.{share_word}
 use Rattle.rules.proofs.share.put_first_shares.Given as goal

@@ -1,7 +1,7 @@
 -- `put_second_shares` meets its contract: `given` is what the accounts so far get together, and each turn fills one word more with the difference.
 use mathlib.Core.Path.{◌≡◌, refl, sym, ap, ◌∙◌}
 use mathlib.Core.List.{List}
-use Prim.Native.Nat.{ℕ, ◌+◌, ◌-◌, ◌*◌, ◌≤◌, ◌<◌}
+use Prim.Native.Nat.{ℕ, ◌+◌, ◌-◌, ◌<◌}
 use native.Mathlib.Omega.{arith}
 use borrow.Author.Rules.{rules}
 use lib.IntN.{ℤ, pos}
@@ -11,11 +11,9 @@ use mir.Val.{to_z, of_z}
 use Rattle.integer.specs.Below.{fold, sum_ℕ}
 use Rattle.integer.proofs.laws.BelowLaws.{fold_step}
 use Rattle.integer.proofs.Bits.{got}
-use Rattle.integer.specs.Words.{filled}
 use Rattle.integer.proofs.laws.WordsLaws.{filled_zero, filled-step}
 use Rattle.rulebook.specs.declared.Kind.TheVariants.{Quantity}
 use Rattle.rulebook.specs.declared.Edition.TheVariants.{Second}
-use Rattle.rulebook.specs.Units.{most_quantity}
 use Rattle.rulebook.specs.Shares.{share_of, second_share, edition_share}
 use Rattle.rulebook.proofs.laws.SharesLaws.{share-cap}
 use Rattle.rulebook.proofs.laws.SecondShareLaws.{share-rises, second_is}

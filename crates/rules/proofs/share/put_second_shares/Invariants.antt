@@ -1,25 +1,12 @@
-use mathlib.Core.Path.{◌≡◌, refl, sym, ap, ◌∙◌}
-use mathlib.Core.List.{List}
-use Prim.Native.Nat.{ℕ, ◌+◌, ◌-◌, ◌*◌, ◌≤◌, ◌<◌}
-use native.Mathlib.Omega.{arith}
-use borrow.Author.Rules.{rules}
-use lib.IntN.{ℤ, pos}
+use mathlib.Core.Path.{◌≡◌}
+use Prim.Native.Nat.{◌-◌, ◌*◌, ◌≤◌}
 use lib.ListN.{length}
-use mir.Syntax.{w64}
-use mir.Val.{to_z, of_z}
-use Rattle.integer.specs.Below.{fold, sum_ℕ}
-use Rattle.integer.proofs.laws.BelowLaws.{fold_step}
-use Rattle.integer.proofs.Bits.{got}
+use Rattle.integer.specs.Below.{sum_ℕ}
 use Rattle.integer.specs.Words.{filled}
-use Rattle.integer.proofs.laws.WordsLaws.{filled_zero, filled-step}
-use Rattle.rulebook.specs.declared.Kind.TheVariants.{Quantity}
 use Rattle.rulebook.specs.declared.Edition.TheVariants.{Second}
 use Rattle.rulebook.specs.Units.{most_quantity}
-use Rattle.rulebook.specs.Shares.{share_of, second_share, edition_share}
-use Rattle.rulebook.proofs.laws.SharesLaws.{share-cap}
-use Rattle.rulebook.proofs.laws.SecondShareLaws.{share-rises, second_is}
-use Rattle.rulebook.specs.Calls.{quantities_in, spare_in, share_word}
-use Rattle.rulebook.proofs.laws.CallsLaws.{in_range-at}
+use Rattle.rulebook.specs.Shares.{share_of}
+use Rattle.rulebook.specs.Calls.{quantities_in, share_word}
 use Rattle.rules.proofs.share.put_second_shares.Given as goal
 
 abbrev pub invariant-loop-a : goal.invariant-loop-a

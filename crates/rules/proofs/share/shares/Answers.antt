@@ -1,14 +1,12 @@
 -- `shares` meets its contract: in each case the answer and the words are `share_call`'s; what is accepted is in range.
 use mathlib.Core.Path.{◌≡◌, sym, ◌∙◌}
-use mathlib.Core.Bool.{true, false}
 use borrow.Author.Rules.{rules}
 use borrow.Author.Tests.{le-leb, lt-leb}
-use lib.Dec.{leb}
 use lib.ListN.{length}
 use mir.Syntax.{w64}
 use mir.Val.{to_z, of_z}
 use native.Mathlib.Omega.{arith}
-use Rattle.rulebook.specs.Calls.{spare_in, share_input, share_call}
+use Rattle.rulebook.specs.Calls.{share_input, share_call}
 use Rattle.rulebook.proofs.laws.CallsLaws.{shares-in}
 use Rattle.rules.specs.SpareTold.{spare_where}
 use Rattle.rules.proofs.laws.SpareToldLaws.{total-told, refusal_told}

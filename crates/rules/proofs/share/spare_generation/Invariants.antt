@@ -1,21 +1,11 @@
-use mathlib.Core.Path.{◌≡◌, refl, sym, ap, ◌∙◌}
+use mathlib.Core.Path.{◌≡◌}
 use mathlib.Core.Bool.{true}
-use Prim.Native.Nat.{ℕ, ◌+◌, ◌*◌, ◌-◌, ◌≤◌, ◌<◌}
-use mathlib.Core.List.{List}
-use native.Mathlib.Omega.{arith}
-use borrow.Author.Rules.{rules}
-use borrow.Author.Tests.{not-true, not-false}
-use lib.IntN.{ℤ}
+use Prim.Native.Nat.{◌-◌, ◌≤◌}
 use lib.ListN.{length}
-use Rattle.integer.specs.Below.{fold, all, sum_ℕ}
-use Rattle.integer.proofs.laws.BelowLaws.{fold_step, all_more, all_fails}
-use Rattle.integer.proofs.Bits.{got}
+use Rattle.integer.specs.Below.{all, sum_ℕ}
 use Rattle.integer.specs.Words.{word}
 use Rattle.rulebook.specs.declared.Kind.TheVariants.{Quantity}
-use Rattle.rulebook.specs.Units.{in_range, as_quantity, most_quantity}
-use Rattle.rulebook.specs.Calls.{all_in_range}
-use Rattle.rulebook.proofs.laws.CallsLaws.{quantities-below}
-use Rattle.rules.specs.declared.share.Spare.TheVariants.{Total}
+use Rattle.rulebook.specs.Units.{in_range, as_quantity}
 use Rattle.rules.proofs.share.spare_generation.Given as goal
 
 abbrev pub invariant-loop-b : goal.invariant-loop-b

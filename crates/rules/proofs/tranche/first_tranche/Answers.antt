@@ -1,6 +1,4 @@
 -- `first_tranche` meets its contract: omega reads `min` and the truncated difference.
-use borrow.Author.Rules.{rules}
-use mathlib.Core.Logic.{⊎_elim}
 use native.Mathlib.Omega.{arith}
 use Rattle.rulebook.specs.Tranches.{tranche1}
 use Rattle.rules.proofs.tranche.first_tranche.Goals as goal

@@ -1,7 +1,5 @@
 -- `split` meets its contract: tranche 1 is within the share, so the rest is tranche 2.
-use mathlib.Core.Path.{◌≡◌}
 use native.Mathlib.Omega.{arith}
-use borrow.Author.Rules.{rules}
 use Rattle.integer.proofs.Bits.{got}
 use Rattle.rulebook.specs.Tranches.{tranche2}
 use Rattle.rulebook.proofs.laws.TranchesLaws.{tranche-split}

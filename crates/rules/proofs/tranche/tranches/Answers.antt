@@ -1,6 +1,6 @@
 -- `tranches` meets its contract: in each case the answer is `tranche_call`; what is accepted is in range.
 use mathlib.Core.Path.{◌≡◌, sym, ◌∙◌}
-use mathlib.Core.Bool.{true, false}
+use mathlib.Core.Bool.{true}
 use lib.IntN.{ℤ}
 use mir.Syntax.{w64}
 use mir.Val.{to_z, of_z}
