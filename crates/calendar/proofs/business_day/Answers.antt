@@ -1,0 +1,26 @@
+-- `business_day` meets its contract: both checks in their order, then the test.
+use Rattle.std.proofs.Common.{◌≡◌, sym, ap, ◌∙◌}
+use Rattle.integer.specs.Integer.{positive}
+use Rattle.calendar.specs.Calendar.{is_day, is_business_day, business_accepted, business_told}
+use Rattle.calendar.proofs.laws.DateLaws.{given}
+use Rattle.calendar.proofs.business_day.Goals as goal
+use Rattle.calendar.proofs.business_day.Goals.{After-is_day}
+
+-- what is read of the number given
+judged : (c : After-is_day) → c.is_day.result ≡ is_day c.args.day
+judged c = c.is_day.ensures ∙ given is_day c.ranges.day
+
+pub returns-then-not-is_day : goal.returns-then-not-is_day
+unfolding business_told
+returns-then-not-is_day c = rw (sym (judged (goal.at.returns-then-not-is_day c).After-is_day) ∙ c.if-not-is_day.true)
+
+pub returns-then-not-is_proper : goal.returns-then-not-is_proper
+unfolding business_told
+returns-then-not-is_proper c =
+    rw (sym (judged (goal.at.returns-then-not-is_proper c).After-is_day) ∙ c.if-not-is_day.false, sym c.is_proper.ensures ∙ c.if-not-is_proper.true)
+
+pub returns : goal.returns
+unfolding business_told
+returns c =
+    rw (sym (judged (goal.at.returns c).After-is_day) ∙ c.if-not-is_day.false, sym c.is_proper.ensures ∙ c.if-not-is_proper.false)
+    (ap business_accepted (c.is_business_day.ensures ∙ ap (is_business_day c.args.holidays.now) (c.natural.ensures ∙ given positive c.ranges.day)))

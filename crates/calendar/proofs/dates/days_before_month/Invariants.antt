@@ -1,0 +1,10 @@
+use mathlib.Core.Path.{◌≡◌}
+use Prim.Native.Nat.{◌-◌, ◌≤◌}
+use Rattle.calendar.specs.Calendar.{days_before_month}
+use Rattle.calendar.proofs.dates.days_before_month.Given as goal
+
+abbrev pub invariant-loop-m : goal.invariant-loop-m
+invariant-loop-m l = (1 ≤ l.m) × (l.m ≤ l.month) × (l.days ≡ days_before_month l.year l.m)
+
+abbrev pub decreases-loop-m : goal.decreases-loop-m
+decreases-loop-m l = l.month - l.m
