@@ -22,8 +22,7 @@ pub struct BookSize {
 }
 
 // Opens a book in the words lent.
-#[unsafe(no_mangle)]
-pub extern "C" fn robijan_open(book: &mut [i64], terms: Terms) -> Answer
+pub fn robijan_open(book: &mut [i64], terms: Terms) -> Answer
     ensures answered { result ≡ of_open (opened terms book.old).answer }
     ensures book_after { book.new ≡ (opened terms book.old).words }
 {
@@ -31,8 +30,7 @@ pub extern "C" fn robijan_open(book: &mut [i64], terms: Terms) -> Answer
 }
 
 // Submits a file to a book.
-#[unsafe(no_mangle)]
-pub extern "C" fn robijan_submit(book: &mut [i64], file: &[u8]) -> Answer
+pub fn robijan_submit(book: &mut [i64], file: &[u8]) -> Answer
     ensures answered { result ≡ of_submit (submitted book.old file.now).answer }
     ensures book_after { book.new ≡ (submitted book.old file.now).words }
 {
@@ -40,8 +38,7 @@ pub extern "C" fn robijan_submit(book: &mut [i64], file: &[u8]) -> Answer
 }
 
 // Closes a book's next day.
-#[unsafe(no_mangle)]
-pub extern "C" fn robijan_close(book: &mut [i64], statement: &mut [i64]) -> Answer
+pub fn robijan_close(book: &mut [i64], statement: &mut [i64]) -> Answer
     ensures answered { result ≡ of_close (closed book.old statement.old).answer }
     ensures book_after { book.new ≡ (closed book.old statement.old).words }
     ensures statement_after { statement.new ≡ (closed book.old statement.old).statement }
@@ -59,16 +56,14 @@ fn of_judged(judged: Judged) -> u64
 }
 
 // Is a lent book well formed? 0, or 3.
-#[unsafe(no_mangle)]
-pub extern "C" fn robijan_judge(book: &[i64]) -> u64
+pub fn robijan_judge(book: &[i64]) -> u64
     ensures { result ≡ judge_number book.now }
 {
     of_judged(judge(book))
 }
 
 // The words that a book of these terms takes; terms that an opening refuses are refused as by it.
-#[unsafe(no_mangle)]
-pub extern "C" fn robijan_book_size(terms: Terms) -> BookSize
+pub fn robijan_book_size(terms: Terms) -> BookSize
     ensures { result ≡ size_returned terms }
 {
     if terms_fit(terms) {

@@ -85,56 +85,49 @@ fn of_business(answer: BusinessAnswer) -> BusinessReturned
 }
 
 // The date of a day.
-#[unsafe(no_mangle)]
-pub extern "C" fn robijan_date(day: i64) -> DateReturned
+pub fn robijan_date(day: i64) -> DateReturned
     ensures { result ≡ date_told day }
 {
     of_date(date_of(day))
 }
 
 // The day of a date.
-#[unsafe(no_mangle)]
-pub extern "C" fn robijan_day(year: i64, month: i64, day: i64) -> DayReturned
+pub fn robijan_day(year: i64, month: i64, day: i64) -> DayReturned
     ensures { result ≡ day_told year month day }
 {
     of_day(day_of(year, month, day))
 }
 
 // The weekday of a day.
-#[unsafe(no_mangle)]
-pub extern "C" fn robijan_weekday(day: i64) -> WeekdayReturned
+pub fn robijan_weekday(day: i64) -> WeekdayReturned
     ensures { result ≡ weekday_told day }
 {
     of_weekday(weekday(day))
 }
 
 // The statement day of a trading day.
-#[unsafe(no_mangle)]
-pub extern "C" fn robijan_statement_day(day: i64) -> DayReturned
+pub fn robijan_statement_day(day: i64) -> DayReturned
     ensures { result ≡ statement_told day }
 {
     of_day(statement_day(day))
 }
 
 // Whether a day is a business day.
-#[unsafe(no_mangle)]
-pub extern "C" fn robijan_business_day(day: i64, holidays: &[i64]) -> BusinessReturned
+pub fn robijan_business_day(day: i64, holidays: &[i64]) -> BusinessReturned
     ensures { result ≡ business_told day holidays.now }
 {
     of_business(business_day(day, holidays))
 }
 
 // The day of a trading day's final statement.
-#[unsafe(no_mangle)]
-pub extern "C" fn robijan_final_statement(day: i64, holidays: &[i64]) -> DayReturned
+pub fn robijan_final_statement(day: i64, holidays: &[i64]) -> DayReturned
     ensures { result ≡ final_statement_told day holidays.now }
 {
     of_day(final_statement(day, holidays))
 }
 
 // The day on which a month's residual data fall due.
-#[unsafe(no_mangle)]
-pub extern "C" fn robijan_residual_due(year: i64, month: i64, holidays: &[i64]) -> DayReturned
+pub fn robijan_residual_due(year: i64, month: i64, holidays: &[i64]) -> DayReturned
     ensures { result ≡ residual_due_told year month holidays.now }
 {
     of_day(residual_due(year, month, holidays))

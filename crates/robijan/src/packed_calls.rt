@@ -42,16 +42,14 @@ fn of_unpack(answer: UnpackAnswer) -> UnpackReturned
 }
 
 // Writes a statement's amounts as fields of packed decimal.
-#[unsafe(no_mangle)]
-pub extern "C" fn robijan_pack(amounts: &[i64], output: &mut [u8]) -> u64
+pub fn robijan_pack(amounts: &[i64], output: &mut [u8]) -> u64
     ensures { record { number = result; output = output.new } ≡ pack_call amounts.now output.old }
 {
     pack_number(pack(amounts, output))
 }
 
 // Reads fields of packed decimal back as amounts.
-#[unsafe(no_mangle)]
-pub extern "C" fn robijan_unpack(fields: &[u8], output: &mut [i64]) -> UnpackReturned
+pub fn robijan_unpack(fields: &[u8], output: &mut [i64]) -> UnpackReturned
     ensures { record { returned = result; output = output.new } ≡ unpack_call fields.now output.old }
 {
     of_unpack(unpack(fields, output))

@@ -68,40 +68,35 @@ fn of_profile(answer: ProfileAnswer) -> ProfileReturned
 }
 
 // The reference price of facilities with these MEP and IEQ.
-#[unsafe(no_mangle)]
-pub extern "C" fn robijan_price(mep: &[i64], ieq: &[i64]) -> PriceReturned
+pub fn robijan_price(mep: &[i64], ieq: &[i64]) -> PriceReturned
     ensures { result ≡ price_call mep.now ieq.now }
 {
     of_price(reference_price(mep, ieq))
 }
 
 // Writes each account's share of the residual load R, by the first edition.
-#[unsafe(no_mangle)]
-pub extern "C" fn robijan_share(residual: i64, uegq: &[i64], output: &mut [i64]) -> u64
+pub fn robijan_share(residual: i64, uegq: &[i64], output: &mut [i64]) -> u64
     ensures { record { number = result; output = output.new } ≡ share_call First residual uegq.now output.old }
 {
     answers::share_number(shares(Edition::First, residual, uegq, output))
 }
 
 // The same by the second edition, whose shares use every kWh.
-#[unsafe(no_mangle)]
-pub extern "C" fn robijan_second_share(residual: i64, uegq: &[i64], output: &mut [i64]) -> u64
+pub fn robijan_second_share(residual: i64, uegq: &[i64], output: &mut [i64]) -> u64
     ensures { record { number = result; output = output.new } ≡ share_call Second residual uegq.now output.old }
 {
     answers::share_number(shares(Edition::Second, residual, uegq, output))
 }
 
 // Both tranches of a share.
-#[unsafe(no_mangle)]
-pub extern "C" fn robijan_tranche(rvq: i64, bvq: i64, mq: i64) -> TrancheReturned
+pub fn robijan_tranche(rvq: i64, bvq: i64, mq: i64) -> TrancheReturned
     ensures { result ≡ tranche_call rvq bvq mq }
 {
     of_tranches(tranches(rvq, bvq, mq))
 }
 
 // Whether a profile of 48 intervals keeps the limits of the day's total T and the contracted quantity D.
-#[unsafe(no_mangle)]
-pub extern "C" fn robijan_profile(profile: &[i64], total: i64, contracted: i64) -> ProfileReturned
+pub fn robijan_profile(profile: &[i64], total: i64, contracted: i64) -> ProfileReturned
     ensures { result ≡ profile_call profile.now total contracted }
 {
     of_profile(check_profile(profile, total, contracted))

@@ -11,7 +11,10 @@ ghost use Rattle.interpreter.specs.Running.{SomeItem, Steps, Runs};
 use console::input::{LONGEST_ITEM, OPENING, wanted};
 use console::lines::{LINE_ROOM, print};
 use interpreter::{BOOK_WORDS, Handed, begin, perform};
-use libc::STDIN_FILENO;
+
+
+// Standard input.
+const STDIN_FILENO: i32 = 0;
 
 // More positions than any input has (`farthest`): a proved loop has to end.
 const LIMIT: u64 = 9_000_000_000_000_000_000;
