@@ -7,27 +7,23 @@ use Rattle.rulebook.specs.Units.{last_day}
 use Rattle.rulebook.specs.WindowWalk.{place_dated}
 use Rattle.rulebook.proofs.laws.TestLaws.{not_ltb_is}
 use Rattle.rulebook.proofs.laws.WalkLaws.{place-early}
-use Rattle.book.proofs.slots.place_dated.Statement.{statement}
-use Rattle.book.proofs.slots.place_dated.Tie as tie
+use Rattle.book.proofs.slots.place_dated.Goals as goal
 
-add_at : tie.Need-overflow-add-at
+pub overflow_add-at : goal.overflow_add-at
 unfolding ring
-add_at c = omega arith
+overflow_add-at c = omega arith
 
-returns : tie.Need-returns
-returns c =
-    let a = c.before.before.args in
+pub returns-then-at-terms : goal.returns-then-at-terms
+returns-then-at-terms c =
+    let a = c.args in
     rw (place-early a.terms a.closes a.place (omega arith))
 
-add-result : tie.Need-overflow-add-result
+pub overflow_add-result : goal.overflow_add-result
 unfolding ring
-add-result c = omega arith
+overflow_add-result c = omega arith
 
-returns-2 : tie.Need-returns-2
+pub returns : goal.returns
 unfolding place_dated
-returns-2 c =
-    let a = c.before.before.before.before.args in
+returns c =
+    let a = c.args in
     rw (le-leb a.terms.lag (a.closes + a.place) (omega arith)) (not_ltb_is last_day (a.terms.first + (a.closes + a.place - a.terms.lag)))
-
-pub place-dated-spec : {M : Type 1} → statement M
-place-dated-spec = tie.close (tie.spec add_at returns add-result returns-2)
