@@ -1,6 +1,6 @@
 /* Robijan: the settlement book of Singapore's residual vesting scheme, for programs in C and C++ on x86-64 Linux.
  *
- * Link target/staticlib/librobijan.a, which `rt staticlib robijan` writes:
+ * Link target/staticlib/librobijan.a, which `tools/archive` writes:
  *
  *     cc -std=c99 -Iinclude program.c target/staticlib/librobijan.a -o program
  *

@@ -1,4 +1,4 @@
-//! Links the proved library, which `rt staticlib robijan` writes to `target/staticlib` of this repository. `ROBIJAN_LIBRARY` names another
+//! Links the proved library, which `tools/archive` writes to `target/staticlib` of this repository. `ROBIJAN_LIBRARY` names another
 //! folder that has `librobijan.a`.
 
 fn main() {
@@ -11,7 +11,7 @@ fn main() {
     println!("cargo:rerun-if-changed={}", archive.display());
     if !archive.is_file() {
         eprintln!(
-            "{} is missing: run `rt staticlib robijan` in the repository, or name the folder that has it in ROBIJAN_LIBRARY",
+            "{} is missing: run `tools/archive` in the repository, or name the folder that has it in ROBIJAN_LIBRARY",
             archive.display()
         );
         std::process::exit(1);
