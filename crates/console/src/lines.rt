@@ -8,8 +8,10 @@ ghost use Rattle.console.specs.Written.{Put};
 use crate::decimal::{put_byte, put_decimal, put_signed};
 use answers::{ACCEPTED, of_close, of_open, of_submit};
 use integer::word_at;
-use libc::STDOUT_FILENO;
 use rulebook::{Answer, CloseAnswer, OpenAnswer, SubmitAnswer};
+
+// Standard output.
+const STDOUT_FILENO: i32 = 1;
 
 // Bytes enough for every line.
 pub const LINE_ROOM: usize = 1024;

@@ -1,6 +1,6 @@
 -- Laws of texts put into lent bytes. Assumes nothing.
 use Rattle.std.specs.Prelude.{◌≡◌, refl, List, [], ◌∷◌, ◌++◌, ℕ, suc, ◌+◌, ◌≤◌, ◌<◌, length, set, take, drop}
-use Rattle.std.proofs.Common.{sym, ap, ◌∙◌, append-nil, append_assoc, zero-add, add-one, arith, length-append, length-set}
+use Rattle.std.proofs.Common.{sym, ap, ◌∙◌, add-one, arith, length-append, length-set}
 use Rattle.std.proofs.lemmas.List.Edits.{sets, sets-eq}
 use Rattle.std.proofs.Math.Seq.{take-append_seam}
 use Rattle.console.specs.Written.{written, Put}
