@@ -3,7 +3,7 @@ use Rattle.std.specs.Prelude.{◌≡◌, refl, ◌&&◌, ◌||◌, List, length,
 use Rattle.std.proofs.Math.Path.{sym, ap}
 use Rattle.std.proofs.Common.{◌∙◌, ⊎_elim, arith, get_or-set_other}
 use Rattle.std.proofs.Math.Bool.{false, or-true, or-false, false≢true}
-use Prim.Native.Nat.{ℕ, zero, suc, ◌+◌, ◌-◌, ◌≤◌, ◌<◌}
+use Prim.Native.Nat.{ℕ, zero, suc, ◌+◌, ◌≤◌, ◌<◌}
 use Rattle.std.proofs.Math.Numerals.{add-one}
 use borrow.Author.Tests.{eqb-true, eq-eqb}
 use Rattle.std.proofs.Math.Dec.{eqb}

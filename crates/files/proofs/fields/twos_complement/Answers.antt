@@ -3,18 +3,16 @@ use mathlib.Core.Path.{◌≡◌, ◌∙◌}
 use mathlib.Core.Logic.{⊎_elim}
 use Prim.Native.Nat.{ℕ, suc, ◌+◌, ◌-◌, ◌%◌, ◌≤◌, ◌<◌}
 use native.Mathlib.Omega.{arith}
-use borrow.Author.Rules.{rules}
 use borrow.Author.Tests.{lt-ltb, le-ltb}
 use lib.IntN.{pos, ◌-ℤ◌}
 use mir.Syntax.{w64}
-use mir.Val.{to_z}
+use Rattle.std.proofs.Common.{SFits, to_z}
 use mir.Facts.{to_z_pos, to_z-of_z}
 use Rattle.integer.specs.Integer.{twos_complement}
 use Rattle.integer.proofs.laws.BelowLaws.{lt_or_le}
 use Rattle.rulebook.specs.File.{signed32}
 use Rattle.files.proofs.laws.ValuesLaws.{signed32-range}
-use Rattle.files.proofs.fields.twos_complement.Statement.{statement}
-use Rattle.files.proofs.fields.twos_complement.Tie as tie
+use Rattle.files.proofs.fields.twos_complement.Goals as goal
 
 read : (n : ℕ) → to_z w64 ((n + 2147483648) % 4294967296) ≡ pos ((n + 2147483648) % 4294967296)
 read n = to_z_pos w64 (omega arith)
@@ -36,21 +34,15 @@ above n h l =
 shifted : (n : ℕ) → n < 4294967296 → to_z w64 ((n + 2147483648) % 4294967296) -ℤ pos 2147483648 ≡ signed32 n
 shifted n h = rw (read n) (⊎_elim (below n) (above n h) (lt_or_le n 2147483648))
 
-add-result : tie.Need-overflow-add-result
-add-result c = search rules
+shift_fits : (n : ℕ) → n < 4294967296 → SFits w64 (to_z w64 ((n + 2147483648) % 4294967296) -ℤ pos 2147483648)
+shift_fits n h =
+    let b = signed32-range n h in
+    rw (shifted n h) (record { sfits = omega arith })
 
-cast-result : tie.Need-overflow-cast-result
-cast-result c = search rules
+pub overflow_sub-result : goal.overflow_sub-result
+overflow_sub-result c = shift_fits c.args.n (omega arith)
 
-sub-result : tie.Need-overflow-sub-result
-sub-result c =
-    let b = signed32-range c.args.n (omega arith) in
-    rw (shifted c.args.n (omega arith)) (record { sfits = omega arith })
-
-returns : tie.Need-returns
+pub returns : goal.returns
 returns c =
-    let e = to_z-of_z (sub-result c) ∙ shifted c.args.n (omega arith) in
+    let e = to_z-of_z (shift_fits c.args.n (omega arith)) ∙ shifted c.args.n (omega arith) in
     (e, rw e (signed32-range c.args.n (omega arith)))
-
-pub twos-complement-spec : {M : Type 1} → statement M
-twos-complement-spec = tie.close (tie.spec add-result cast-result sub-result returns)
