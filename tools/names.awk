@@ -39,7 +39,7 @@ antt && /^ *(abbrev |unfoldable )?pub / && !/pub (mod|use) / {
     next
 }
 
-antt && holder != "" && constructors && /^ +[a-z][A-Za-z0-9]* : / { name = $1; say(name); say(holder "." name); next }
+antt && holder != "" && constructors && /^ +[a-z][A-Za-z0-9_'-]* : / { name = $1; say(name); say(holder "." name); next }
 
 antt && /^[^ -]/ { holder = "" }
 
