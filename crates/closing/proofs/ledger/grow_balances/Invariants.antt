@@ -1,0 +1,18 @@
+use mathlib.Core.Path.{◌≡◌, refl, ◌∙◌}
+use Prim.Native.Nat.{◌-◌, ◌≤◌}
+use native.Mathlib.Omega.{arith}
+use lib.ListN.{length}
+use mir.Syntax.{w64}
+use mir.Val.{to_z, of_z}
+use Rattle.integer.proofs.Bits.{got}
+use Rattle.integer.specs.Words.{word}
+use Rattle.rulebook.specs.Layout.{balance_word}
+use Rattle.rulebook.specs.Close.{balances_grown_by}
+use Rattle.closing.proofs.laws.WrittenLaws.{grown-none, grown-next, grown-step}
+use Rattle.closing.proofs.ledger.grow_balances.Given as goal
+
+abbrev pub invariant-loop-a : goal.invariant-loop-a
+invariant-loop-a l = (l.a ≤ l.n) × (length l.book ≡ length l.initial.book) × (l.book ≡ balances_grown_by l.initial.book (word l.statement) l.a)
+
+abbrev pub decreases-loop-a : goal.decreases-loop-a
+decreases-loop-a l = l.n - l.a

@@ -1,0 +1,30 @@
+-- `mssl_amount` meets its contract: the sum is below 2 × 10^14, so its negation fits.
+use mathlib.Core.Path.{◌≡◌, ap, ◌∙◌}
+use native.Mathlib.Omega.{arith}
+use borrow.Author.Rules.{rules}
+use lib.IntN.{ℤ, pos, neg_ℤ, nat_abs, ◌-ℤ◌, +ℤ_idl}
+use mir.Syntax.{w64}
+use mir.Val.{SFits, to_z, of_z}
+use mir.Facts.{to_z-of_z}
+use Rattle.integer.proofs.laws.IntegerLaws.{fits-abs, abs_neg}
+use Rattle.integer.proofs.Bits.{got}
+use Rattle.integer.specs.Below.{sum_ℤ}
+use Rattle.integer.specs.Words.{word}
+use Rattle.closing.proofs.laws.WrittenLaws.{amounts-le}
+use Rattle.closing.proofs.statement.mssl_amount.Goals as goal
+use Rattle.closing.proofs.statement.mssl_amount.Goals.{After-amounts_sum}
+
+module _ (c : After-amounts_sum) where
+  -- the amount, of the sum read back
+  amount : pos 0 -ℤ to_z w64 (of_z w64 c.amounts_sum.result) ≡ neg_ℤ (sum_ℤ c.args.n (word c.args.statement.now))
+  amount = ap (λ (z : ℤ). pos 0 -ℤ z) (got c.amounts_sum.result c.amounts_sum.type_inv ∙ c.amounts_sum.ensures) ∙ +ℤ_idl _
+
+  fits : SFits w64 (pos 0 -ℤ to_z w64 (of_z w64 c.amounts_sum.result))
+  fits =
+      fits-abs (omega (arith, ap nat_abs amount, abs_neg (sum_ℤ c.args.n (word c.args.statement.now)), amounts-le c.args.n c.args.n c.args.statement.now c.requires.0 (omega arith), c.requires.1))
+
+pub overflow_sub-result : goal.overflow_sub-result
+overflow_sub-result c = fits (goal.at.overflow_sub-result c).After-amounts_sum
+
+pub returns : goal.returns
+returns c = to_z-of_z (fits (goal.at.returns c).After-amounts_sum) ∙ amount (goal.at.returns c).After-amounts_sum
