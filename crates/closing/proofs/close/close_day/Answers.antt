@@ -1,5 +1,5 @@
 -- `close_day` meets its contract: each number's test is that of the rule book, in its order.
-use mathlib.Core.Path.{sym, ◌∙◌}
+use mathlib.Core.Path.{sym}
 use native.Mathlib.Omega.{arith}
 use Rattle.book.specs.Judged.{Formed}
 use Rattle.book.proofs.laws.JudgedLaws.{book-formed}

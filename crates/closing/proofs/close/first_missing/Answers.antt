@@ -10,7 +10,6 @@ use Rattle.closing.specs.Search.{first_absent}
 use Rattle.closing.specs.Slots.{then_day}
 use Rattle.closing.proofs.laws.SlotsLaws.{slot-sized, then_late}
 use Rattle.closing.proofs.laws.SearchSameLaws.{search-same}
-use borrow.Author.Rules.{rules}
 use Rattle.closing.proofs.close.first_missing.Goals as goal
 use Rattle.closing.proofs.close.first_missing.Goals.{After-slot_start-then}
 

@@ -1,7 +1,6 @@
 -- `residual_count` meets its contract: the test picks the case.
 use mathlib.Core.Path.{sym, ◌∙◌}
 use Rattle.rulebook.specs.Close.{residual_count}
-use borrow.Author.Rules.{rules}
 use Rattle.closing.proofs.close.residual_count.Goals as goal
 
 pub returns-then-is_due : goal.returns-then-is_due

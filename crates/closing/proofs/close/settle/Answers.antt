@@ -3,7 +3,6 @@ use mathlib.Core.Path.{sym, subst}
 use Rattle.closing.specs.Written.{StatementOf}
 use Rattle.closing.proofs.laws.SettlingLaws.{statement-of}
 use Rattle.closing.proofs.laws.CloseLaws.{accepted}
-use borrow.Author.Rules.{rules}
 use Rattle.closing.proofs.close.settle.Goals as goal
 
 pub write_book-requires : goal.write_book-requires

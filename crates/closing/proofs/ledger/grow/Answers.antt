@@ -1,6 +1,5 @@
 -- `grow` meets its contract: the sum fits.
 use mathlib.Core.Path.{◌≡◌, ap, ◌∙◌}
-use borrow.Author.Rules.{rules}
 use lib.ListN.{set}
 use mir.Syntax.{w64}
 use mir.Val.{to_z, of_z}

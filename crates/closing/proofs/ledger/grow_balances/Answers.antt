@@ -1,14 +1,11 @@
 -- `grow_balances` meets its contract: each turn writes one balance more, and no later one.
 use mathlib.Core.Path.{◌≡◌, refl, ◌∙◌}
-use Prim.Native.Nat.{◌-◌, ◌≤◌}
 use native.Mathlib.Omega.{arith}
-use lib.ListN.{length}
 use mir.Syntax.{w64}
 use mir.Val.{to_z, of_z}
 use Rattle.integer.proofs.Bits.{got}
 use Rattle.integer.specs.Words.{word}
 use Rattle.rulebook.specs.Layout.{balance_word}
-use Rattle.rulebook.specs.Close.{balances_grown_by}
 use Rattle.closing.proofs.laws.WrittenLaws.{grown-none, grown-next, grown-step}
 use Rattle.closing.proofs.ledger.grow_balances.Goals as goal
 use Rattle.closing.proofs.ledger.grow_balances.Goals.{After-word_at}

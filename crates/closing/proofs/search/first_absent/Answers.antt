@@ -1,7 +1,7 @@
 -- `first_absent` meets its contract: each turn of either walk that finds nothing is one more of `first`; a turn that finds leaves all walks.
 use mathlib.Core.List.{List}
 use mathlib.Core.Path.{◌≡◌, sym, ◌∙◌, subst}
-use Prim.Native.Nat.{ℕ, ◌+◌, ◌*◌, ◌-◌, ◌≤◌, ◌<◌}
+use Prim.Native.Nat.{ℕ, ◌+◌, ◌*◌, ◌≤◌, ◌<◌}
 use native.Mathlib.Omega.{arith}
 use borrow.Author.Rules.{rules}
 use lib.IntN.{ℤ}
@@ -10,12 +10,11 @@ use Rattle.integer.specs.declared.Found.{Found}
 use Rattle.integer.specs.Below.{fold, first}
 use Rattle.integer.proofs.laws.BelowLaws.{first_more, first_stops}
 use Rattle.integer.proofs.laws.WordsLaws.{row_fits_lem}
-use Rattle.rulebook.specs.declared.Section.TheVariants.{Residual}
 use Rattle.rulebook.specs.Units.{intervals}
-use Rattle.rulebook.specs.Layout.{interval_words, account_words, interval_length, flag_at}
-use Rattle.rulebook.specs.Close.{absent_at, account_searched, residuals_searched}
+use Rattle.rulebook.specs.Layout.{interval_words, account_words, interval_length}
+use Rattle.rulebook.specs.Close.{account_searched, residuals_searched}
 use Rattle.rulebook.proofs.laws.SearchLaws.{absent-here, absent-not}
-use Rattle.closing.specs.Search.{flag_absent, absent_in, first_absent}
+use Rattle.closing.specs.Search.{flag_absent, first_absent}
 use Rattle.closing.proofs.laws.SearchLaws.{or_first, or_second, passed, passed-due, stops-account, stops-residuals}
 use Rattle.closing.proofs.search.first_absent.Goals as goal
 use Rattle.closing.proofs.search.first_absent.Goals.{In-loop-a, Then-due, then-due+else-zero_at-3+else-loop-a-then-due-test, else-due}
@@ -129,10 +128,10 @@ search-preserved c =
     let p = accounts-at s.book.now s.n s.today s.then c.search.i s.n k.ensures (rw e at l.invariant.1) in (
       omega arith,
       elim c.if-due.branch [
-        then-due+else-zero_at-3+else-loop-a-then-due-test w ↦
-          let q : w.loop-a-then-due.a ≡ s.n = omega (arith, w.loop-a-then-due-test.false, w.loop-a-then-due.invariant.0) in
-          passed-due s.book.now s.n s.today s.then s.due c.search.i c.search.invariant.1 p w.if-due.true
-          (residuals-at s.book.now s.n s.today s.then c.search.i k.ensures (or_second (absent-not s.book.now _ (sym w.zero_at-then-due.ensures ∙ w.if-zero_at-3.false)) (rw q at w.loop-a-then-due.invariant.1)))
+        | then-due+else-zero_at-3+else-loop-a-then-due-test w ↦
+            let q : w.loop-a-then-due.a ≡ s.n = omega (arith, w.loop-a-then-due-test.false, w.loop-a-then-due.invariant.0) in
+            passed-due s.book.now s.n s.today s.then s.due c.search.i c.search.invariant.1 p w.if-due.true
+            (residuals-at s.book.now s.n s.today s.then c.search.i k.ensures (or_second (absent-not s.book.now _ (sym w.zero_at-then-due.ensures ∙ w.if-zero_at-3.false)) (rw q at w.loop-a-then-due.invariant.1)))
         | else-due w ↦ passed s.book.now s.n s.today s.then s.due c.search.i c.search.invariant.1 p w.if-due.false
       ],
     )

@@ -1,22 +1,12 @@
-use mathlib.Core.List.{List}
-use mathlib.Core.Path.{◌≡◌, sym, ◌∙◌, subst}
-use mathlib.Core.Logic.{⊎_elim}
-use Prim.Native.Nat.{ℕ, ◌+◌, ◌*◌, ◌-◌, ◌≤◌, ◌<◌}
-use native.Mathlib.Omega.{arith}
-use borrow.Author.Rules.{rules}
-use lib.IntN.{ℤ}
-use lib.ListN.{length}
+use mathlib.Core.Path.{◌≡◌}
+use Prim.Native.Nat.{◌+◌, ◌*◌, ◌-◌, ◌≤◌}
 use Rattle.integer.specs.declared.Found.{Found}
-use Rattle.integer.specs.Below.{fold, first}
-use Rattle.integer.proofs.laws.BelowLaws.{first_more, first_stops}
-use Rattle.integer.proofs.laws.WordsLaws.{row_fits_lem}
+use Rattle.integer.specs.Below.{first}
 use Rattle.rulebook.specs.declared.Section.TheVariants.{Residual}
 use Rattle.rulebook.specs.Units.{intervals}
-use Rattle.rulebook.specs.Layout.{interval_words, account_words, interval_length, flag_at}
-use Rattle.rulebook.specs.Close.{absent_at, account_searched, residuals_searched}
-use Rattle.rulebook.proofs.laws.SearchLaws.{absent-here, absent-not}
-use Rattle.closing.specs.Search.{flag_absent, absent_in, first_absent}
-use Rattle.closing.proofs.laws.SearchLaws.{or_first, or_second, passed, passed-due, stops-account, stops-residuals}
+use Rattle.rulebook.specs.Layout.{interval_words, account_words, flag_at}
+use Rattle.rulebook.specs.Close.{absent_at, account_searched}
+use Rattle.closing.specs.Search.{flag_absent, absent_in}
 use Rattle.closing.proofs.search.first_absent.Given as goal
 
 abbrev pub invariant-loop-a : goal.invariant-loop-a

@@ -5,7 +5,6 @@ use native.Mathlib.Omega.{arith}
 use borrow.Author.Tests.{leb-true}
 use Rattle.rulebook.specs.DayAmount.{settles_residual}
 use Rattle.closing.specs.Slots.{then_day}
-use borrow.Author.Rules.{rules}
 use Rattle.closing.proofs.slots.then_day.Goals as goal
 
 pub overflow_sub-result : goal.overflow_sub-result

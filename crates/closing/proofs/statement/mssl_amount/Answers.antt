@@ -1,7 +1,6 @@
 -- `mssl_amount` meets its contract: the sum is below 2 × 10^14, so its negation fits.
 use mathlib.Core.Path.{◌≡◌, ap, ◌∙◌}
 use native.Mathlib.Omega.{arith}
-use borrow.Author.Rules.{rules}
 use lib.IntN.{ℤ, pos, neg_ℤ, nat_abs, ◌-ℤ◌, +ℤ_idl}
 use mir.Syntax.{w64}
 use mir.Val.{SFits, to_z, of_z}

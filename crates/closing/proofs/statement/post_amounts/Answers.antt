@@ -1,12 +1,10 @@
 -- `post_amounts` meets its contract: each turn fills one word more.
 use mathlib.Core.Path.{◌≡◌, refl, sym, ap, ◌∙◌, subst}
-use Prim.Native.Nat.{◌-◌, ◌≤◌, ◌<◌}
+use Prim.Native.Nat.{◌<◌}
 use native.Mathlib.Numerals.{add-one}
 use native.Mathlib.Omega.{arith}
-use borrow.Author.Rules.{rules}
 use lib.ListN.{length}
 use Rattle.integer.proofs.Bits.{got}
-use Rattle.integer.specs.Words.{filled}
 use Rattle.integer.proofs.laws.WordsLaws.{filled_zero, filled-step}
 use Rattle.amounts.specs.declared.shares.RunningSums.{RunningSums}
 use Rattle.amounts.specs.declared.shares.DayShares.{DayShares}

@@ -1,16 +1,8 @@
-use mathlib.Core.Path.{◌≡◌, refl, sym, ap, ◌∙◌, subst}
-use Prim.Native.Nat.{◌-◌, ◌≤◌, ◌<◌}
-use native.Mathlib.Numerals.{add-one}
-use native.Mathlib.Omega.{arith}
-use borrow.Author.Rules.{rules}
+use mathlib.Core.Path.{◌≡◌}
+use Prim.Native.Nat.{◌-◌, ◌≤◌}
 use lib.ListN.{length}
-use Rattle.integer.proofs.Bits.{got}
 use Rattle.integer.specs.Words.{filled}
-use Rattle.integer.proofs.laws.WordsLaws.{filled_zero, filled-step}
-use Rattle.amounts.specs.declared.shares.RunningSums.{RunningSums}
-use Rattle.amounts.specs.declared.shares.DayShares.{DayShares}
-use Rattle.amounts.specs.Day.{SumsRanged, SharesRanged, sums_if, sums_before, shares_if, shares_in, shares_posted, slot_posted}
-use Rattle.amounts.proofs.laws.DayLaws.{sums-ranged, shares-ranged}
+use Rattle.amounts.specs.Day.{sums_before, slot_posted}
 use Rattle.closing.proofs.statement.post_amounts.Given as goal
 
 abbrev pub invariant-loop-a : goal.invariant-loop-a

@@ -3,7 +3,6 @@ use mathlib.Core.Path.{ap, ◌∙◌}
 use lib.ListN.{set}
 use Rattle.integer.proofs.Bits.{got}
 use Rattle.closing.specs.Written.{with_mssl}
-use borrow.Author.Rules.{rules}
 use Rattle.closing.proofs.statement.post_mssl.Goals as goal
 
 pub returns : goal.returns

@@ -8,7 +8,6 @@ use Rattle.rulebook.specs.Layout.{size}
 use Rattle.rulebook.specs.Close.{slot_blanked}
 use Rattle.closing.proofs.laws.SlotsLaws.{slot-sized}
 use Rattle.closing.proofs.laws.SettlingLaws.{slot-blanked}
-use borrow.Author.Rules.{rules}
 use Rattle.closing.proofs.write.blank_settled.Goals as goal
 use Rattle.closing.proofs.write.blank_settled.Goals.{After-slot_length}
 

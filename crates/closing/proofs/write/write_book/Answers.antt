@@ -12,7 +12,6 @@ use Rattle.integer.specs.Words.{word}
 use Rattle.rulebook.specs.Layout.{mssl_word, next_day_word}
 use Rattle.rulebook.specs.Close.{slot_blanked}
 use Rattle.closing.proofs.laws.SettlingLaws.{balances-room, credit-room, book-same}
-use borrow.Author.Rules.{rules}
 use Rattle.closing.proofs.write.write_book.Goals as goal
 use Rattle.closing.proofs.write.write_book.Goals.{After-grow, After-word_at}
 

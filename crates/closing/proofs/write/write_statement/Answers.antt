@@ -18,7 +18,6 @@ use Rattle.closing.specs.Slots.{slot_words, then_day, residuals_due}
 use Rattle.closing.proofs.laws.SlotsLaws.{slot-sized, then_late}
 use Rattle.closing.specs.Written.{Small, with_mssl}
 use Rattle.closing.proofs.laws.SettlingLaws.{settling_ranged, settling_loads, amounts-small, amounts-room, statement-same}
-use borrow.Author.Rules.{rules}
 use Rattle.closing.proofs.write.write_statement.Goals as goal
 use Rattle.closing.proofs.write.write_statement.Goals.{After-edition_of-edition, After-post_amounts, After-residuals_due-residuals, After-slot_start-a, After-slot_start-i}
 
