@@ -1,11 +1,11 @@
 -- A run stands at the opening's turn, and each step brings it to the next. Assumes nothing.
-use Rattle.std.specs.Prelude.{◌≡◌, true, List, ℕ, ◌≤◌, ℤ, length, take}
+use Rattle.std.specs.Prelude.{◌≡◌, true, List, ℕ, ℤ, length, take}
 use Rattle.std.proofs.Common.{sym, ap, ◌∙◌, arith}
 use Rattle.console.specs.Written.{Put}
 use Rattle.console.proofs.laws.WrittenLaws.{length-written, written-front}
 use Rattle.interpreter.specs.declared.Handed.{Handed}
 use Rattle.interpreter.specs.Interpreter.{Turn, beginning, turn, Hands, Begins}
-use Rattle.interpreter.specs.Running.{Reached, begun, next, RunLeaves, Stands, Steps}
+use Rattle.interpreter.specs.Running.{Reached, begun, next, Stands, Steps}
 
 -- a line that was put is what the bytes begin with
 put_front : {line text after : List ℕ} {end : ℕ} → Put line 0 text after end → take (length text) after ≡ text
