@@ -12,7 +12,6 @@ use console::input::{LONGEST_ITEM, OPENING, wanted};
 use console::lines::{LINE_ROOM, print};
 use interpreter::{BOOK_WORDS, Handed, begin, perform};
 
-
 // Standard input.
 const STDIN_FILENO: i32 = 0;
 
