@@ -11,9 +11,9 @@ ghost use Rattle.interpreter.specs.Running.{RestOf, RunLeaves};
 use console::lines::{LINE_ROOM, print};
 use interpreter::{BOOK_WORDS, Handed, begin, perform};
 
-
 // Standard input and output.
 const STDIN_FILENO: i32 = 0;
+
 const STDOUT_FILENO: i32 = 1;
 
 // The longest input.
