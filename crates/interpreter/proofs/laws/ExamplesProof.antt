@@ -92,7 +92,7 @@ missing amounts = refl
 
 close-first : (n position : ℕ) (s : List ℕ) → item_of (drop position s) ≡ Close
     → printed_from (suc n) 1 position book s ≡ close_text (printed_from n 1 (position + wanted (drop position s)) (closed book new_statement).words s)
-close-first n position s e = printed-close one in_one [] book new n position s e ∙ rw (missing (take 2 (closed book new_statement).statement)) refl
+close-first n position s e = printed-close one in_one [] book new n position s e ∙ rw missing refl
 
 -- ---- Files
 
