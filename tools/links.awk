@@ -2,7 +2,7 @@
 # a path a line, the first path of a name being the one to link.
 BEGIN {
     FS = "\t"
-    split("requires ensures abbrev unfoldable", words, " ")
+    split("requires ensures result abbrev unfoldable", words, " ")
     for (i in words) keyword[words[i]] = 1
     while ((getline line < index_file) > 0) {
         split(line, cell, "\t")
@@ -48,8 +48,8 @@ function file_of(name,    n, i, k, m, candidate, home) {
         shown = "`" name "`"
         out = out before
         quoted = before ~ /"$/
-        if (token !~ /^\[?`[A-Za-z_][A-Za-z0-9_.:'-]*`\]?$/ || name in keyword || quoted) {
-            # a path, or other text
+        if (token !~ /^\[?`[A-Za-z_][A-Za-z0-9_.:'-]*`\]?$/ || name in keyword || quoted || name ~ /^[a-z][a-z_]*\./) {
+            # a path, a field of a variable, or other text
             if (name ~ /^[a-z.]+\/[A-Za-z0-9_.\/-]*$/ && !quoted && !exists(name)) print name > "/dev/stderr"
             out = out token
         } else if (name in path) {
