@@ -37,7 +37,7 @@ pub fn price() {
 
 // The share call of an edition, after its name.
 fn share_called(edition: Edition, r: i64, uegq: &[i64], lent: &mut [i64]) -> u64
-    ensures* { λ number. ⌜ record { number = number; output = lent.new } ≡ share_call edition r uegq.now lent.old ⌝ }
+    ensures { record { number = result; output = lent.new } ≡ share_call edition r uegq.now lent.old }
 {
     match edition {
         Edition::First => {

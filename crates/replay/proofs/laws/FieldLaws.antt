@@ -1,6 +1,6 @@
 -- Laws of fields: eight bytes are four and four. Assumes nothing.
-use Rattle.std.specs.Prelude.{◌≡◌, List, ℕ, suc, ◌+◌, ◌*◌, ◌-◌, ◌≤◌, ◌<◌, ℤ, pos, negsuc, ◌+ℤ◌}
-use Rattle.std.proofs.Common.{◌∙◌, arith, add_assoc, lt-ltb, le-ltb}
+use Rattle.std.specs.Prelude.{◌≡◌, List, ℕ, suc, ◌+◌, ◌*◌, ◌-◌, ◌≤◌, ◌<◌, pos, negsuc, ◌+ℤ◌}
+use Rattle.std.proofs.Common.{arith, add_assoc, lt-ltb, le-ltb}
 use Rattle.integer.specs.Integer.{twos_complement}
 use Rattle.rulebook.specs.File.{num}
 use Rattle.replay.specs.Fields.{signed64}
