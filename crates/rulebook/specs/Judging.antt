@@ -1,5 +1,5 @@
 -- Document 01, "A submission file": how it is judged, its fields in file order, the first refusal standing. Assumes nothing.
-use Rattle.std.specs.Prelude.{Bool, true, false, not, ◌&&◌, List, ℕ, ◌+◌, ◌*◌, ◌-◌, eqb, leb, length}
+use Rattle.std.specs.Prelude.{Bool, true, false, not, ◌&&◌, List, ℕ, ◌+◌, ◌-◌, eqb, leb, length}
 use Rattle.integer.specs.Below.{fold, any}
 use Rattle.rulebook.specs.declared.Section.{Section}
 use Rattle.rulebook.specs.declared.Section.TheVariants.{Vesting, Meter, Residual, Ncc}

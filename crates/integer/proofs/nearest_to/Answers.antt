@@ -1,5 +1,5 @@
 -- The laws that join signed division with `nearest`, at the two ways of the test.
-use Rattle.std.proofs.Common.{◌≡◌, ◌≤◌, ◌<◌, ◌^◌, ◌+◌, ◌*◌, ℕ, ℤ, pos, nat_abs, ◌+ℤ◌, SFits, to_z, of_z, sym, ap, ◌∙◌}
+use Rattle.std.proofs.Common.{◌≤◌, ◌<◌, ◌^◌, ℕ, ℤ, pos, nat_abs, ◌+ℤ◌, SFits, to_z, of_z, sym, ap, ◌∙◌}
 use Rattle.std.proofs.Math.Nat.{div-le_self, mod-lt}
 use Rattle.std.specs.Int.{w64}
 use lib.Signed.{quot_z, rem_z}

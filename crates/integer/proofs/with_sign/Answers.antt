@@ -1,5 +1,5 @@
 -- The test of z's sign picks the clause of `with_sign`.
-use Rattle.std.proofs.Common.{◌≡◌, ◌<◌, ℤ, pos, to_z-of_z, sym, ◌∙◌}
+use Rattle.std.proofs.Common.{◌≡◌, ◌<◌, pos, to_z-of_z, sym, ◌∙◌}
 use Rattle.std.proofs.lemmas.Int.{to_z_pos}
 use Rattle.std.proofs.Math.IntN.{+ℤ_idl}
 use Rattle.std.specs.Int.{w64}

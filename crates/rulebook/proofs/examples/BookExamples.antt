@@ -1,5 +1,5 @@
 -- Document 01, "The book": days, slots and words that are well formed or not, computed. L = H = 1, N = 1 or 2. Assumes nothing.
-use Rattle.std.specs.Prelude.{◌≡◌, refl, Bool, true, false, List, [], ◌∷◌, ◌++◌, ℕ, ◌+◌, ℤ, pos, replicate}
+use Rattle.std.specs.Prelude.{◌≡◌, refl, Bool, true, false, List, [], ◌∷◌, ◌++◌, ℕ, ℤ, pos, replicate}
 use Rattle.integer.specs.Below.{fold, all}
 use Rattle.rulebook.specs.declared.Terms.{Terms}
 use Rattle.rulebook.specs.Layout.{account_place, base, ring, interval_size, slot, interval_word}

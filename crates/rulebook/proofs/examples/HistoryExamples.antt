@@ -1,5 +1,5 @@
 -- Closes after short histories: what is searched in which order, which rows are in force, what an accepted close returns. Computed. Assumes nothing.
-use Rattle.std.specs.Prelude.{◌≡◌, refl, true, false, List, [], ◌∷◌, ◌++◌, ℕ, ◌+◌, ◌≤◌, ltb, ℤ, pos, length, replicate}
+use Rattle.std.specs.Prelude.{◌≡◌, refl, true, false, List, [], ◌∷◌, ◌++◌, ℕ, ◌≤◌, ltb, ℤ, pos, length, replicate}
 use Rattle.std.proofs.Common.{◌∙◌, arith, lt-ltb, le-ltb}
 use Rattle.integer.specs.Integer.{twos_complement}
 use Rattle.integer.specs.Below.{fold, or_else, tabulate, turns}

@@ -1,6 +1,6 @@
 -- An interval's shares, the edition of a residual day, and posting: what is posted is the nearest cent to the day's parts, within 500 thousandths, the MSSL's within N × 500.
 -- Assumes nothing.
-use Rattle.std.specs.Prelude.{◌≡◌, Bool, not, ◌&&◌, ◌≢◌, ◌⊎◌, eqb, nat_abs, ◌+ℤ◌, ◌-ℤ◌, ◌*ℤ◌}
+use Rattle.std.specs.Prelude.{◌≡◌, Bool, not, ◌&&◌, ◌≢◌, ◌⊎◌, eqb, nat_abs, ◌-ℤ◌, ◌*ℤ◌}
 use Rattle.std.proofs.Math.Path.{refl}
 use Rattle.std.proofs.Common.{subst, inl, inr, arith, lit<}
 use Rattle.std.proofs.Math.Bool.{true, false, cond}

@@ -1,5 +1,5 @@
 -- Data by name: of words that agree, and of the rows in force. Assumes nothing.
-use Rattle.std.specs.Prelude.{◌≡◌, refl, ℕ, zero, ◌-◌, ◌≤◌, ◌<◌, ℤ, pos, T}
+use Rattle.std.specs.Prelude.{◌≡◌, refl, ℕ, zero, ◌≤◌, ◌<◌, ℤ, pos, T}
 use Rattle.std.proofs.Common.{ap, subst, arith}
 use Rattle.std.proofs.Math.Option.{Option, none, some}
 use Rattle.rulebook.specs.declared.Section.{Section}

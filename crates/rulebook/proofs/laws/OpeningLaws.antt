@@ -1,5 +1,5 @@
 -- A newly opened book holds no rows. Assumes nothing.
-use Rattle.std.specs.Prelude.{◌≡◌, refl, List, ℕ, zero, suc, ◌+◌, ◌≤◌, ◌<◌, ℤ, ◌+ℤ◌, length}
+use Rattle.std.specs.Prelude.{◌≡◌, refl, List, ℕ, zero, suc, ◌≤◌, ◌<◌, ℤ, ◌+ℤ◌, length}
 use Rattle.std.proofs.Common.{sym, ◌∙◌, zero-add, add-zero}
 use Rattle.std.proofs.Math.Path.{ap, subst}
 use Rattle.std.proofs.Math.Nat.{mod-lt}

@@ -1,5 +1,5 @@
 -- Profiles: the test of the limits is the rule, and a total is possible exactly if some quantities keep them. Assumes nothing.
-use Rattle.std.specs.Prelude.{◌≡◌, Bool, true, ℕ, ◌+◌, ◌*◌, ◌-◌, ◌/◌, ◌≤◌, ◌<◌, leb, eqb}
+use Rattle.std.specs.Prelude.{◌≡◌, Bool, true, ℕ, ◌+◌, ◌*◌, ◌/◌, ◌≤◌, ◌<◌, leb, eqb}
 use Rattle.std.proofs.Common.{ap, ◌∙◌, add_assoc, add-mul, one-mul, arith, leb-true, le-leb, eqb-true, eq-eqb}
 use Rattle.integer.specs.Below.{all, sum_ℕ}
 use Rattle.integer.proofs.laws.BelowLaws.{and-true, all_at, all_of, fold-by_two, sum_ℕ-le, sum_ℕ-ge, sum_ℕ-rises}

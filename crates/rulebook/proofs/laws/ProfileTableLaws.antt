@@ -1,5 +1,5 @@
 -- The profile call's checks in turn give its table. Assumes nothing.
-use Rattle.std.specs.Prelude.{◌≡◌, refl, Bool, true, false, ◌↔◌, List, ℕ, ◌+◌, ◌*◌, ◌≤◌, ◌<◌, eqb, ℤ, pos, length, ◌≤ℤ◌}
+use Rattle.std.specs.Prelude.{◌≡◌, refl, Bool, true, false, ◌↔◌, List, ℕ, ◌+◌, ◌*◌, ◌<◌, eqb, ℤ, pos, length, ◌≤ℤ◌}
 use Rattle.std.proofs.Common.{ap, ◌∙◌, arith, eqb-true, eq-eqb}
 use Rattle.integer.proofs.laws.IntegerLaws.{int, parts}
 use Rattle.integer.proofs.laws.BelowLaws.{and-true, all_of, sum_ℕ-cong, length-tabulate, get_d_tabulate}

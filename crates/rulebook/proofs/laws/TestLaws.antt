@@ -1,6 +1,6 @@
 -- A test, of a word or over the numbers below n, and the statement that it decides. Assumes nothing.
 use Rattle.std.specs.Prelude.{◌≡◌, refl, ◌⊎◌, Bool, true, false, cond, ◌&&◌, ◌||◌, not, ℕ, zero, suc, ◌≤◌, ◌<◌, ℤ, pos, negsuc, T, leb, ltb}
-use Rattle.std.proofs.Common.{sym, ap, ap₂, ◌∙◌, subst, inl, inr, ⊎_elim, arith, lt-ltb, le-ltb, le-leb, le→leb, leb→le, nltb→le}
+use Rattle.std.proofs.Common.{sym, ap, ap₂, ◌∙◌, inl, inr, ⊎_elim, arith, lt-ltb, le-ltb, le-leb, le→leb, leb→le, nltb→le}
 use Rattle.std.proofs.Math.Bool.{and_assoc}
 use Rattle.std.proofs.Math.Nat.{le-suc_iff}
 use Rattle.std.proofs.lemmas.Bool.{lt-leb}
