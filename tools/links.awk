@@ -48,7 +48,7 @@ function file_of(name,    n, i, k, m, candidate, home) {
         shown = "`" name "`"
         out = out before
         quoted = before ~ /"$/
-        if (token !~ /^\[?`[A-Za-z_][A-Za-z0-9_.:'-]*`\]?$/ || name in keyword || quoted || name ~ /^[a-z][a-z_]*\./) {
+        if (token !~ /^\[?`[A-Za-z_][A-Za-z0-9_.:'◌-]*`\]?$/ || name in keyword || quoted || name ~ /^[a-z][a-z_]*\./) {
             # a path, a field of a variable, or other text
             if (name ~ /^[a-z.]+\/[A-Za-z0-9_.\/-]*$/ && !quoted && !exists(name)) print name > "/dev/stderr"
             out = out token

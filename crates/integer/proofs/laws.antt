@@ -3,4 +3,5 @@ pub mod IntegerLaws
 pub mod BelowLaws
 pub mod CountLaws
 pub mod WordsLaws
+pub mod NearestAbsLaws
 pub mod NearestLaws

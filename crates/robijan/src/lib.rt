@@ -1,5 +1,5 @@
-// What a program in another language links: each call of documents 01 and 02 as a C function. Every input is answered, by the numbers of
-// document 01's table; no call asks anything of its caller but that a slice, passed as a pointer and then a length, is one.
+// Each call of documents 01 and 02 for a program in another language, which links them as C functions (crate `robijan_c`). Every input is
+// answered, by the numbers of document 01's table; no call asks anything of its caller.
 #![tactic(auto)]
 
 pub mod book_calls; // book_calls.rt: open, submit, close, judge, and the size of a book

@@ -4,7 +4,7 @@ use Rattle.integer.specs.Integer.{positive}
 use Rattle.calendar.specs.Calendar.{is_business_day, nth_after, due_day, up_to_last_day, search_told, residual_due_told}
 use Rattle.calendar.proofs.laws.DateLaws.{given}
 use Rattle.calendar.proofs.residual_due.Goals as goal
-use Rattle.calendar.proofs.residual_due.Goals.{After-natural-m, After-is_month}
+use Rattle.calendar.proofs.residual_due.Goals.{After-natural-m}
 
 -- what is read of the numbers given
 year-read : (c : After-natural-m) → c.natural-y.result ≡ positive c.args.year

@@ -6,16 +6,13 @@ use Rattle.integer.specs.Integer.{positive, negative, with_sign, minus}
 use Rattle.std.specs.Int.Signed.{quot_z, rem_z}
 use Rattle.integer.proofs.laws.IntegerLaws.{parts, parts-eq, parts-le, le_parts, add_parts, sub_parts, neg_parts, abs_neg, with_sign-abs}
 use Rattle.integer.specs.Nearest.{nearest, IsNearest}
+pub use Rattle.integer.proofs.laws.NearestAbsLaws.{nearest-abs}
 use Rattle.integer.proofs.laws.BelowLaws.{lt_or_le}
 
 -- ---- The rounded quotient of magnitudes
 
 rounded : (m d : ℕ) → 0 < d → (2 * (d * ((2 * m + d) / (2 * d))) ≤ 2 * m + d) × (2 * m + d < 2 * (d * ((2 * m + d) / (2 * d))) + 2 * d)
 rounded m d h = let k : 0 < 2 * d = omega arith in omega (arith, div-add-mod (2 * m + d) (2 * d), mod-lt (2 * m + d) k)
-
-pub nearest-abs : (z : ℤ) (d : ℕ) → nat_abs (nearest z d) ≡ (2 * nat_abs z + d) / (2 * d)
-unfolding nearest
-nearest-abs z d = with_sign-abs z ((2 * nat_abs z + d) / (2 * d))
 
 -- ---- The property
 

@@ -1,6 +1,5 @@
 -- `close_next` meets its contract: the statement's first N + 1 words are the line's amounts.
 use Rattle.interpreter.proofs.close_next.Goals as goal
-use Rattle.interpreter.proofs.close_next.Goals.{After-close-answer}
 
 pub returns : goal.returns
 returns c =

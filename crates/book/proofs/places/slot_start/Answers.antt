@@ -2,7 +2,6 @@
 use native.Mathlib.Omega.{arith}
 use Rattle.rulebook.specs.Layout.{base, ring, slot, interval_word, slot_start}
 use Rattle.book.proofs.places.slot_start.Goals as goal
-use Rattle.book.proofs.places.slot_start.Goals.{After-interval_size}
 
 pub returns : goal.returns
 unfolding slot_start interval_word base slot ring
