@@ -1,2 +1,3 @@
 -- laws and proofs
 pub mod ClosePackedLaws
+pub mod ReturnedLaws
