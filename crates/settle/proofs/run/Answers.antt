@@ -1,4 +1,4 @@
--- `run` meets its contract: it stands at a turn that it reached, and leaves the loop where nothing more is to be read. It ends: each turn's
+-- `run` meets its contract: it stands at a turn that it reached, and leaves the loop where nothing more is to be read.
 use mathlib.Core.Path.{sym, ◌∙◌}
 use mathlib.Core.Logic.{inl, inr}
 use borrow.Author.Tests.{not-true, not-false}

@@ -1,4 +1,5 @@
 -- `read_periods` meets its contract. The invariant: every word of the periods below b is a quantity, and the span is theirs; two words at a time are all
+-- 48 (`fold-by_two`).
 use mathlib.Core.Path.{◌≡◌, refl, sym, ap, ◌∙◌}
 use mathlib.Core.Bool.{true, and_assoc, ◌&&◌}
 use mathlib.Core.List.{List}
