@@ -1,5 +1,5 @@
 # The names that a source file has, each with its path: of antt chapters what is public, with record fields and constructors; of Rattle files
-# functions, types, constants and variants, by crate and module.
+# functions, types, constants and variants, by crate and module, and methods by their type.
 function say(name) { print name "\t" FILENAME }
 
 FNR == 1 {
@@ -9,6 +9,7 @@ FNR == 1 {
     crate = folder[2]
     antt = FILENAME ~ /\.antt$/
     holder = ""
+    type = ""
     if (antt) {
         say(file)
     } else {
@@ -51,6 +52,17 @@ antt && /^[^ -]/ { holder = "" }
     next
 }
 
+!antt && /^impl/ {
+    type = $0; sub(/^impl(<[^ ]*>)? /, "", type); sub(/^.* for /, "", type); sub(/[^A-Za-z0-9_].*/, "", type)
+    next
+}
+
+!antt && type != "" && /^    (pub(\(crate\))? )?fn / {
+    name = $0; sub(/^ *(pub(\(crate\))? )?fn /, "", name); sub(/[^A-Za-z0-9_].*/, "", name)
+    say(type "::" name); say(module "::" type "::" name); say(crate "::" type "::" name)
+    next
+}
+
 !antt && variants && /^    [A-Z][A-Za-z0-9]*[,(]/ { name = $1; sub(/[^A-Za-z0-9].*/, "", name); say(name); next }
 
-!antt && /^}/ { variants = 0 }
+!antt && /^}/ { variants = 0; type = "" }

@@ -7,8 +7,8 @@ use Rattle.rulebook.specs.Units.{in_range, as_quantity}
 use Rattle.rulebook.specs.Sections.{NccLoad, load_by}
 use Rattle.rulebook.specs.DayAmount.{AccountData, report_figure, spare_generation, residual_load}
 use Rattle.rulebook.specs.Layout.{interval_length, account_words, cell_of, figure_at}
+use Rattle.rules.specs.LoadAndSpare.{LoadAndSpare}
 use Rattle.amounts.specs.declared.interval.HedgeReport.{HedgeReport}
-use Rattle.amounts.specs.declared.interval.ResidualAndSpare.{ResidualAndSpare}
 use Rattle.amounts.specs.Cell.{cell_data, RangedCell}
 
 -- ---- An interval of n accounts: its own words, then the cells
@@ -26,7 +26,7 @@ abbrev pub data_in : List ℤ → ℕ → AccountData
 data_in x b = cell_data (cell_of x b)
 
 -- R and S
-abbrev pub residual_at : ℕ → List ℤ → ResidualAndSpare
+abbrev pub residual_at : ℕ → List ℤ → LoadAndSpare
 residual_at n x = record { load = residual_load (load_in x) n (data_in x); spare = spare_generation n (data_in x) }
 
 -- the figures of the holders' report

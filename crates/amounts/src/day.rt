@@ -1,88 +1,50 @@
 // Document 01, "Day amount": an account's posted amount from the slots of D and of r.
-ghost use Rattle.std.specs.Prelude.{◌≡◌, true, ◌≤◌, ◌<◌, get_or};
-ghost use Rattle.rulebook.specs.Units.{intervals, most_quantity};
-ghost use Rattle.rulebook.specs.Shares.{most_accounts};
-ghost use Rattle.amounts.specs.Cell.{RangedCell};
-ghost use Rattle.amounts.specs.Day.{DaysRanged, SharesRanged, amount_at, slot_amount, total_to, shares_posted};
+ghost use Rattle.std.specs.Prelude.{◌≡◌, ◌≤◌, ◌<◌, ◌+◌, nat_abs};
+ghost use Rattle.rulebook.specs.Units.{intervals};
+ghost use Rattle.amounts.specs.Day.{HasAccount, sum_before, sums_before, slot_amount, slot_posted};
 
-use crate::cell::{price_at, residual_amount, vesting_amount};
-use crate::shares::DayShares;
+use crate::settled::Settled;
+use crate::slot::Slot;
 use crate::total::{DayTotal, absorb};
 use integer::{add, nearest_to};
-use rulebook::layout::{ACCOUNT_WORDS, cell_place, interval_length};
 use rulebook::units::{INTERVALS, THOUSANDTHS_PER_CENT};
 
-// One account at one interval: vesting of today's cell and, where a residual is due, that of then's share with V of then.
-fn amount_at(today: &[i64], then: &[i64], due: bool, share: u64) -> i64
-    requires { RangedCell today.now × (due ≡ true → RangedCell then.now) × (share ≤ most_quantity) }
-    ensures { result ≡ amount_at today.now then.now due share }
+// The account's amount at interval h: vesting of today's cell and, where a residual is due, that of then's share with V of then. `sum` is the UEGQ
+// of the accounts before it at then's interval; it goes on with the account's.
+// Slot and settled day apart: the second may be missing, and a struct of both for three calls is no plainer.
+fn slot_amount(today: Slot, then: &Option<Settled>, sum: &mut u64, a: usize, h: usize) -> i64
+    requires { (a < today.accounts) × HasAccount a then.now × (h < intervals) × (sum.old ≡ sum_before then.now a h) }
+    ensures small { nat_abs result ≤ 100000000000000 }
+    ensures amount { result ≡ slot_amount today.entry.accounts today.entry.words.now then.now a h }
+    ensures sum { sum.new ≡ sum_before then.now (a + 1) h }
 {
-    let vesting = vesting_amount(today);
-    if due {
-        let v = price_at(then);
-        add(vesting, residual_amount(then, v, share))
-    } else {
-        vesting
+    let cell = today.cell(a, h);
+    let vesting = cell.vesting_amount();
+    match then {
+        Some(settled) => {
+            let share = settled.share(sum, a, h);
+            let then = settled.cell(a, h);
+            add(vesting, then.residual_amount(then.price(), share))
+        }
+        None => vesting,
     }
 }
 
-// The account's share of interval h.
-fn share_at(shares: DayShares, h: usize) -> u64
-    requires { h < intervals }
-    ensures { result ≡ get_or shares.kwh h 0 }
-{
-    shares.kwh[h] as u64
-}
-
-// The account's amount at interval h of today's slot and, where a residual is due, of then's.
-fn slot_amount(
-    today: &[i64],
-    then: &[i64],
-    due: bool,
-    shares: DayShares,
-    n: usize,
+// The posted amount of account a: the nearest whole cent to its amounts over the 48 intervals, which the day's total is lent to take. `sums` are the
+// UEGQ of the accounts before it at then's intervals; they go on with the account's.
+pub fn posted_amount(
+    today: Slot,
+    then: &Option<Settled>,
+    sums: &mut [u64; INTERVALS],
     a: usize,
-    h: usize,
 ) -> i64
-    requires { DaysRanged n today.now then.now due × SharesRanged shares × (n ≤ most_accounts) × (a < n) × (h < intervals) }
-    ensures { result ≡ slot_amount n today.now then.now due shares a h }
-{
-    let i = h * interval_length(n) + cell_place(a);
-    let e = i + ACCOUNT_WORDS;
-    amount_at(&today[i..e], &then[i..e], due, share_at(shares, h))
-}
-
-// The account's amount over the 48 intervals: the day's total is lent to take each.
-fn exact_amount(
-    today: &[i64],
-    then: &[i64],
-    due: bool,
-    shares: DayShares,
-    n: usize,
-    a: usize,
-) -> DayTotal
-    requires { DaysRanged n today.now then.now due × SharesRanged shares × (n ≤ most_accounts) × (a < n) }
-    ensures { result ≡ total_to n today.now then.now due shares a intervals }
+    requires { (a < today.accounts) × HasAccount a then.now × (sums.old ≡ sums_before then.now a) }
+    ensures amount { result ≡ slot_posted today.entry.accounts today.entry.words.now then.now a }
+    ensures sums { sums.new ≡ sums_before then.now (a + 1) }
 {
     let mut total = DayTotal { thousandths: 0 };
-    for h in 0..INTERVALS {
-        absorb(&mut total, slot_amount(today, then, due, shares, n, a, h));
+    for (h, sum) in sums.iter_mut().enumerate() {
+        absorb(&mut total, slot_amount(today, then, sum, a, h));
     }
-    total
-}
-
-// The posted amount: the nearest whole cent to the day's sum.
-pub fn posted_amount(
-    today: &[i64],
-    then: &[i64],
-    due: bool,
-    shares: DayShares,
-    n: usize,
-    a: usize,
-) -> i64
-    requires { DaysRanged n today.now then.now due × SharesRanged shares × (n ≤ most_accounts) × (a < n) }
-    ensures { result ≡ shares_posted n today.now then.now due shares a }
-{
-    let total = exact_amount(today, then, due, shares, n, a);
     nearest_to(total.thousandths, THOUSANDTHS_PER_CENT)
 }

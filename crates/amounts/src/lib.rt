@@ -4,6 +4,7 @@
 
 pub mod cell; // cell.rt: the amounts of one account at one interval
 pub mod interval; // interval.rt: R and S of one interval
-pub mod shares; // shares.rt: an account's shares of a day
+pub mod slot; // slot.rt: a day's intervals
+pub mod settled; // settled.rt: the shares of a settled day
 pub mod total; // total.rt: the running total of a day
 pub mod day; // day.rt: the posted amount of a day

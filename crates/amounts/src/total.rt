@@ -11,6 +11,7 @@ pub struct DayTotal {
 }
 
 // The total with one interval's amount more.
+// A function of its own for the sum: what is proved of one interval more is said there alone.
 pub fn total_after(total: DayTotal, amount: i64) -> DayTotal
     requires { SFits w64 (total.thousandths +ℤ amount) }
     ensures { result ≡ absorbed total amount }

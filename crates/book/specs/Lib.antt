@@ -1,3 +1,4 @@
+pub mod Day
 pub mod Parts
 pub mod Slots
 pub mod Judged

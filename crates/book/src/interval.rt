@@ -1,50 +1,44 @@
 // Document 01, "The book": an interval's words, its own and those of each account.
-ghost use Rattle.std.specs.Prelude.{◌≡◌, ◌≤◌, length};
+ghost use Rattle.std.specs.Prelude.{◌≡◌};
 ghost use Rattle.integer.specs.Words.{word};
-ghost use Rattle.rulebook.specs.Layout.{interval_words, interval_length};
-ghost use Rattle.rulebook.specs.Shares.{most_accounts};
-ghost use Rattle.rulebook.specs.WellFormed.{ncc_fits, accounts_fit, interval_fits};
+ghost use Rattle.rulebook.specs.WellFormed.{ncc_fits};
+ghost use Rattle.book.specs.Day.{is_closed};
+ghost use Rattle.book.specs.Parts.{interval_told};
 
 use crate::cell::account_fits;
-use opening::words::{above_at, between_at, in_range_at, zero_at};
-use rulebook::{Kind, layout};
+use crate::day::Day;
+use opening::words::is_zero;
+use rulebook::Kind;
+use rulebook::layout::{
+    ACCOUNT_WORDS, FIRST_NCC_SPARE, INTERVAL_WORDS, NCC_FLAG, NCC_LOAD, SECOND_NCC_SPARE,
+};
+use rules::ranges::{in_range, is_between};
 
 // NCC load, NCC present, two zeros.
-fn ncc_fits(interval: &[i64]) -> bool
-    requires { interval_words ≤ length interval.now }
-    ensures { result ≡ ncc_fits (word interval.now) }
+fn ncc_fits(own: &[i64; INTERVAL_WORDS]) -> bool
+    ensures { result ≡ ncc_fits (word own.now) }
 {
-    if !(zero_at(interval, layout::FIRST_NCC_SPARE) & zero_at(interval, layout::SECOND_NCC_SPARE)) {
+    if !(is_zero(own[FIRST_NCC_SPARE]) & is_zero(own[SECOND_NCC_SPARE])) {
         return false;
     }
-    if !between_at(interval, layout::NCC_FLAG, 0, 1) {
+    let flag = own[NCC_FLAG];
+    if !is_between(0, 1, flag) {
         return false;
     }
-    if above_at(interval, layout::NCC_FLAG, 0) {
-        in_range_at(interval, layout::NCC_LOAD, Kind::Load)
+    if 0 < flag {
+        in_range(Kind::Load, own[NCC_LOAD])
     } else {
-        zero_at(interval, layout::NCC_LOAD)
+        is_zero(own[NCC_LOAD])
     }
 }
 
-// "then 24 words an account"
-fn accounts_fit(interval: &[i64], n: usize, closed: bool) -> bool
-    requires { (interval_length n ≤ length interval.now) × (n ≤ most_accounts) }
-    ensures { result ≡ accounts_fit n closed (word interval.now) }
+// "The book": an interval's words at a day, "then 24 words an account".
+pub fn interval_fits(interval: &[i64], day: Day) -> bool
+    ensures { result ≡ interval_told (is_closed day) interval.now }
 {
-    let mut ok = true;
-    for a in 0..n {
-        let i = layout::cell_place(a);
-        let e = i + layout::ACCOUNT_WORDS;
-        ok = ok & account_fits(&interval[i..e], closed);
-    }
-    ok
-}
-
-// "The book": an interval's words, of n accounts, of a closed day or an open one.
-pub fn interval_fits(interval: &[i64], n: usize, closed: bool) -> bool
-    requires { (interval_length n ≤ length interval.now) × (n ≤ most_accounts) }
-    ensures { result ≡ interval_fits n closed (word interval.now) }
-{
-    ncc_fits(interval) & accounts_fit(interval, n, closed)
+    let Some((own, accounts)) = interval.split_first_chunk() else {
+        return false;
+    };
+    let (cells, _) = accounts.as_chunks::<ACCOUNT_WORDS>();
+    ncc_fits(own) && cells.iter().all(|cell| account_fits(cell, day))
 }

@@ -1,54 +1,46 @@
 // Document 01, "The book": is a lent book well formed?
-ghost use Rattle.std.specs.Prelude.{◌≡◌, ◌+◌, ◌≤◌, length};
-ghost use Rattle.rulebook.specs.Units.{last_day};
-ghost use Rattle.rulebook.specs.Terms.{InTerms};
+ghost use Rattle.std.specs.Prelude.{◌≡◌, ◌≤◌, length};
 ghost use Rattle.rulebook.specs.Layout.{size};
 ghost use Rattle.rulebook.specs.WellFormed.{contents_fit};
 ghost use Rattle.book.specs.Judged.{judged_book};
 
 use crate::slots::slots_fit;
-use opening::header::{balances_fit, book_size, header_fits, mssl_fits, next_day_of, terms_of};
-use rulebook::{Terms, layout};
+use opening::header::{Header, book_size};
+use rulebook::accepted::AcceptedTerms;
+use rulebook::layout;
 
-// A well-formed book's terms and C, the next day to close.
+// What a well-formed book's header says: its terms, and C, the next day to close.
+// Not `Header`: without ghost fields, so that contracts can equate it.
 #[derive(Clone, Copy)]
-pub enum Judged {
-    WellFormed(Terms, usize),
-    IllFormed,
+pub struct FormedBook {
+    pub terms: AcceptedTerms,
+    pub next: usize,
 }
 
-// The balances and the slots, where the header fits and the words are no fewer than the size.
-fn contents_fit(book: &[i64], terms: Terms, closes: usize) -> bool
-    requires { InTerms terms × (closes ≤ last_day) × (size terms ≤ length book.now) }
-    ensures { result ≡ contents_fit terms book.now (terms.first + closes) }
+// The balances and the slots, where the words are no fewer than the size.
+fn contents_fit(header: &Header, book: &[i64]) -> bool
+    requires { size header.now.terms ≤ length book.now }
+    ensures { result ≡ contents_fit header.now.terms book.now header.now.next }
 {
-    let n = terms.accounts;
-    let base = layout::balance_word(n);
-    let end = book_size(terms);
-    mssl_fits(book, n, closes)
-        & balances_fit(book, n, closes)
-        & slots_fit(&book[base..end], terms, closes)
+    let base = layout::balance_word(header.terms.get().accounts);
+    let end = book_size(header.terms);
+    header.mssl_fits(book) & header.balances_fit(book) & slots_fit(header, &book[base..end])
 }
 
 // "The book": "It is well formed if ..", of any words whatever. The header comes before the size, so a wild one is refused with no read past
 // the end.
-pub fn judge(book: &[i64]) -> Judged
+pub fn judge(book: &[i64]) -> Option<FormedBook>
     ensures { result ≡ judged_book book.now }
 {
-    if book.len() < layout::HEADER_WORDS {
-        return Judged::IllFormed;
+    let header = Header::of(book)?;
+    if book.len() < book_size(header.terms) {
+        return None;
     }
-    if !header_fits(book) {
-        return Judged::IllFormed;
+    if !contents_fit(&header, book) {
+        return None;
     }
-    let terms = terms_of(book);
-    let next = next_day_of(book);
-    if book.len() < book_size(terms) {
-        return Judged::IllFormed;
-    }
-    if contents_fit(book, terms, next - terms.first) {
-        Judged::WellFormed(terms, next)
-    } else {
-        Judged::IllFormed
-    }
+    Some(FormedBook {
+        terms: header.terms,
+        next: header.next,
+    })
 }

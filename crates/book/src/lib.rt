@@ -2,6 +2,7 @@
 // of the size once, slot by slot as they lie, and hands each slot, interval and account its part.
 #![tactic(auto)]
 
+pub mod day; // day.rt: the days of the window
 pub mod cell; // cell.rt: an account's words at an interval
 pub mod interval; // interval.rt: the words of an interval
 pub mod slots; // slots.rt: the slots, of days and blank

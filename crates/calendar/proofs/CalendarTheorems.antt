@@ -1,7 +1,6 @@
 -- What is proved of the calendar, in one place. Assumes nothing.
-use Rattle.std.specs.Prelude.{◌≡◌, Bool, true, false, cond, List, ◌↔◌, ℕ, ◌+◌, ◌*◌, ◌%◌, ◌≤◌, ℤ, pos}
+use Rattle.std.specs.Prelude.{◌≡◌, Bool, true, false, cond, List, ◌↔◌, ℕ, ◌+◌, ◌*◌, ◌%◌, ◌≤◌, ℤ, pos, Some, None}
 use Rattle.integer.specs.Integer.{positive}
-use Rattle.integer.specs.declared.Found.TheVariants.{At, Nothing}
 use Rattle.rulebook.specs.Units.{last_day}
 use Rattle.rulebook.specs.Numbers.{past_last_day}
 use Rattle.calendar.specs.Calendar.{is_day, is_month, is_date, day_of, date_given, weekday_of, is_proper, is_listed, is_business_day, days_after, is_nth_after, nth_after, statement_day, due_after, date_accepted, day_accepted, day_refused, date_told, day_told, final_statement_told, residual_due_told}
@@ -45,8 +44,8 @@ pub record CalendarTheorems : Type 0 where
   -- the n-th after d passes and up to it there are n; there is one at most; it is what is found, and nothing is found where there is none
   pub nth_means : (holidays : List ℤ) (n d e : ℕ) → (is_nth_after (is_business_day holidays) n d e ≡ true) ↔ NthBusinessDay holidays n d e
   pub nth_unique : (test : ℕ → Bool) (n d e f : ℕ) → is_nth_after test n d e ≡ true → is_nth_after test n d f ≡ true → e ≡ f
-  pub nth_found : (test : ℕ → Bool) (n d e : ℕ) → (nth_after test n d ≡ At e) ↔ ((is_nth_after test n d e ≡ true) × (e ≤ last_day))
-  pub nth_nothing : (test : ℕ → Bool) (n d : ℕ) → (nth_after test n d ≡ Nothing) ↔ ((e : ℕ) → e ≤ last_day → is_nth_after test n d e ≡ false)
+  pub nth_found : (test : ℕ → Bool) (n d e : ℕ) → (nth_after test n d ≡ Some e) ↔ ((is_nth_after test n d e ≡ true) × (e ≤ last_day))
+  pub nth_nothing : (test : ℕ → Bool) (n d : ℕ) → (nth_after test n d ≡ None) ↔ ((e : ℕ) → e ≤ last_day → is_nth_after test n d e ≡ false)
   -- residual data wait for the 10th of the second month following, months counted through the years
   pub due_month : (year month : ℕ) → is_month year month ≡ true
       → (12 * (due_after year month).year + (due_after year month).month ≡ 12 * year + month + 2) × (1 ≤ (due_after year month).month) × ((due_after year month).month ≤ 12) × ((due_after year month).day ≡ 10)

@@ -1,17 +1,14 @@
 -- Document 01, "Calendar (003)": dates, weekdays, business days, statement and due days, and what each call returns. Assumes nothing.
-use Rattle.std.specs.Prelude.{Bool, false, cond, not, ◌&&◌, ◌||◌, List, ℕ, ◌+◌, ◌-◌, ◌%◌, leb, ltb, eqb, ℤ, pos, negsuc, length}
+use Rattle.std.specs.Prelude.{Bool, false, cond, not, ◌&&◌, ◌||◌, List, ℕ, ◌+◌, ◌-◌, ◌%◌, leb, ltb, eqb, ℤ, pos, negsuc, length, Option, Some, None, Result, Ok, Err}
 use Rattle.std.specs.Int.Signed.{lt_z}
 use Rattle.integer.specs.Integer.{positive}
 use Rattle.integer.specs.Words.{word}
 use Rattle.integer.specs.Below.{sum_ℕ, all, any, count, first, turns}
-use Rattle.integer.specs.declared.Found.{Found}
-use Rattle.integer.specs.declared.Found.TheVariants.{At, Nothing}
 use Rattle.rulebook.specs.Units.{last_day, between}
 use Rattle.rulebook.specs.Numbers.{accepted, no_such_date, bad_holidays, past_last_day, checked}
-use Rattle.calendar.specs.declared.DateAnswer.{DateAnswer}
-use Rattle.calendar.specs.declared.DayAnswer.{DayAnswer}
-use Rattle.calendar.specs.declared.WeekdayAnswer.{WeekdayAnswer}
-use Rattle.calendar.specs.declared.BusinessAnswer.{BusinessAnswer}
+use Rattle.calendar.specs.declared.CalendarError.{CalendarError}
+use Rattle.calendar.specs.declared.CalendarError.TheVariants.{NoSuchDate, BadHolidays, PastLastDay}
+pub use Rattle.calendar.specs.declared.Date.{Date}
 use Rattle.calendar.specs.declared.DateReturned.{DateReturned}
 use Rattle.calendar.specs.declared.DayReturned.{DayReturned}
 use Rattle.calendar.specs.declared.WeekdayReturned.{WeekdayReturned}
@@ -39,11 +36,6 @@ days_in_month year month =
     (cond (eqb month 4 || (eqb month 6 || (eqb month 9 || eqb month 11))) 30 31)
 
 -- ---- Dates and days
-
-pub record Date : Type 0 where
-  pub year : ℕ
-  pub month : ℕ
-  pub day : ℕ
 
 abbrev pub within : ℕ → ℕ → ℕ → Bool
 within low high n = leb low n && leb n high
@@ -130,8 +122,8 @@ unfoldable pub is_nth_after : (ℕ → Bool) → ℕ → ℕ → ℕ → Bool
 is_nth_after test n d e = ltb d e && (test e && eqb (days_after test d e) n)
 
 -- the n-th day after d that passes, if there is one up to 31 December 2099
-unfoldable pub nth_after : (ℕ → Bool) → ℕ → ℕ → Found
-nth_after test n d = first (last_day + 1) (λ e. cond (is_nth_after test n d e) (At e) Nothing)
+unfoldable pub nth_after : (ℕ → Bool) → ℕ → ℕ → Option ℕ
+nth_after test n d = first (last_day + 1) (λ e. cond (is_nth_after test n d e) (Some e) None)
 
 -- ---- Statement and due days
 
@@ -140,7 +132,7 @@ unfoldable pub statement_day : ℕ → ℕ
 statement_day d = d + 75
 
 -- 003: the tenth business day after the statement day
-unfoldable pub final_statement : List ℤ → ℕ → Found
+unfoldable pub final_statement : List ℤ → ℕ → Option ℕ
 final_statement holidays d = nth_after (is_business_day holidays) 10 (statement_day d)
 
 -- the 10th of the second month following
@@ -150,7 +142,7 @@ due_after year month =
     (record { year = year; month = month + 2; day = 10 })
 
 -- 003, 2.5.7: the first business day after it
-unfoldable pub due_day : List ℤ → ℕ → ℕ → Found
+unfoldable pub due_day : List ℤ → ℕ → ℕ → Option ℕ
 due_day holidays year month = nth_after (is_business_day holidays) 1 (day_of (due_after year month))
 
 -- ---- What each call returns: number and figures; refused, every figure is 0
@@ -179,30 +171,32 @@ business_accepted b = record { number = accepted; business = cond b 1 0 }
 abbrev pub business_refused : ℕ → BusinessReturned
 business_refused n = record { number = n; business = 0 }
 
-abbrev pub date_returned : DateAnswer → DateReturned
-date_returned (DateAnswer.On y m d) = date_accepted (record { year = y; month = m; day = d })
-date_returned DateAnswer.NoSuchDate = date_refused no_such_date
+abbrev pub calendar_number : CalendarError → ℕ
+calendar_number NoSuchDate = no_such_date
+calendar_number BadHolidays = bad_holidays
+calendar_number PastLastDay = past_last_day
 
-abbrev pub day_returned : DayAnswer → DayReturned
-day_returned (DayAnswer.On d) = day_accepted d
-day_returned DayAnswer.NoSuchDate = day_refused no_such_date
-day_returned DayAnswer.BadHolidays = day_refused bad_holidays
-day_returned DayAnswer.PastLastDay = day_refused past_last_day
+abbrev pub date_returned : Result Date CalendarError → DateReturned
+date_returned (Ok date) = date_accepted date
+date_returned (Err e) = date_refused (calendar_number e)
 
-abbrev pub weekday_returned : WeekdayAnswer → WeekdayReturned
-weekday_returned (WeekdayAnswer.On w) = weekday_accepted w
-weekday_returned WeekdayAnswer.NoSuchDate = weekday_refused no_such_date
+abbrev pub day_returned : Result ℕ CalendarError → DayReturned
+day_returned (Ok d) = day_accepted d
+day_returned (Err e) = day_refused (calendar_number e)
 
-abbrev pub business_returned : BusinessAnswer → BusinessReturned
-business_returned (BusinessAnswer.Judged b) = business_accepted b
-business_returned BusinessAnswer.NoSuchDate = business_refused no_such_date
-business_returned BusinessAnswer.BadHolidays = business_refused bad_holidays
+abbrev pub weekday_returned : Result ℕ CalendarError → WeekdayReturned
+weekday_returned (Ok w) = weekday_accepted w
+weekday_returned (Err e) = weekday_refused (calendar_number e)
+
+abbrev pub business_returned : Result Bool CalendarError → BusinessReturned
+business_returned (Ok b) = business_accepted b
+business_returned (Err e) = business_refused (calendar_number e)
 
 -- ---- The calls; checks stand in the order in which they are tried: 12, 13, 14
 
-abbrev pub up_to_last_day : Found → DayReturned
-up_to_last_day (At d) = day_accepted d
-up_to_last_day Nothing = day_refused past_last_day
+abbrev pub up_to_last_day : Option ℕ → DayReturned
+up_to_last_day (Some d) = day_accepted d
+up_to_last_day None = day_refused past_last_day
 
 unfoldable pub date_told : ℤ → DateReturned
 date_told day = checked (is_day day) (date_refused no_such_date) (date_accepted (date_of (positive day)))
@@ -226,7 +220,7 @@ business_told day holidays =
     (business_accepted (is_business_day holidays (positive day))))
 
 -- a business day that is searched for in a list
-unfoldable pub search_told : Bool → List ℤ → Found → DayReturned
+unfoldable pub search_told : Bool → List ℤ → Option ℕ → DayReturned
 search_told given holidays found =
     checked given (day_refused no_such_date)
     (checked (is_proper holidays) (day_refused bad_holidays)

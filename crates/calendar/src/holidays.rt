@@ -1,158 +1,123 @@
 // Holiday lists and business days.
-ghost use Rattle.std.specs.Prelude.{◌≡◌, true, cond, ◌+◌, ◌≤◌, ◌<◌, length};
-ghost use Rattle.std.specs.Int.Signed.{lt_z};
+ghost use Rattle.std.specs.Prelude.{◌≡◌, true, false, ◌+◌, ◌<◌, length, MatchResult};
 ghost use Rattle.integer.specs.Below.{all};
+ghost use Rattle.rulebook.specs.Units.{last_day};
+ghost use Rattle.calendar.specs.declared.CalendarError.TheVariants.{BadHolidays};
 ghost use Rattle.calendar.specs.Calendar.{is_later, is_proper, is_listed, is_business_day, nth_after};
-ghost use Rattle.calendar.specs.Steps.{entry_at, FirstFrom};
+ghost use Rattle.calendar.specs.Steps.{FirstFrom};
 
+use super::CalendarError;
 use super::dates::is_day;
-use integer::{Found, natural};
+use integer::natural;
 use rulebook::units::LAST_DAY;
 
 // Saturday is 0.
 const MONDAY: usize = 2;
 
-fn is_earlier(a: i64, b: i64) -> bool
-    ensures { result ≡ lt_z a b }
+// Each entry is later than the entry before it.
+fn is_ascending(days: &[i64]) -> bool
+    ensures { result ≡ all (length days.now) (is_later days.now) }
 {
-    a < b
+    days.is_sorted_by(|a, b| a < b)
 }
 
-// The entry is later than the entry before it.
-fn is_later(holidays: &[i64], i: usize) -> bool
-    requires { i < length holidays.now }
-    ensures { result ≡ is_later holidays.now i }
+// Strictly ascending in 0 to 36,524. If it ascends, its first and its last entry say that all are days.
+fn is_proper(days: &[i64]) -> bool
+    ensures { result ≡ is_proper days.now }
 {
-    if i == 0 {
+    if days.is_empty() {
         return true;
     }
-    is_earlier(holidays[i - 1], holidays[i])
+    (is_day(days[0]) & is_day(days[days.len() - 1])) && is_ascending(days)
 }
 
-// Each entry is.
-fn is_ascending(holidays: &[i64]) -> bool
-    ensures { result ≡ all (length holidays.now) (is_later holidays.now) }
-{
-    for i in 0..holidays.len() {
-        if !is_later(holidays, i) {
-            return false;
+// A holiday list: strictly ascending in 0 to 36,524.
+#[derive(Clone, Copy)]
+pub(crate) struct Holidays<'a> {
+    days: &'a [i64],
+    ghost proper: { is_proper days.now ≡ true },
+}
+
+impl<'a> Holidays<'a> {
+    // The whole list is judged.
+    pub(crate) fn new(days: &'a [i64]) -> Result<Holidays<'a>, CalendarError>
+        ensures { MatchResult result (λ h. (is_proper days.now ≡ true) × (h.days.now ≡ days.now)) (λ e. (is_proper days.now ≡ false) × (e ≡ BadHolidays)) }
+    {
+        if !is_proper(days) {
+            return Err(CalendarError::BadHolidays);
+        }
+        Ok(Holidays { days })
+    }
+
+    // The day's place in the list.
+    fn place_of(&self, day: usize) -> Place<'a>
+        ensures { (result.holidays ≡ self.now) × (result.day ≡ day) }
+    {
+        Place {
+            holidays: *self,
+            day,
+            next: self.days.partition_point(|entry| natural(*entry) < day),
         }
     }
-    true
+
+    pub(crate) fn is_business_day(&self, day: usize) -> bool
+        ensures { result ≡ is_business_day self.now.days.now day }
+    {
+        self.place_of(day).is_business_day()
+    }
+
+    // The n-th business day after day d, up to 31 December 2099. The list is searched once, then walked along.
+    pub(crate) fn nth_business_day(&self, n: usize, d: usize) -> Option<usize>
+        requires { 0 < n }
+        ensures { result ≡ nth_after (is_business_day self.now.days.now) n d }
+    {
+        let mut place = self.place_of(d);
+        let mut passed = 0;
+        // Not `for _ in d..LAST_DAY`: the test on the day itself bounds it, so that it is divided by 7 in 16 bits, a third faster.
+        while place.day < LAST_DAY {
+            place.go_on();
+            passed += usize::from(place.is_business_day());
+            if passed == n {
+                return Some(place.day);
+            }
+        }
+        None
+    }
 }
 
-// Strictly ascending in 0 to 36,524; the whole list is judged. If it ascends, its first and its last entry say that all are days.
-pub(crate) fn is_proper(holidays: &[i64]) -> bool
-    ensures { result ≡ is_proper holidays.now }
-{
-    let n = holidays.len();
-    if n == 0 {
-        return true;
-    }
-    if !is_day(holidays[0]) {
-        return false;
-    }
-    if !is_day(holidays[n - 1]) {
-        return false;
-    }
-    is_ascending(holidays)
+// A day, and the index of the first entry that is not before it.
+#[derive(Clone, Copy)]
+struct Place<'a> {
+    holidays: Holidays<'a>,
+    day: usize,
+    next: usize,
+    ghost first: { FirstFrom holidays.days.now day next },
 }
 
-// The entry, as a number of days.
-fn entry(holidays: &[i64], i: usize) -> usize
-    requires { i < length holidays.now }
-    ensures { result ≡ entry_at holidays.now i }
-{
-    natural(holidays[i])
-}
-
-// The index of the first entry that is not before the day, by halving.
-fn first_from(holidays: &[i64], day: usize) -> usize
-    requires { is_proper holidays.now ≡ true }
-    ensures { FirstFrom holidays.now day result }
-{
-    let mut low = 0;
-    let mut high = holidays.len();
-    while low < high {
-        let middle = low + (high - low) / 2;
-        if entry(holidays, middle) < day {
-            low = middle + 1;
-        } else {
-            high = middle;
+impl<'a> Place<'a> {
+    // The entry at `next` is the day. Not `is_some_and`: with it the proof did not close.
+    fn is_listed(&self) -> bool
+        ensures { result ≡ is_listed self.now.holidays.days.now self.now.day }
+    {
+        match self.holidays.days.get(self.next) {
+            Some(entry) => natural(*entry) == self.day,
+            None => false,
         }
     }
-    low
-}
 
-// The entry at `next`, the first that is not before the day, is that day.
-fn is_listed(holidays: &[i64], day: usize, next: usize) -> bool
-    requires { (is_proper holidays.now ≡ true) × FirstFrom holidays.now day next }
-    ensures { result ≡ is_listed holidays.now day }
-{
-    if next < holidays.len() {
-        return entry(holidays, next) == day;
+    // Monday to Friday, and not listed.
+    fn is_business_day(&self) -> bool
+        ensures { result ≡ is_business_day self.now.holidays.days.now self.now.day }
+    {
+        self.day % 7 >= MONDAY && !self.is_listed()
     }
-    false
-}
 
-// The first entry that is not before the day after.
-fn next_after(holidays: &[i64], day: usize, next: usize) -> usize
-    requires { (is_proper holidays.now ≡ true) × FirstFrom holidays.now day next }
-    ensures { FirstFrom holidays.now (day + 1) result }
-{
-    if next < holidays.len() {
-        if entry(holidays, next) == day {
-            return next + 1;
-        }
+    // To the day after.
+    fn go_on(&mut self)
+        requires { self.old.day < last_day }
+        ensures { (self.new.holidays ≡ self.old.holidays) × (self.new.day ≡ self.old.day + 1) }
+    {
+        self.next += usize::from(self.is_listed());
+        self.day += 1;
     }
-    next
-}
-
-// Monday to Friday, and not listed; `next` is the first entry that is not before the day.
-fn is_business_at(holidays: &[i64], day: usize, next: usize) -> bool
-    requires { (is_proper holidays.now ≡ true) × FirstFrom holidays.now day next }
-    ensures { result ≡ is_business_day holidays.now day }
-{
-    if day % 7 < MONDAY {
-        return false;
-    }
-    !is_listed(holidays, day, next)
-}
-
-pub(crate) fn is_business_day(holidays: &[i64], day: usize) -> bool
-    requires { is_proper holidays.now ≡ true }
-    ensures { result ≡ is_business_day holidays.now day }
-{
-    is_business_at(holidays, day, first_from(holidays, day))
-}
-
-// 1 for a business day, else 0.
-fn business_count(holidays: &[i64], day: usize, next: usize) -> usize
-    requires { (is_proper holidays.now ≡ true) × FirstFrom holidays.now day next }
-    ensures { (result ≡ cond (is_business_day holidays.now day) 1 0) × (result ≤ 1) }
-{
-    if is_business_at(holidays, day, next) {
-        1
-    } else {
-        0
-    }
-}
-
-// The n-th business day after day d, up to 31 December 2099. The list is searched once, then walked along.
-pub(crate) fn nth_business_day(holidays: &[i64], n: usize, d: usize) -> Found
-    requires { (is_proper holidays.now ≡ true) × (0 < n) }
-    ensures { result ≡ nth_after (is_business_day holidays.now) n d }
-{
-    let mut day = d;
-    let mut next = first_from(holidays, d);
-    let mut passed = 0;
-    while day < LAST_DAY {
-        next = next_after(holidays, day, next);
-        day += 1;
-        passed += business_count(holidays, day, next);
-        if passed == n {
-            return Found::At(day);
-        }
-    }
-    Found::Nothing
 }

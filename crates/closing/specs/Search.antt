@@ -1,6 +1,5 @@
 -- The search for an absent flag, by the words' indices. Assumes nothing.
-use Rattle.std.specs.Prelude.{Bool, List, ℕ, ◌+◌, ◌*◌, ℤ}
-use Rattle.integer.specs.declared.Found.{Found}
+use Rattle.std.specs.Prelude.{Bool, List, ℕ, ◌+◌, ◌*◌, ℤ, Option, is_some, unwrap_or}
 use Rattle.integer.specs.Below.{first}
 use Rattle.rulebook.specs.declared.Section.{Section}
 use Rattle.rulebook.specs.declared.Section.TheVariants.{Vesting, Meter, Residual, Ncc}
@@ -16,12 +15,13 @@ flag_in size today then i Residual a = then + i * size + (interval_words + flag_
 flag_in size today then i Ncc a = then + i * size + flag_at Ncc
 
 -- its index, if it is zero
-abbrev pub flag_absent : List ℤ → ℕ → ℕ → ℕ → ℕ → Section → ℕ → Found
+abbrev pub flag_absent : List ℤ → ℕ → ℕ → ℕ → ℕ → Section → ℕ → Option ℕ
 flag_absent w size today then i s a = absent_at w (flag_in size today then i s a)
 
 -- in interval i, of n accounts
-unfoldable pub absent_in : List ℤ → ℕ → ℕ → ℕ → Bool → ℕ → Found
+unfoldable pub absent_in : List ℤ → ℕ → ℕ → ℕ → Bool → ℕ → Option ℕ
 absent_in w n today then due i = searched n due (flag_absent w (interval_length n) today then i)
 
-unfoldable pub first_absent : List ℤ → ℕ → ℕ → ℕ → Bool → Found
-first_absent w n today then due = first intervals (absent_in w n today then due)
+-- in all; no slot at `then`, where no residual is due
+unfoldable pub first_absent : List ℤ → ℕ → ℕ → Option ℕ → Option ℕ
+first_absent w n today then = first intervals (absent_in w n today (unwrap_or then 0) (is_some then))

@@ -1,6 +1,5 @@
 -- What an accepted close writes, as the code writes it. Assumes nothing.
-use Rattle.std.specs.Prelude.{◌≡◌, List, ℕ, ◌+◌, ◌≤◌, ◌<◌, ◌^◌, ℤ, nat_abs, length, set}
-use Rattle.integer.specs.declared.Found.TheVariants.{Nothing}
+use Rattle.std.specs.Prelude.{◌≡◌, List, ℕ, ◌+◌, ◌≤◌, ◌<◌, ◌^◌, ℤ, nat_abs, length, set, None}
 use Rattle.integer.specs.Words.{word}
 use Rattle.rulebook.specs.declared.Terms.{Terms}
 use Rattle.rulebook.specs.Units.{last_day}
@@ -25,7 +24,7 @@ pub record BalancesRoom (n : ℕ) (w st : List ℤ) : Type 0 where
 pub record Settling (w : List ℤ) (o : Terms) (D : ℕ) : Type 0 where
   pub book : Formed w o D
   pub left : D ≤ last_day
-  pub none : first_missing o w D ≡ Nothing
+  pub none : first_missing o w D ≡ None
 
 -- the statement of that close
 pub record StatementOf (w : List ℤ) (o : Terms) (D : ℕ) (st : List ℤ) : Type 0 where

@@ -5,23 +5,23 @@ ghost use Rattle.rulebook.specs.Shares.{most_accounts};
 ghost use Rattle.rulebook.specs.Close.{balances_grown_by};
 ghost use Rattle.closing.specs.Written.{BalancesRoom};
 
-use integer::{add, put_word, word_at};
 use rulebook::layout::balance_word;
 
-// The balance at an index grows by an amount.
+// The balance at an index grows by an amount, an account's or the MSSL's: in one place, where the sum is proved to fit.
 pub fn grow(book: &mut [i64], at: usize, amount: i64)
     requires { (at < length book.old) × (nat_abs (word book.old at) + nat_abs amount < 2 ^ 63) }
     ensures { book.new ≡ set book.old at (word book.old at +ℤ amount) }
 {
-    put_word(book, at, add(word_at(book, at), amount));
+    book[at] += amount;
 }
 
-// Each account's grows by its amount of the statement.
-pub fn grow_balances(book: &mut [i64], statement: &[i64], n: usize)
-    requires { BalancesRoom n book.old statement.now × (n ≤ most_accounts) }
-    ensures { book.new ≡ balances_grown_by book.old (word statement.now) n }
+// Each account's grows by its amount.
+// The length of a lent list, asked of each caller: no type for it outlives a close.
+pub fn grow_balances(book: &mut [i64], amounts: &[i64])
+    requires { BalancesRoom (length amounts.now) book.old amounts.now × (length amounts.now ≤ most_accounts) }
+    ensures { book.new ≡ balances_grown_by book.old (word amounts.now) (length amounts.now) }
 {
-    for a in 0..n {
-        grow(book, balance_word(a), word_at(statement, a));
+    for (a, amount) in amounts.iter().enumerate() {
+        grow(book, balance_word(a), *amount);
     }
 }

@@ -7,7 +7,7 @@
 #![tactic(auto)]
 
 pub mod search; // search.rt: the first absent datum
-pub mod slots; // slots.rt: the slots of D and r
+pub mod slots; // slots.rt: r and its edition
 pub mod statement; // statement.rt: the amounts of a close
 pub mod ledger; // ledger.rt: balances grow
 pub mod write; // write.rt: what an accepted close writes

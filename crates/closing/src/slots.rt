@@ -1,28 +1,22 @@
-// Document 01, "Close": whether a close of D settles r = D − L, whose slot it reads beside D's, and, document 02, P2, r's edition.
-ghost use Rattle.std.specs.Prelude.{◌≡◌};
-ghost use Rattle.rulebook.specs.Terms.{InTerms};
-ghost use Rattle.rulebook.specs.DayAmount.{settles_residual, edition_of};
-ghost use Rattle.closing.specs.Slots.{then_day};
+// Document 01, "Close": r = D − L, the day whose residuals a close of D settles, and, document 02, P2, its edition.
+ghost use Rattle.std.specs.Option.{ForSome};
+ghost use Rattle.std.specs.Prelude.{◌≡◌, ◌≤◌};
+ghost use Rattle.rulebook.specs.DayAmount.{edition_of};
+ghost use Rattle.closing.specs.Slots.{settled_day};
 
+use book::judge::FormedBook;
 use rulebook::{Edition, Terms};
 
-// A residual is due: r is not before F.
-pub fn is_due(terms: Terms, day: usize) -> bool
-    requires { InTerms terms }
-    ensures { result ≡ settles_residual terms day }
+// r, unless it is before F.
+pub fn settled_day(formed: &FormedBook) -> Option<usize>
+    ensures day { result ≡ settled_day formed.now.terms formed.now.next }
+    ensures late { ForSome result (λ r. formed.now.terms.first ≤ r) }
 {
-    terms.first + terms.lag <= day
-}
-
-// r; D itself, where no residual is due.
-pub fn then_day(terms: Terms, day: usize) -> usize
-    requires { InTerms terms }
-    ensures { result ≡ then_day terms day }
-{
-    if is_due(terms, day) {
-        day - terms.lag
+    let terms = formed.terms.get();
+    if terms.first + terms.lag <= formed.next {
+        Some(formed.next - terms.lag)
     } else {
-        day
+        None
     }
 }
 

@@ -1,68 +1,82 @@
 // Document 01, "Close": what an accepted close writes.
+// Book and `formed` apart: the statement reads the book, the writing changes it; one struct would be lent by `&` and by `&mut`.
 ghost use Rattle.std.specs.Prelude.{◌≡◌, ◌+◌, ◌≤◌, length};
-ghost use Rattle.rulebook.specs.Terms.{InTerms};
 ghost use Rattle.rulebook.specs.Layout.{size};
 ghost use Rattle.rulebook.specs.Close.{slot_blanked, day_closed, statement_written};
+ghost use Rattle.amounts.specs.Day.{SlotRanged};
+ghost use Rattle.closing.specs.Slots.{slot_words, settled_then};
 ghost use Rattle.closing.specs.Written.{Settling, StatementOf};
 
 use crate::ledger::{grow, grow_balances};
-use crate::slots::{edition_of, is_due, then_day};
-use crate::statement::{post_amounts, post_mssl};
-use amounts::shares::residuals_due;
+use crate::slots::{edition_of, settled_day};
+use crate::statement::{mssl_amount, post_amounts};
+use amounts::settled::Settled;
+use amounts::slot::Slot;
+use book::judge::FormedBook;
 use book::places::slot_start;
-use integer::{put_word, signed, word_at};
-use opening::words::clear;
-use rulebook::layout::slot_length;
-use rulebook::{Terms, layout};
+use rulebook::accepted::AcceptedTerms;
+use rulebook::layout::{self, slot_length};
+
+// A day's slot of the book.
+fn slot_of(book: &[i64], terms: AcceptedTerms, day: usize) -> Slot
+    requires { (size terms ≤ length book.now) × (terms.first ≤ day) × SlotRanged terms.accounts (slot_words terms book.now day) }
+    ensures words { result.words.now ≡ slot_words terms book.now day }
+    ensures accounts { result.accounts ≡ terms.accounts }
+{
+    let accounts = terms.get().accounts;
+    let i = slot_start(terms, day);
+    let j = i + slot_length(accounts);
+    Slot {
+        words: &book[i..j],
+        accounts,
+    }
+}
+
+// The slot of r, if r is not before F, with its edition, R and S.
+fn settled_of<'a>(book: &'a [i64], formed: &FormedBook) -> Option<Settled<'a>>
+    requires { Settling book.now formed.now.terms formed.now.next }
+    ensures { result ≡ settled_then formed.now.terms book.now formed.now.next }
+{
+    let settled = settled_day(formed)?;
+    let then = slot_of(book, formed.terms, settled);
+    let edition = edition_of(formed.terms.get(), settled);
+    Some(Settled::new(then, edition, then.residuals()))
+}
 
 // N + 1 cents go to the statement, the MSSL's last; words beyond are kept.
-pub fn write_statement(statement: &mut [i64], book: &[i64], terms: Terms, day: usize)
-    requires { Settling book.now terms day × (terms.accounts + 1 ≤ length statement.old) }
-    ensures { statement.new ≡ statement_written terms book.now day statement.old }
+pub fn write_statement(statement: &mut [i64], book: &[i64], formed: &FormedBook)
+    requires { Settling book.now formed.now.terms formed.now.next × (formed.now.terms.accounts + 1 ≤ length statement.old) }
+    ensures { statement.new ≡ statement_written formed.now.terms book.now formed.now.next statement.old }
 {
-    let n = terms.accounts;
-    let words = slot_length(n);
-    let due = is_due(terms, day);
-    let a = slot_start(terms, day);
-    let e = a + words;
-    let settled = then_day(terms, day);
-    let i = slot_start(terms, settled);
-    let j = i + words;
-    let residuals = residuals_due(&book[i..j], due, n);
-    let edition = edition_of(terms, settled);
-    post_amounts(
-        statement,
-        &book[a..e],
-        &book[i..j],
-        due,
-        edition,
-        residuals,
-        n,
-    );
-    post_mssl(statement, n);
+    let today = slot_of(book, formed.terms, formed.next);
+    let then = settled_of(book, formed);
+    post_amounts(statement, today, &then);
+    let n = today.accounts;
+    statement[n] = mssl_amount(&statement[..n]);
 }
 
 // r's slot is lent onward to be blanked, if r is not before F.
-fn blank_settled(book: &mut [i64], terms: Terms, day: usize)
-    requires { InTerms terms × (terms.first ≤ day) × (size terms ≤ length book.old) }
-    ensures { book.new ≡ slot_blanked terms day book.old }
+fn blank_settled(book: &mut [i64], formed: &FormedBook)
+    requires { size formed.now.terms ≤ length book.old }
+    ensures { book.new ≡ slot_blanked formed.now.terms formed.now.next book.old }
 {
-    if is_due(terms, day) {
-        let settled = day - terms.lag;
-        let a = slot_start(terms, settled);
-        let e = a + slot_length(terms.accounts);
-        clear(&mut book[a..e]);
+    if let Some(settled) = settled_day(formed) {
+        let a = slot_start(formed.terms, settled);
+        let e = a + slot_length(formed.terms.get().accounts);
+        let slot = &mut book[a..e];
+        slot.fill(0);
     }
 }
 
 // Balances grow by the statement, the MSSL's too; C rises by one; r's slot is blanked.
-pub fn write_book(book: &mut [i64], statement: &[i64], terms: Terms, day: usize)
-    requires { Settling book.old terms day × StatementOf book.old terms day statement.now }
-    ensures { book.new ≡ day_closed terms book.old day }
+pub fn write_book(book: &mut [i64], statement: &[i64], formed: &FormedBook)
+    requires { Settling book.old formed.now.terms formed.now.next × StatementOf book.old formed.now.terms formed.now.next statement.now }
+    ensures { book.new ≡ day_closed formed.now.terms book.old formed.now.next }
 {
-    let n = terms.accounts;
-    grow_balances(book, statement, n);
-    grow(book, layout::MSSL, word_at(statement, n));
-    put_word(book, layout::NEXT_DAY, signed(day as u64 + 1));
-    blank_settled(book, terms, day);
+    let n = formed.terms.get().accounts;
+    grow_balances(book, &statement[..n]);
+    grow(book, layout::MSSL, statement[n]);
+    // `as`: there is no From of a usize for i64.
+    book[layout::NEXT_DAY] = formed.next as i64 + 1;
+    blank_settled(book, formed);
 }

@@ -1,7 +1,6 @@
 -- Document 02, P2: a list of calls that crosses X = 9,498, with two accounts and L = 2, its files read byte by byte. Computed. Assumes nothing.
-use Rattle.std.specs.Prelude.{◌≡◌, refl, cond, List, [], ◌∷◌, ◌++◌, ℕ, zero, suc, ◌≤◌, ◌<◌, eqb, ℤ, pos, replicate}
+use Rattle.std.specs.Prelude.{◌≡◌, refl, cond, List, [], ◌∷◌, ◌++◌, ℕ, zero, suc, ◌≤◌, ◌<◌, eqb, ℤ, pos, replicate, Some, None}
 use Rattle.std.proofs.Common.{◌∙◌, arith}
-use Rattle.std.proofs.Math.Option.{none, some}
 use Rattle.integer.specs.Integer.{with_sign, twos_complement}
 use Rattle.integer.specs.Below.{fold, or_else, tabulate, turns}
 use Rattle.rulebook.specs.declared.Terms.{Terms}
@@ -71,10 +70,10 @@ row s a d count numbers = record { section = s; account = a; day = d; count = co
 
 -- r's residual and NCC rows, and each day's vesting and meter rows
 abbrev force : ℕ → RowsInForce
-force r Vesting a d = some (row Vesting a d 0 (replicate 96 (pos 0)))
-force r Meter a d = some (row Meter a d 1 (replicate 96 (pos 0)))
-force r Residual a d = cond (eqb d r) (some (row Residual a d 0 (pos 1 ∷ pos 0 ∷ pos 0 ∷ pos 100000 ∷ replicate 188 (pos 0)))) none
-force r Ncc a d = cond (eqb d r) (some (row Ncc a d 0 (pos 1 ∷ replicate 47 (pos 0)))) none
+force r Vesting a d = Some (row Vesting a d 0 (replicate 96 (pos 0)))
+force r Meter a d = Some (row Meter a d 1 (replicate 96 (pos 0)))
+force r Residual a d = cond (eqb d r) (Some (row Residual a d 0 (pos 1 ∷ pos 0 ∷ pos 0 ∷ pos 100000 ∷ replicate 188 (pos 0)))) None
+force r Ncc a d = cond (eqb d r) (Some (row Ncc a d 0 (pos 1 ∷ replicate 47 (pos 0)))) None
 
 -- those that the history has of a day
 pub record Same (past : List Event) (r d : ℕ) : Type 0 where

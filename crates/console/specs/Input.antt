@@ -1,5 +1,5 @@
 -- Document 01, "Program `settle`": its input. Assumes nothing.
-use Rattle.std.specs.Prelude.{Bool, cond, ◌&&◌, List, [], ℕ, ◌+◌, ◌≤◌, eqb, leb, length, get_or, take}
+use Rattle.std.specs.Prelude.{Bool, cond, ◌&&◌, List, [], ℕ, ◌+◌, ◌≤◌, eqb, leb, length, get_or, take, Option, Some, None}
 use Rattle.rulebook.specs.declared.Terms.{Terms}
 use Rattle.rulebook.specs.File.{num}
 use Rattle.console.specs.declared.input.Item.{Item}
@@ -33,6 +33,10 @@ longest_item = 3 + longest_file
 -- what two bytes after the command say
 abbrev pub file_length : List ℕ → ℕ
 file_length s = num 2 s 1
+
+-- the same, where they are there and the length is allowed
+abbrev pub allowed_length : List ℕ → Option ℕ
+allowed_length s = cond (leb 3 (length s) && leb (file_length s) longest_file) (Some (file_length s)) None
 
 -- length and file are whole, and the length is allowed
 unfoldable pub file_whole : List ℕ → Bool

@@ -1,8 +1,7 @@
 // Document 01, "Program `settle`": its input, told from the bytes at hand.
 ghost use Rattle.std.specs.Prelude.{◌≡◌, ◌+◌, ◌≤◌, ◌<◌, length};
-ghost use Rattle.console.specs.Input.{opening_bytes, opening_terms, longest_item, file_whole, item_of, wanted as Input·wanted};
+ghost use Rattle.console.specs.Input.{opening_bytes, opening_terms, longest_item, allowed_length, item_of, wanted as Input·wanted};
 
-use integer::byte;
 use rulebook::Terms;
 use rulebook::file::number;
 
@@ -32,61 +31,49 @@ pub fn opening_terms(s: &[u8]) -> Terms
     ensures { result ≡ opening_terms s.now }
 {
     Terms {
-        accounts: byte(s[0]),
-        lag: byte(s[1]),
-        horizon: byte(s[2]),
+        accounts: usize::from(s[0]),
+        lag: usize::from(s[1]),
+        horizon: usize::from(s[2]),
         first: number(s, 3, 2),
         change: 0,
     }
 }
 
-// A submission's length and file are whole, and the length is allowed.
-fn file_whole(s: &[u8]) -> bool
-    ensures { result ≡ file_whole s.now }
+// A submission's length, where the two bytes are there and it is allowed.
+fn file_length(s: &[u8]) -> Option<usize>
+    ensures { result ≡ allowed_length s.now }
 {
     if s.len() < 3 {
-        return false;
+        return None;
     }
     let n = number(s, 1, 2);
-    (n <= LONGEST_FILE) & (3 + n <= s.len())
+    if n <= LONGEST_FILE { Some(n) } else { None }
 }
 
 // What the rest of the input begins with.
 pub fn item_of(s: &[u8]) -> Item
     ensures { result ≡ item_of s.now }
 {
-    if s.len() == 0 {
-        return Item::End;
+    match s {
+        [] => Item::End,
+        [CLOSE, ..] => Item::Close,
+        [SUBMIT, ..] => match file_length(s) {
+            Some(n) if 3 + n <= s.len() => Item::Submit(n),
+            _ => Item::Bad(1),
+        },
+        _ => Item::Bad(0),
     }
-    let command = s[0];
-    if command == CLOSE {
-        return Item::Close;
-    }
-    if command != SUBMIT {
-        return Item::Bad(0);
-    }
-    if file_whole(s) {
-        return Item::Submit(number(s, 1, 2));
-    }
-    Item::Bad(1)
 }
 
 // How many bytes to have before the item can be told: one, with a submission's length three, with its file all.
 pub fn wanted(s: &[u8]) -> usize
     ensures { (result ≡ Input·wanted s.now) × (result ≤ longest_item) }
 {
-    if s.len() == 0 {
-        return 1;
+    match s {
+        [SUBMIT, ..] => match file_length(s) {
+            Some(n) => 3 + n,
+            None => 3,
+        },
+        _ => 1,
     }
-    if s[0] != SUBMIT {
-        return 1;
-    }
-    if s.len() < 3 {
-        return 3;
-    }
-    let n = number(s, 1, 2);
-    if LONGEST_FILE < n {
-        return 3;
-    }
-    3 + n
 }

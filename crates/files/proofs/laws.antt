@@ -1,4 +1,4 @@
--- laws and proofs, in the order in which they lean on each other
+-- laws, in the order in which they lean on each other
 pub mod FieldsLaws
 pub mod ValuesLaws
 pub mod MarksLaws

@@ -1,4 +1,5 @@
+pub mod Outcome
+pub mod Forms
 pub mod Judgeable
-pub mod Fields
 pub mod Values
 pub mod Marks

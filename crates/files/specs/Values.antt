@@ -2,10 +2,9 @@
 use Rattle.std.specs.Prelude.{List, ℕ, ◌*◌}
 use Rattle.rulebook.specs.declared.Section.{Section}
 use Rattle.rulebook.specs.declared.Why.TheVariants.{NotWhole, OutOfRange}
-use Rattle.rulebook.specs.declared.Verdict.{Verdict}
 use Rattle.rulebook.specs.Sections.{value_in_range}
 use Rattle.rulebook.specs.File.{value_width, value_pos, value_at}
-use Rattle.rulebook.specs.Judging.{require, is_whole, ◌and_then◌}
+use Rattle.rulebook.specs.Judging.{Verdict, require, is_whole, ◌and_then◌}
 
 -- value k of a row whose values are `part`, which starts at the file's position `from`
 unfoldable pub value_in : Section → List ℕ → ℕ → ℕ → Verdict

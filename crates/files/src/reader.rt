@@ -1,71 +1,61 @@
-// Document 01: a reader over the submission moves on only past a whole field. Here it reads the heading of a row, and a section's count of rows.
-ghost use Rattle.std.specs.Prelude.{◌≡◌, ◌≤◌};
-ghost use Rattle.files.specs.Fields.{field_at, next_of, heading_at, heading_of};
+// Document 01: a reader over the submission moves on only past what is whole.
+ghost use Rattle.std.specs.Prelude.{◌≡◌, ◌+◌, ◌≤◌, length, OnOk, OnErr};
+ghost use Rattle.rulebook.specs.File.{num};
+ghost use Rattle.rulebook.specs.Judging.{whole, field_in};
+ghost use Rattle.files.specs.Outcome.{outcome};
 
-use crate::fields::{FieldRead, field_at, next_of};
+use rulebook::file::number;
+use rulebook::{Refusal, Why};
 
-// A file, and the position of the field that is read next.
+// A file, and the position of what is read next.
 #[derive(Drop)]
 pub struct Reader<'a> {
     pub file: &'a [u8],
     pub at: usize,
+    ghost inside: { at ≤ length file.now },
 }
 
-// What stands before a row's values, as it was read: account, day and tranche or facility count, and the position past the last whole one.
-#[derive(Clone, Copy)]
-pub struct Heading {
-    pub account: FieldRead,
-    pub day: FieldRead,
-    pub count: FieldRead,
-    pub next: usize,
-}
-
-// The three fields and the position together.
-fn heading_of(account: FieldRead, day: FieldRead, count: FieldRead, next: usize) -> Heading
-    ensures { result ≡ heading_of account day count next }
-{
-    Heading {
-        account,
-        day,
-        count,
-        next,
+impl<'a> Reader<'a> {
+    // At the start of a file.
+    pub fn new(file: &'a [u8]) -> Reader<'a>
+        ensures { (result.file ≡ file.entry) × (result.at ≡ 0) }
+    {
+        Reader { file, at: 0 }
     }
-}
 
-// A reader at a position.
-pub fn reader_at<'a>(file: &'a [u8], at: usize) -> Reader<'a>
-    ensures { (result.file ≡ file.entry) × (result.at ≡ at) }
-{
-    Reader { file, at }
-}
+    // The number of the next n bytes, if they are all there.
+    // n is a constant, or a row form's width: one bound, asked where a width is passed on.
+    pub fn take(&mut self, n: usize) -> Result<usize, Refusal>
+        requires { n ≤ 2 }
+        ensures answer { result ≡ outcome (whole n self.old.file.now self.old.at) (num n self.old.file.now self.old.at) }
+        ensures file { self.new.file ≡ self.old.file }
+        ensures past { OnOk result (self.new.at ≡ self.old.at + n) }
+        ensures stays { OnErr result (self.new.at ≡ self.old.at) }
+    {
+        let at = self.at;
+        if self.file.len() - at < n {
+            return Err(Refusal {
+                why: Why::NotWhole,
+                at,
+            });
+        }
+        self.at = at + n;
+        Ok(number(self.file, at, n))
+    }
 
-// The field of n bytes that comes next. The reader moves on only past a whole field.
-pub fn take<'s, 'a>(r: &'s mut Reader<'a>, n: usize) -> FieldRead
-    requires { n ≤ 2 }
-    ensures { (result ≡ field_at n r.old.file.now r.old.at) × ((r.new.file ≡ r.old.file) × (r.new.at ≡ next_of result r.old.at)) }
-{
-    let at = r.at;
-    let f = field_at(r.file, at, n);
-    r.at = next_of(f, at);
-    f
-}
-
-// The heading of the row at a position, its account of n bytes and its count of m.
-pub fn read_heading(file: &[u8], at: usize, n: usize, m: usize) -> Heading
-    requires { (n ≤ 2) × (m ≤ 2) }
-    ensures { result ≡ heading_at n m file.now at }
-{
-    let mut r = reader_at(file, at);
-    let account = take(&mut r, n);
-    let day = take(&mut r, 2);
-    let count = take(&mut r, m);
-    heading_of(account, day, count, r.at)
-}
-
-// The count of rows of the section at a position.
-pub fn read_count(file: &[u8], at: usize) -> FieldRead
-    ensures { result ≡ field_at 2 file.now at }
-{
-    let mut r = reader_at(file, at);
-    take(&mut r, 2)
+    // The field of n bytes that comes next: whole, and from low to high, else refused for `why`.
+    pub fn field(&mut self, n: usize, low: usize, high: usize, why: Why) -> Result<usize, Refusal>
+        requires { n ≤ 2 }
+        ensures answer { result ≡ outcome (field_in n low high why self.old.file.now self.old.at) (num n self.old.file.now self.old.at) }
+        ensures file { self.new.file ≡ self.old.file }
+        ensures past { OnOk result (self.new.at ≡ self.old.at + n) }
+    {
+        let at = self.at;
+        let v = self.take(n)?;
+        if low <= v && v <= high {
+            Ok(v)
+        } else {
+            Err(Refusal { why, at })
+        }
+    }
 }

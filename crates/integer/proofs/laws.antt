@@ -5,3 +5,5 @@ pub mod CountLaws
 pub mod WordsLaws
 pub mod NearestAbsLaws
 pub mod NearestLaws
+pub mod ChunkLaws
+pub mod TestsLaws

@@ -1,7 +1,5 @@
 -- What a counting loop computes: sums, tests, searches and tables over the numbers below n, in ascending order. Assumes nothing.
-use Rattle.std.specs.Prelude.{Bool, true, false, cond, ◌&&◌, ◌||◌, List, [], ◌∷◌, ℕ, zero, suc, ◌+◌, ℤ, pos, ◌+ℤ◌}
-use Rattle.integer.specs.declared.Found.{Found}
-use Rattle.integer.specs.declared.Found.TheVariants.{At, Nothing}
+use Rattle.std.specs.Prelude.{Bool, true, false, cond, ◌&&◌, ◌||◌, List, [], ◌∷◌, ℕ, zero, suc, ◌+◌, ℤ, pos, ◌+ℤ◌, Option, Some, None}
 
 -- f 0, f 1, .. f (n - 1) joined from the left, from e on
 unfoldable pub fold {ℓ} : {A : Type ℓ} → (A → A → A) → A → ℕ → (ℕ → A) → A
@@ -26,13 +24,13 @@ any n p = fold ◌||◌ false n p
 abbrev pub count : ℕ → (ℕ → Bool) → ℕ
 count n p = sum_ℕ n (λ i. cond (p i) 1 0)
 
-unfoldable pub or_else : Found → Found → Found
-or_else (At i) y = At i
-or_else Nothing y = y
+unfoldable pub or_else : Option ℕ → Option ℕ → Option ℕ
+or_else (Some i) y = Some i
+or_else None y = y
 
 -- what the first number below n that finds something finds
-abbrev pub first : ℕ → (ℕ → Found) → Found
-first n f = fold or_else Nothing n f
+abbrev pub first : ℕ → (ℕ → Option ℕ) → Option ℕ
+first n f = fold or_else None n f
 
 -- n turns of a step from x, turn 0 first
 unfoldable pub turns {ℓ} : {A : Type ℓ} → ℕ → (ℕ → A → A) → A → A

@@ -1,5 +1,5 @@
 -- Document 01, "Program `settle`": what it does with its input, item by item. Assumes nothing.
-use Rattle.std.specs.Prelude.{◌≡◌, Bool, true, false, cond, List, [], ◌++◌, ℕ, zero, suc, ◌+◌, ◌≤◌, ◌<◌, eqb, leb, ℤ, pos, length, take, drop, replicate}
+use Rattle.std.specs.Prelude.{◌≡◌, Bool, true, false, cond, List, [], ◌++◌, ℕ, zero, suc, ◌+◌, ◌≤◌, ◌<◌, eqb, leb, ℤ, pos, length, take, drop, replicate, Option, Some, None}
 use Rattle.integer.specs.Words.{part}
 use Rattle.rulebook.specs.declared.Terms.{Terms}
 pub use Rattle.rulebook.specs.Shares.{most_accounts}
@@ -9,10 +9,9 @@ use Rattle.rulebook.specs.Close.{closed}
 use Rattle.rulebook.specs.Numbers.{accepted, of_open, of_submit, of_close}
 use Rattle.console.specs.declared.input.Item.{Item}
 use Rattle.console.specs.declared.input.Item.TheVariants.{Close, Submit, Bad, End}
-use Rattle.interpreter.specs.declared.Handed.{Handed}
+use Rattle.interpreter.specs.declared.Next.{Next}
 use Rattle.console.specs.Input.{opening_bytes, opening_terms, item_of, wanted}
 use Rattle.console.specs.Lines.{open_line, submit_line, close_line, bad_line}
-use Rattle.console.specs.Written.{Put}
 
 -- ---- A turn
 
@@ -84,20 +83,22 @@ printed s =
 
 -- ---- What the calls promise
 
--- each figure of a turn that began at `from` and had the bytes s; and for the next one: a book has at most 32 accounts, each item at least a
--- byte, and the input goes at least as far as the item that was done
-pub record Hands (from : ℕ) (s : List ℕ) (t : Turn) (line : List ℕ) (r : Handed) (book_after : List ℤ) (lineAfter : List ℕ) : Type 0 where
-  pub printed : Put line 0 t.line lineAfter r.end
-  pub book_left : book_after ≡ t.book
-  pub counted : r.accounts ≡ t.accounts
-  pub placed : r.position ≡ t.position
-  pub goes_on : r.more ≡ t.more
-  pub few : r.accounts ≤ most_accounts
-  pub further : from < r.position
-  pub within : r.more ≡ true → r.position ≤ from + length s
+-- what a turn hands to the next: nothing, where the input is not read on
+abbrev pub handed : Turn → Option Next
+handed t = cond t.more (Some (record { accounts = t.accounts; position = t.position })) None
 
-abbrev pub Begins : List ℤ → List ℕ → List ℕ → Handed → List ℤ → List ℕ → Type 0
+-- a turn that began at `from` and had the bytes s leaves its line and its book, and hands on; and for the next one: a book has at most 32 accounts,
+-- each item at least a byte, and the input goes at least as far as the item that was done
+pub record Hands (from : ℕ) (s : List ℕ) (t : Turn) (r : Option Next) (book_after : List ℤ) (line_after : List ℕ) : Type 0 where
+  pub printed : line_after ≡ t.line
+  pub book_left : book_after ≡ t.book
+  pub goes_on : r ≡ handed t
+  pub few : t.accounts ≤ most_accounts
+  pub further : from < t.position
+  pub within : t.more ≡ true → t.position ≤ from + length s
+
+abbrev pub Begins : List ℤ → List ℕ → Option Next → List ℤ → List ℕ → Type 0
 Begins book s = Hands 0 s (beginning book s)
 
-abbrev pub Performs : ℕ → ℕ → List ℤ → List ℕ → List ℕ → Handed → List ℤ → List ℕ → Type 0
+abbrev pub Performs : ℕ → ℕ → List ℤ → List ℕ → Option Next → List ℤ → List ℕ → Type 0
 Performs accounts position book s = Hands position s (turn accounts position book s)

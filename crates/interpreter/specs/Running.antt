@@ -1,8 +1,8 @@
 -- A run on what was read, turn by turn: what the program promises of it, since no contract speaks of standard input. Assumes nothing.
-use Rattle.std.specs.Prelude.{◌≡◌, Bool, true, false, ◌⊎◌, List, ℕ, ◌≤◌, ℤ, length, take, drop}
+use Rattle.std.specs.Prelude.{◌≡◌, Bool, true, false, ◌⊎◌, List, ℕ, ◌≤◌, ℤ, drop, Option}
 use Rattle.console.specs.Input.{item_bytes}
-use Rattle.interpreter.specs.declared.Handed.{Handed}
-use Rattle.interpreter.specs.Interpreter.{Turn, beginning, turn, Performs}
+use Rattle.interpreter.specs.declared.Next.{Next}
+use Rattle.interpreter.specs.Interpreter.{Turn, beginning, turn, handed, Performs}
 
 -- which bytes are read for the item at a position: some item's, or those of an input that is at hand
 abbrev pub SomeItem : ℕ → List ℕ → Type 0
@@ -22,27 +22,24 @@ module _ (Read : ℕ → List ℕ → Type 0) where
     next : {t : Turn} (read : List ℕ) → Reached book opening t → t.more ≡ true → Read t.position read → Reached book opening (turn t.accounts t.position t.book read)
 
   -- what a run leaves: the book and the line of a turn that it reached
-  pub record RunLeaves (book : List ℤ) (opening : List ℕ) (book_after : List ℤ) (lineAfter : List ℕ) : Type 0 where
+  pub record RunLeaves (book : List ℤ) (opening : List ℕ) (book_after : List ℤ) (line_after : List ℕ) : Type 0 where
     pub last : Turn
     pub reached : Reached book opening last
     pub book_left : book_after ≡ last.book
-    pub printed : take (length last.line) lineAfter ≡ last.line
+    pub printed : line_after ≡ last.line
 
   -- all of a run: where every line was written, it ended because nothing more was to be read
-  pub record Runs (book : List ℤ) (opening : List ℕ) (written : Bool) (book_after : List ℤ) (lineAfter : List ℕ) : Type 0 where
-    pub left : RunLeaves book opening book_after lineAfter
+  pub record Runs (book : List ℤ) (opening : List ℕ) (written : Bool) (book_after : List ℤ) (line_after : List ℕ) : Type 0 where
+    pub left : RunLeaves book opening book_after line_after
     pub whole : written ≡ true → (left.last.more ≡ false) ⊎ (farthest ≤ left.last.position)
 
   -- and between two turns, with what the last one handed on
-  pub record Stands (book : List ℤ) (opening : List ℕ) (r : Handed) (bookNow : List ℤ) (lineNow : List ℕ) : Type 0 where
-    pub left : RunLeaves book opening bookNow lineNow
-    pub ended : r.end ≡ length left.last.line
-    pub counted : r.accounts ≡ left.last.accounts
-    pub placed : r.position ≡ left.last.position
-    pub goes_on : r.more ≡ left.last.more
+  pub record Stands (book : List ℤ) (opening : List ℕ) (r : Option Next) (book_now : List ℤ) (line_now : List ℕ) : Type 0 where
+    pub left : RunLeaves book opening book_now line_now
+    pub goes_on : r ≡ handed left.last
 
   -- what a step promises: bytes were read, and performed
-  pub record Steps (accounts position : ℕ) (book : List ℤ) (line : List ℕ) (r : Handed) (book_after : List ℤ) (lineAfter : List ℕ) : Type 0 where
+  pub record Steps (accounts position : ℕ) (book : List ℤ) (r : Option Next) (book_after : List ℤ) (line_after : List ℕ) : Type 0 where
     pub read : List ℕ
     pub item : Read position read
-    pub done : Performs accounts position book read line r book_after lineAfter
+    pub done : Performs accounts position book read r book_after line_after

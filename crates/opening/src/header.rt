@@ -1,146 +1,137 @@
 // Document 01, "The book": the header, the size, and the balances.
-ghost use Rattle.std.specs.Prelude.{◌≡◌, true, ◌||◌, ◌+◌, ◌≤◌, ◌<◌, pos, length};
-ghost use Rattle.integer.specs.Integer.{positive, negative};
-ghost use Rattle.integer.specs.Words.{word};
+ghost use Rattle.std.specs.Prelude.{◌≡◌, ◌&&◌, ◌+◌, ◌-◌, ◌*◌, ◌≤◌, ◌<◌, suc, pos, cond, leb, nat_abs, length, drop, Some, None, IfSome, is_some};
+ghost use Rattle.std.specs.Int.Signed.{le_z};
+ghost use Rattle.integer.specs.Integer.{positive};
+ghost use Rattle.integer.specs.Words.{word, part};
 ghost use Rattle.rulebook.specs.Units.{last_day, between};
-ghost use Rattle.rulebook.specs.Shares.{most_accounts};
-ghost use Rattle.rulebook.specs.Terms.{earliest_first_day, InTerms};
-ghost use Rattle.rulebook.specs.Layout.{size, header_words, balance_words, balance_word, mssl_word, change_day_word};
+ghost use Rattle.rulebook.specs.Layout.{size, header_words, book_mark, mark_word, balance_word, mssl_word};
 ghost use Rattle.rulebook.specs.BookData.{terms_of, next_day};
-ghost use Rattle.rulebook.specs.WellFormed.{is_zero, terms_words_fit, next_day_fits, header_fits, balance_fits, balance_words_fit, balances_fit};
+ghost use Rattle.rulebook.specs.WellFormed.{day_bound, next_day_fits, terms_words_fit, header_fits, balance_fits, balances_fit};
+ghost use Rattle.opening.specs.Blank.{blank};
 
-use crate::words::{between_at, is_blank, within_at};
-use rulebook::layout::{balance_word, interval_length};
+use crate::words::{is_blank, is_within};
+use integer::natural;
+use rulebook::accepted::AcceptedTerms;
+use rulebook::layout::{BALANCE_WORDS, HEADER_WORDS, balance_word, interval_length};
 use rulebook::{Terms, layout, units};
+use rules::ranges::is_between;
 
-// Limits, as words.
+// Word 0, and the next day to close of a finished book, as words: a constant calls no `from`.
 const BOOK_MARK: i64 = layout::BOOK_MARK as i64;
 
-const MOST_ACCOUNTS: i64 = units::MOST_ACCOUNTS as i64;
+const FINISHED: i64 = units::LAST_DAY as i64 + 1;
 
-const MOST_LAG: i64 = units::MOST_LAG as i64;
-
-const MOST_HORIZON: i64 = units::MOST_HORIZON as i64;
-
-const EARLIEST_FIRST_DAY: i64 = units::EARLIEST_FIRST_DAY as i64;
-
-const LAST_DAY: i64 = units::LAST_DAY as i64;
-
-const FINISHED: i64 = LAST_DAY + 1;
-
-// X is 0 or 9,497 to 36,524.
-fn change_word_fits(book: &[i64]) -> bool
-    requires { header_words ≤ length book.now }
-    ensures { result ≡ (is_zero (word book.now change_day_word) || between (pos earliest_first_day) (pos last_day) (word book.now change_day_word)) }
+// A word that is not below zero, as a number.
+fn count(word: i64) -> Option<usize>
+    ensures { result ≡ cond (le_z (pos 0) word) (Some (positive word)) None }
 {
-    between_at(book, layout::CHANGE_DAY, 0, 0)
-        | between_at(book, layout::CHANGE_DAY, EARLIEST_FIRST_DAY, LAST_DAY)
+    usize::try_from(word).ok()
 }
 
-// N, L, H, F, X, word by word.
-fn terms_words_fit(book: &[i64]) -> bool
-    requires { header_words ≤ length book.now }
-    ensures { result ≡ terms_words_fit book.now }
+// N, L, H, F and X, if an opening accepts them. Of a word below zero 0 is read, which only X may be.
+fn terms_in(words: &[i64; HEADER_WORDS]) -> Option<AcceptedTerms>
+    ensures { result ≡ cond (terms_words_fit words.now) (Some (terms_of words.now)) None }
 {
-    between_at(book, layout::ACCOUNTS, 1, MOST_ACCOUNTS)
-        & between_at(book, layout::LAG, 1, MOST_LAG)
-        & between_at(book, layout::HORIZON, 1, MOST_HORIZON)
-        & between_at(book, layout::FIRST_DAY, EARLIEST_FIRST_DAY, LAST_DAY)
-        & change_word_fits(book)
+    let change = count(words[layout::CHANGE_DAY])?;
+    AcceptedTerms::new(Terms {
+        accounts: natural(words[layout::ACCOUNTS]),
+        lag: natural(words[layout::LAG]),
+        horizon: natural(words[layout::HORIZON]),
+        first: natural(words[layout::FIRST_DAY]),
+        change,
+    })
 }
 
-// C is F to 36,525.
-fn next_day_fits(book: &[i64]) -> bool
-    requires { header_words ≤ length book.now }
-    ensures { result ≡ next_day_fits book.now }
+// Word 0 of every book is 395.
+fn is_mark(word: i64) -> bool
+    ensures { result ≡ between (pos book_mark) (pos book_mark) word }
 {
-    let first = book[layout::FIRST_DAY];
-    let next = book[layout::NEXT_DAY];
-    (first <= next) & (next <= FINISHED)
+    word == BOOK_MARK
 }
 
-// "The book": words 0 to 63, but for the MSSL's balance.
-pub fn header_fits(book: &[i64]) -> bool
-    requires { header_words ≤ length book.now }
-    ensures { result ≡ header_fits book.now }
+// 395; C, which is F to 36,525; zeros.
+fn frame_fits(words: &[i64; HEADER_WORDS]) -> bool
+    ensures { result ≡ (between (pos book_mark) (pos book_mark) (word words.now mark_word) && next_day_fits words.now && blank (part words.now 8 56)) }
 {
-    between_at(book, layout::MARK, BOOK_MARK, BOOK_MARK)
-        & terms_words_fit(book)
-        & next_day_fits(book)
-        & is_blank(&book[layout::HEADER_SPARES..layout::HEADER_WORDS])
+    is_mark(words[layout::MARK])
+        & is_between(words[layout::FIRST_DAY], FINISHED, words[layout::NEXT_DAY])
+        & is_blank(&words[layout::HEADER_SPARES..])
 }
 
-// A word that is not below zero, as an unsigned number.
-fn unsigned_at(book: &[i64], i: usize) -> usize
-    requires { (i < length book.now) × (negative (word book.now i) ≡ 0) }
-    ensures { result ≡ positive (word book.now i) }
-{
-    book[i] as usize
+// What a header that fits says: its terms, and C, the next day to close.
+#[derive(Clone, Copy)]
+pub struct Header {
+    pub terms: AcceptedTerms,
+    pub next: usize,
+    pub ghost begun: { terms.first ≤ next },
+    pub ghost ended: { next ≤ suc last_day },
 }
 
-// "The book": N, L, H, F and X of a header that fits.
-pub fn terms_of(book: &[i64]) -> Terms
-    requires { (header_words ≤ length book.now) × (header_fits book.now ≡ true) }
-    ensures { result ≡ terms_of book.now }
-{
-    let accounts = unsigned_at(book, layout::ACCOUNTS);
-    let lag = unsigned_at(book, layout::LAG);
-    let horizon = unsigned_at(book, layout::HORIZON);
-    let first = unsigned_at(book, layout::FIRST_DAY);
-    let change = unsigned_at(book, layout::CHANGE_DAY);
-    Terms {
-        accounts: accounts,
-        lag: lag,
-        horizon: horizon,
-        first: first,
-        change: change,
+impl Header {
+    // "The book": words 0 to 63, but for the MSSL's balance.
+    pub fn of(book: &[i64]) -> Option<Header>
+        ensures fits { is_some result ≡ (leb header_words (length book.now) && header_fits book.now) }
+        ensures told { IfSome result (λ h. (h.terms ≡ terms_of book.now) × (h.next ≡ next_day book.now)) }
+    {
+        let words = book.first_chunk()?;
+        let terms = terms_in(words)?;
+        if !frame_fits(words) {
+            return None;
+        }
+        Some(Header {
+            terms,
+            next: natural(words[layout::NEXT_DAY]),
+        })
+    }
+
+    // How many days are closed: C − F.
+    pub fn closes(&self) -> usize
+        ensures { (result ≡ self.now.next - self.now.terms.first) × (result ≤ last_day) }
+    {
+        self.next - self.terms.get().first
+    }
+
+    // The most cents of an account's balance, either way: (C − F) × 4,800,000,000,000.
+    fn bound(&self) -> u64
+        ensures { (result ≡ (self.now.next - self.now.terms.first) * day_bound) × (result ≤ last_day * day_bound) }
+    {
+        // `as`: every usize fits u64, and there is no From between them.
+        (self.closes() * units::DAY_BOUND) as u64
+    }
+
+    // "The book": the MSSL's balance is within N times that.
+    pub fn mssl_fits(&self, book: &[i64]) -> bool
+        requires { mssl_word < length book.now }
+        ensures { result ≡ balance_fits self.now.terms.accounts (self.now.next - self.now.terms.first) (word book.now mssl_word) }
+    {
+        // `as`: every usize fits u64, and there is no From between them.
+        let n = self.terms.get().accounts as u64;
+        is_within(book[layout::MSSL], n * self.bound())
+    }
+
+    // "The book": each account's balance is within that, and its seven zeros.
+    pub fn balances_fit(&self, book: &[i64]) -> bool
+        requires { balance_word self.now.terms.accounts ≤ length book.now }
+        ensures { result ≡ balances_fit book.now (self.now.next - self.now.terms.first) self.now.terms.accounts }
+    {
+        let bound = self.bound();
+        let end = balance_word(self.terms.get().accounts);
+        let (balances, _) = book[HEADER_WORDS..end].as_chunks::<BALANCE_WORDS>();
+        balances.iter().all(|words| balance_words_fit(words, bound))
     }
 }
 
-// "The book": C, the next day to close, of a header that fits.
-pub fn next_day_of(book: &[i64]) -> usize
-    requires { (header_words ≤ length book.now) × (header_fits book.now ≡ true) }
-    ensures { result ≡ next_day book.now }
+// An account's eight words: its balance within a bound, and zeros.
+fn balance_words_fit(words: &[i64; BALANCE_WORDS], bound: u64) -> bool
+    ensures { result ≡ (leb (nat_abs (word words.now 0)) bound && blank (drop 1 words.now)) }
 {
-    unsigned_at(book, layout::NEXT_DAY)
+    is_within(words[0], bound) & is_blank(&words[1..])
 }
 
 // "The book": "Size: 64 + 8N + 48(L + H)(4 + 24N) words"
-pub fn book_size(terms: Terms) -> usize
-    requires { InTerms terms }
+pub fn book_size(terms: AcceptedTerms) -> usize
     ensures { result ≡ size terms }
 {
-    balance_word(terms.accounts)
-        + units::INTERVALS * (terms.lag + terms.horizon) * interval_length(terms.accounts)
-}
-
-// Account a's balance within (C − F) × 4,800,000,000,000 cents either way, and its seven zeros.
-fn balance_words_fit(book: &[i64], closes: usize, a: usize) -> bool
-    requires { (a < most_accounts) × (closes ≤ last_day) × (balance_word a + balance_words ≤ length book.now) }
-    ensures { result ≡ balance_words_fit book.now closes a }
-{
-    let i = balance_word(a);
-    let s = i + 1;
-    let e = s + layout::BALANCE_SPARES;
-    within_at(book, i, closes * units::DAY_BOUND) & is_blank(&book[s..e])
-}
-
-// "The book": each account's balance and zeros.
-pub fn balances_fit(book: &[i64], n: usize, closes: usize) -> bool
-    requires { (n ≤ most_accounts) × (closes ≤ last_day) × (balance_word n ≤ length book.now) }
-    ensures { result ≡ balances_fit book.now closes n }
-{
-    let mut ok = true;
-    for a in 0..n {
-        ok = ok & balance_words_fit(book, closes, a);
-    }
-    ok
-}
-
-// "The book": the MSSL's balance is within N times that.
-pub fn mssl_fits(book: &[i64], n: usize, closes: usize) -> bool
-    requires { (n ≤ most_accounts) × (closes ≤ last_day) × (header_words ≤ length book.now) }
-    ensures { result ≡ balance_fits n closes (word book.now mssl_word) }
-{
-    within_at(book, layout::MSSL, n * (closes * units::DAY_BOUND))
+    let n = terms.get().accounts;
+    balance_word(n) + units::INTERVALS * terms.ring() * interval_length(n)
 }

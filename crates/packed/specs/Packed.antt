@@ -1,14 +1,12 @@
 -- Document 02, P4: a statement in signed packed decimal. Its fields, how they are written and read back, and what the two calls return. Assumes nothing.
-use Rattle.std.specs.Prelude.{Bool, cond, not, ◌&&◌, ◌||◌, ℕ, ◌+◌, ◌*◌, ◌-◌, ◌/◌, ◌%◌, ◌^◌, leb, ltb, eqb, ℤ, pos, negsuc, nat_abs, length, get_or, drop}
+use Rattle.std.specs.Prelude.{Bool, cond, not, ◌&&◌, ◌||◌, ℕ, ◌+◌, ◌*◌, ◌-◌, ◌/◌, ◌%◌, ◌^◌, leb, ltb, eqb, ℤ, pos, negsuc, nat_abs, length, get_or, drop, Option, Some, None, Result, Ok, Err}
 use mathlib.Core.List.{List, ◌++◌, flat_map}
 use Rattle.integer.specs.Integer.{minus}
 use Rattle.integer.specs.Below.{all, first, or_else, turns, tabulate}
 use Rattle.integer.specs.Words.{word, filled}
-use Rattle.integer.specs.declared.Found.{Found}
-use Rattle.integer.specs.declared.Found.TheVariants.{At, Nothing}
 use Rattle.rulebook.specs.Numbers.{accepted, outside_range, output_too_short, packed_field_wrong, checked}
-use Rattle.packed.specs.declared.PackAnswer.{PackAnswer}
-use Rattle.packed.specs.declared.UnpackAnswer.{UnpackAnswer}
+use Rattle.packed.specs.declared.PackError.{PackError}
+use Rattle.packed.specs.declared.UnpackError.{UnpackError}
 use Rattle.packed.specs.declared.UnpackReturned.{UnpackReturned}
 
 -- ---- A statement: 2 to 33 amounts of at most 15 digits
@@ -95,31 +93,31 @@ abbrev pub last_byte_of : ℕ → ℕ
 last_byte_of at = at + (field_bytes - 1)
 
 -- one place, found unless a test passes
-abbrev pub unless : Bool → ℕ → Found
-unless t i = cond t Nothing (At i)
+abbrev pub unless : Bool → ℕ → Option ℕ
+unless t i = cond t None (Some i)
 
 -- a digit above 9
-unfoldable pub wrong_digit : List ℕ → ℕ → ℕ → Found
+unfoldable pub wrong_digit : List ℕ → ℕ → ℕ → Option ℕ
 wrong_digit s at k = unless (leb (half_at s at k) 9) (at + k / 2)
 
 -- a sign other than hex C and D
-unfoldable pub wrong_sign : List ℕ → ℕ → Found
+unfoldable pub wrong_sign : List ℕ → ℕ → Option ℕ
 wrong_sign s at = unless (eqb (sign_at s at) plus_sign || eqb (sign_at s at) minus_sign) (last_byte_of at)
 
 -- zero with D
-unfoldable pub negative_zero : List ℕ → ℕ → Found
+unfoldable pub negative_zero : List ℕ → ℕ → Option ℕ
 negative_zero s at = unless (not (eqb (sign_at s at) minus_sign && eqb (magnitude_at s at) 0)) (last_byte_of at)
 
 -- in one field: digits, sign, negative zero
-unfoldable pub wrong_in : List ℕ → ℕ → Found
+unfoldable pub wrong_in : List ℕ → ℕ → Option ℕ
 wrong_in s at = or_else (first field_digits (wrong_digit s at)) (or_else (wrong_sign s at) (negative_zero s at))
 
 -- bytes after the whole fields: a last field that is cut, at its first byte
-unfoldable pub cut_field : List ℕ → Found
+unfoldable pub cut_field : List ℕ → Option ℕ
 cut_field s = unless (eqb (length s % field_bytes) 0) (field_bytes * whole_fields s)
 
 -- field by field, then the cut one
-unfoldable pub first_wrong : List ℕ → Found
+unfoldable pub first_wrong : List ℕ → Option ℕ
 first_wrong s = or_else (first (whole_fields s) (λ f. wrong_in s (field_bytes * f))) (cut_field s)
 
 -- ---- What the calls return; the checks stand in the order in which they are tried: 1, 10, 16
@@ -129,10 +127,13 @@ pub record Packed : Type 0 where
   pub number : ℕ
   pub output : List ℕ
 
-abbrev pub pack_number : PackAnswer → ℕ
-pack_number PackAnswer.Written = accepted
-pack_number PackAnswer.OutsideRange = outside_range
-pack_number PackAnswer.OutputTooShort = output_too_short
+abbrev pub pack_error_number : PackError → ℕ
+pack_error_number PackError.OutsideRange = outside_range
+pack_error_number PackError.OutputTooShort = output_too_short
+
+abbrev pub pack_number : Result (Unit {0}) PackError → ℕ
+pack_number (Ok _) = accepted
+pack_number (Err e) = pack_error_number e
 
 unfoldable pub pack_call : List ℤ → List ℕ → Packed
 pack_call amounts output =
@@ -147,20 +148,20 @@ unpack_accepted n = record { number = accepted; position = 0; count = n }
 abbrev pub unpack_refused : ℕ → ℕ → UnpackReturned
 unpack_refused n p = record { number = n; position = p; count = 0 }
 
-abbrev pub unpack_returned : UnpackAnswer → UnpackReturned
-unpack_returned (UnpackAnswer.Read n) = unpack_accepted n
-unpack_returned UnpackAnswer.OutsideRange = unpack_refused outside_range 0
-unpack_returned UnpackAnswer.OutputTooShort = unpack_refused output_too_short 0
-unpack_returned (UnpackAnswer.WrongAt p) = unpack_refused packed_field_wrong p
+abbrev pub unpack_returned : Result ℕ UnpackError → UnpackReturned
+unpack_returned (Ok n) = unpack_accepted n
+unpack_returned (Err UnpackError.OutsideRange) = unpack_refused outside_range 0
+unpack_returned (Err UnpackError.OutputTooShort) = unpack_refused output_too_short 0
+unpack_returned (Err (UnpackError.WrongAt p)) = unpack_refused packed_field_wrong p
 
 -- and the output's words after
 pub record Unpacked : Type 0 where
   pub returned : UnpackReturned
   pub output : List ℤ
 
-abbrev pub judged_fields : List ℕ → List ℤ → Found → Unpacked
-judged_fields s output (At p) = record { returned = unpack_refused packed_field_wrong p; output = output }
-judged_fields s output Nothing =
+abbrev pub judged_fields : List ℕ → List ℤ → Option ℕ → Unpacked
+judged_fields s output (Some p) = record { returned = unpack_refused packed_field_wrong p; output = output }
+judged_fields s output None =
     record { returned = unpack_accepted (whole_fields s); output = filled (whole_fields s) (λ f. amount_at s (field_bytes * f)) output }
 
 unfoldable pub unpack_call : List ℕ → List ℤ → Unpacked

@@ -1,10 +1,9 @@
 -- Document 02, P4, in its own figures: what writing and reading return of any input, each number exactly, and what is written and read back. Assumes nothing.
-use Rattle.std.specs.Prelude.{◌≡◌, cond, not, ◌&&◌, ◌||◌, ◌↔◌, ℕ, ◌+◌, ◌*◌, ◌-◌, ◌/◌, ◌%◌, ◌^◌, ◌≤◌, ◌<◌, ltb, eqb, ℤ, pos, nat_abs, length, get_or, take, drop}
+use Rattle.std.specs.Prelude.{◌≡◌, cond, not, ◌&&◌, ◌||◌, ◌↔◌, ℕ, ◌+◌, ◌*◌, ◌-◌, ◌/◌, ◌%◌, ◌^◌, ◌≤◌, ◌<◌, ltb, eqb, ℤ, pos, nat_abs, length, get_or, take, drop, None}
 use mathlib.Core.List.{List, [], ◌∷◌, ◌++◌, flat_map}
 use Rattle.std.specs.Int.Signed.{lt_z}
 use Rattle.integer.specs.Below.{all, tabulate}
 use Rattle.integer.specs.Words.{word}
-use Rattle.integer.specs.declared.Found.TheVariants.{Nothing}
 use Rattle.rulebook.specs.Checks.{Check, NoneStrikes, FirstStrikes}
 use Rattle.packed.specs.Packed.{field, fields_of, half_at, amount_at, wrong_in, pack_call, unpack_accepted, unpack_refused, unpack_call}
 
@@ -90,6 +89,6 @@ ReadWritten s output bytes = (unpack_call s output).returned.number ≡ 0 → le
 
 -- one field stands for each amount, and one amount for each field
 pub record OneField : Type 0 where
-  pub of_amount : (s : List ℕ) (z : ℤ) → length s ≡ 8 → wrong_in s 0 ≡ Nothing → amount_at s 0 ≡ z → s ≡ field z
-  pub right : (z : ℤ) → nat_abs z ≤ 999999999999999 → (wrong_in (field z) 0 ≡ Nothing) × (amount_at (field z) 0 ≡ z)
+  pub of_amount : (s : List ℕ) (z : ℤ) → length s ≡ 8 → wrong_in s 0 ≡ None → amount_at s 0 ≡ z → s ≡ field z
+  pub right : (z : ℤ) → nat_abs z ≤ 999999999999999 → (wrong_in (field z) 0 ≡ None) × (amount_at (field z) 0 ≡ z)
   pub of_fields : (amounts others : List ℤ) → Statement amounts → Statement others → fields_of amounts ≡ fields_of others → amounts ≡ others

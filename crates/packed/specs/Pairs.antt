@@ -1,8 +1,6 @@
 -- A field byte by byte, as code goes through it: two digits a byte, the last byte a digit and the sign. PairLaws ties it to the half bytes. Assumes nothing.
-use Rattle.std.specs.Prelude.{Bool, true, false, ◌&&◌, ◌||◌, List, ℕ, ◌+◌, ◌*◌, ◌-◌, ◌/◌, ◌%◌, ◌^◌, leb, eqb, get_or}
+use Rattle.std.specs.Prelude.{Bool, true, false, ◌&&◌, ◌||◌, List, ℕ, ◌+◌, ◌*◌, ◌-◌, ◌/◌, ◌%◌, ◌^◌, leb, eqb, get_or, Option, Some, None}
 use Rattle.integer.specs.Below.{all, first, turns}
-use Rattle.integer.specs.declared.Found.{Found}
-use Rattle.integer.specs.declared.Found.TheVariants.{At, Nothing}
 use Rattle.packed.specs.Packed.{field_bytes, plus_sign, minus_sign, magnitude_at, unless}
 
 -- bytes of two digits in a field
@@ -42,13 +40,13 @@ pairs_value s at = turns pairs (λ j n. with_pair n (get_or s (at + j) 0)) 0
 abbrev pub is_negative_zero : List ℕ → ℕ → Bool
 is_negative_zero s at = eqb (get_or s (at + pairs) 0) minus_sign && eqb (magnitude_at s at) 0
 
-abbrev pub is_nothing : Found → Bool
-is_nothing (At i) = false
-is_nothing Nothing = true
+abbrev pub is_nothing : Option ℕ → Bool
+is_nothing (Some i) = false
+is_nothing None = true
 
-abbrev pub found_or : Found → ℕ → ℕ
-found_or (At i) d = i
-found_or Nothing d = d
+abbrev pub found_or : Option ℕ → ℕ → ℕ
+found_or (Some i) d = i
+found_or None d = d
 
 -- the first byte that is no pair, or else the last
 unfoldable pub wrong_byte : List ℕ → ℕ → ℕ

@@ -3,6 +3,7 @@
 
 pub mod pack; // pack.rt: amounts written as fields
 pub mod unpack; // unpack.rt: fields judged, then read
+pub mod returned; // returned.rt: what both return, by the table of numbers
 
 ghost use Rattle.std.specs.Prelude.{◌≡◌};
 ghost use Rattle.packed.specs.Packed.{count_fits};
@@ -22,18 +23,16 @@ const LEAST_AMOUNTS: usize = 2;
 
 const MOST_AMOUNTS: usize = 33;
 
-// What writing answers.
-#[derive(Clone, Copy)]
-pub enum PackAnswer {
-    Written,
+// Why writing is refused.
+#[derive(Clone, Copy, PartialEq, Eq, Debug)]
+pub enum PackError {
     OutsideRange,
     OutputTooShort,
 }
 
-// What reading answers: how many amounts, or why it is refused; a wrong field with the byte.
-#[derive(Clone, Copy)]
-pub enum UnpackAnswer {
-    Read(usize),
+// Why reading is refused; a wrong field with the byte.
+#[derive(Clone, Copy, PartialEq, Eq, Debug)]
+pub enum UnpackError {
     OutsideRange,
     OutputTooShort,
     WrongAt(usize),
@@ -53,5 +52,5 @@ pub struct UnpackReturned {
 pub(crate) fn count_fits(n: usize) -> bool
     ensures { result ≡ count_fits n }
 {
-    (LEAST_AMOUNTS <= n) & (n <= MOST_AMOUNTS)
+    (LEAST_AMOUNTS..=MOST_AMOUNTS).contains(&n)
 }

@@ -4,8 +4,8 @@ ghost use Rattle.integer.specs.Words.{filled};
 ghost use Rattle.packed.specs.Packed.{field_bytes, whole_fields, magnitude_at, amount_at, wrong_in, first_wrong, unpack_returned, unpack_call};
 ghost use Rattle.packed.specs.Pairs.{is_pair, is_last, with_pair, pairs_right, pairs_value, is_negative_zero, is_nothing, wrong_byte};
 
-use super::{FIELD_BYTES, MINUS, PAIRS, PLUS, UnpackAnswer, count_fits};
-use integer::{Found, byte, put_word, signed};
+use super::{FIELD_BYTES, MINUS, PAIRS, PLUS, UnpackError, count_fits};
+use integer::signed;
 
 // Are both halves of a byte digits?
 fn is_pair(b: u8) -> bool
@@ -22,16 +22,13 @@ fn is_last(b: u8) -> bool
     (b < 160) & ((sign == PLUS) | (sign == MINUS))
 }
 
-// Are the first 14 half bytes of a field digits?
-fn pairs_right(s: &[u8], at: usize) -> bool
-    requires { at + field_bytes ≤ length s.now }
-    ensures { result ≡ pairs_right s.now at }
+// Are the first 14 half bytes of a field digits? All are asked, with no branch.
+fn pairs_right(field: &[u8; FIELD_BYTES]) -> bool
+    ensures { result ≡ pairs_right field.now 0 }
 {
-    let mut right = true;
-    for j in 0..PAIRS {
-        right = right & is_pair(s[at + j]);
-    }
-    right
+    field[..PAIRS]
+        .iter()
+        .fold(true, |right, b| right & is_pair(*b))
 }
 
 // A number with the two digits of a byte behind it.
@@ -39,90 +36,76 @@ fn with_pair(n: u64, b: u8) -> u64
     requires { n < 10000000000000000 }
     ensures { (result ≡ with_pair n b) × (result ≤ 100 * n + 165) }
 {
-    10 * (10 * n + (b / 16) as u64) + (b % 16) as u64
+    10 * (10 * n + u64::from(b / 16)) + u64::from(b % 16)
 }
 
-// The number that the first 14 digits spell.
-fn pairs_value(s: &[u8], at: usize) -> u64
-    requires { at + field_bytes ≤ length s.now }
-    ensures { (result ≡ pairs_value s.now at) × (result < 200000000000000) }
+// The number that the first 14 digits spell. A `for`: of a total in a `fold` the proof lacks the bound.
+fn pairs_value(field: &[u8; FIELD_BYTES]) -> u64
+    ensures { (result ≡ pairs_value field.now 0) × (result < 200000000000000) }
 {
-    let mut n: u64 = 0;
-    for j in 0..PAIRS {
-        n = with_pair(n, s[at + j]);
+    let mut n = 0;
+    for b in &field[..PAIRS] {
+        n = with_pair(n, *b);
     }
     n
 }
 
 // The number that the 15 digits of a field spell.
-fn magnitude_at(s: &[u8], at: usize) -> u64
-    requires { at + field_bytes ≤ length s.now }
-    ensures { (result ≡ magnitude_at s.now at) × (result < 2000000000000016) }
+fn magnitude(field: &[u8; FIELD_BYTES]) -> u64
+    ensures { (result ≡ magnitude_at field.now 0) × (result < 2000000000000016) }
 {
-    let last = byte(s[at + PAIRS]);
-    10 * pairs_value(s, at) + (last / 16) as u64
+    10 * pairs_value(field) + u64::from(field[PAIRS] / 16)
 }
 
 // Is a field a negative zero? Its last byte alone says mostly that it is not.
-fn is_negative_zero(s: &[u8], at: usize) -> bool
-    requires { at + field_bytes ≤ length s.now }
-    ensures { result ≡ is_negative_zero s.now at }
+fn is_negative_zero(field: &[u8; FIELD_BYTES]) -> bool
+    ensures { result ≡ is_negative_zero field.now 0 }
 {
-    if s[at + PAIRS] == MINUS {
-        return magnitude_at(s, at) == 0;
-    }
-    false
+    field[PAIRS] == MINUS && magnitude(field) == 0
 }
 
 // Is a field right?
-fn is_field(s: &[u8], at: usize) -> bool
-    requires { at + field_bytes ≤ length s.now }
-    ensures { result ≡ is_nothing (wrong_in s.now at) }
+fn is_field(field: &[u8; FIELD_BYTES]) -> bool
+    ensures { result ≡ is_nothing (wrong_in field.now 0) }
 {
-    pairs_right(s, at) & is_last(s[at + PAIRS]) & !is_negative_zero(s, at)
+    pairs_right(field) && is_last(field[PAIRS]) && !is_negative_zero(field)
 }
 
-// The first wrong byte of a field that is not right: where its 14 first digits are right, its last.
-fn wrong_byte(s: &[u8], at: usize) -> usize
-    requires { at + field_bytes ≤ length s.now }
-    ensures { result ≡ wrong_byte s.now at }
+// The first wrong byte of a field that is not right: where its 14 first digits are right, its last. Cold: compiled into the walk over the
+// fields, it would slow the tests of right ones by a third.
+#[cold]
+fn wrong_byte(field: &[u8; FIELD_BYTES]) -> usize
+    ensures { (result ≡ wrong_byte field.now 0) × (result < field_bytes) }
 {
-    for j in 0..PAIRS {
-        if !is_pair(s[at + j]) {
-            return at + j;
-        }
-    }
-    at + PAIRS
+    field[..PAIRS]
+        .iter()
+        .position(|b| !is_pair(*b))
+        .unwrap_or(PAIRS)
 }
 
 // The first wrong byte of fields, or the first byte of a cut one.
-fn first_wrong(s: &[u8]) -> Found
+fn first_wrong(s: &[u8]) -> Option<usize>
     ensures { result ≡ first_wrong s.now }
 {
-    let n = s.len() / FIELD_BYTES;
-    for f in 0..n {
-        if !is_field(s, FIELD_BYTES * f) {
-            return Found::At(wrong_byte(s, FIELD_BYTES * f));
+    let (fields, cut) = s.as_chunks::<FIELD_BYTES>();
+    for (f, field) in fields.iter().enumerate() {
+        if !is_field(field) {
+            return Some(FIELD_BYTES * f + wrong_byte(field));
         }
     }
-    if s.len() % FIELD_BYTES == 0 {
-        Found::Nothing
+    if cut.is_empty() {
+        None
     } else {
-        Found::At(FIELD_BYTES * n)
+        Some(FIELD_BYTES * fields.len())
     }
 }
 
 // The amount of a field.
-fn amount_at(s: &[u8], at: usize) -> i64
-    requires { at + field_bytes ≤ length s.now }
-    ensures { result ≡ amount_at s.now at }
+fn amount(field: &[u8; FIELD_BYTES]) -> i64
+    ensures { result ≡ amount_at field.now 0 }
 {
-    let m = signed(magnitude_at(s, at));
-    if s[at + PAIRS] % 16 == MINUS {
-        0 - m
-    } else {
-        m
-    }
+    let m = signed(magnitude(field));
+    if field[PAIRS] % 16 == MINUS { -m } else { m }
 }
 
 // Writes the amount of each whole field, and keeps the words beyond.
@@ -130,27 +113,26 @@ fn put_amounts(s: &[u8], output: &mut [i64])
     requires { whole_fields s.now ≤ length output.old }
     ensures { output.new ≡ filled (whole_fields s.now) (λ f. amount_at s.now (field_bytes * f)) output.old }
 {
-    for f in 0..s.len() / FIELD_BYTES {
-        put_word(output, f, amount_at(s, FIELD_BYTES * f));
+    let (whole, _) = s.as_chunks::<FIELD_BYTES>();
+    for (f, word) in output[..whole.len()].iter_mut().enumerate() {
+        *word = amount(&whole[f]);
     }
 }
 
-// Reads a statement's fields back.
-pub fn unpack(s: &[u8], output: &mut [i64]) -> UnpackAnswer
+// Reads a statement's fields back, and says how many amounts they are. A list and its output, as the C interface lends them.
+pub fn unpack(s: &[u8], output: &mut [i64]) -> Result<usize, UnpackError>
     ensures { record { returned = unpack_returned result; output = output.new } ≡ unpack_call s.now output.old }
 {
     let n = s.len() / FIELD_BYTES;
     if !count_fits(n) {
-        return UnpackAnswer::OutsideRange;
+        return Err(UnpackError::OutsideRange);
     }
     if output.len() < n {
-        return UnpackAnswer::OutputTooShort;
+        return Err(UnpackError::OutputTooShort);
     }
-    match first_wrong(s) {
-        Found::At(p) => UnpackAnswer::WrongAt(p),
-        Found::Nothing => {
-            put_amounts(s, output);
-            UnpackAnswer::Read(n)
-        }
+    if let Some(p) = first_wrong(s) {
+        return Err(UnpackError::WrongAt(p));
     }
+    put_amounts(s, output);
+    Ok(n)
 }

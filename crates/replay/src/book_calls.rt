@@ -5,7 +5,6 @@ ghost use Rattle.rulebook.specs.Close.{closed};
 ghost use Rattle.replay.specs.Frames.{Lent, Opens, Submits, Closes, SubmittedFrom, ClosedWith, Poked};
 
 use crate::{input, output};
-use integer::put_word;
 use robijan::book_calls::{robijan_close, robijan_open, robijan_submit};
 use rulebook::Terms;
 
@@ -14,12 +13,12 @@ const FILE_BYTES: usize = 131072;
 
 const STATEMENT_WORDS: usize = 40;
 
-// One word written; none by an index past the end.
+// One word written; none by an index past the end. Not by `get_mut`, whose two ways the proof would have to put together again as one `set`.
 fn write_word(book: &mut [i64], i: usize, z: i64)
     ensures { book.new ≡ set book.old i z }
 {
     if i < book.len() {
-        put_word(book, i, z);
+        book[i] = z;
     }
 }
 
@@ -32,6 +31,7 @@ pub fn poke(book: &mut [i64])
     write_word(book, i, z);
 }
 
+// Here and below, functions and no closures as `with_list` takes: their contracts say what the lent words become.
 fn open_lent(lent: &mut [i64])
     ensures { Opens lent.old lent.new }
 {

@@ -52,64 +52,40 @@ fn day_to_statement() {
     output::end();
 }
 
-fn business_with(day: i64, holidays: &[i64]) {
-    let answer = robijan_business_day(day, holidays);
-    output::name(b"business");
-    output::figure(answer.number);
-    output::figure(answer.business);
-    output::digest(holidays);
-    output::end();
-}
-
-fn business_from(space: &mut [i64]) {
-    let day = input::word();
-    let n = input::list(space);
-    business_with(day, &space[..n]);
-}
-
 fn business() {
-    let mut space = [0i64; HOLIDAYS];
-    business_from(&mut space);
-}
-
-fn final_with(day: i64, holidays: &[i64]) {
-    output::name(b"final");
-    print_day(robijan_final_statement(day, holidays));
-    output::digest(holidays);
-    output::end();
-}
-
-fn final_from(space: &mut [i64]) {
     let day = input::word();
-    let n = input::list(space);
-    final_with(day, &space[..n]);
+    input::with_list::<HOLIDAYS, _>(|holidays| {
+        let answer = robijan_business_day(day, holidays);
+        output::name(b"business");
+        output::figure(answer.number);
+        output::figure(answer.business);
+        output::digest(holidays);
+        output::end();
+    });
 }
 
 fn day_to_final() {
-    let mut space = [0i64; HOLIDAYS];
-    final_from(&mut space);
-}
-
-fn due_with(year: i64, month: i64, holidays: &[i64]) {
-    output::name(b"due");
-    print_day(robijan_residual_due(year, month, holidays));
-    output::digest(holidays);
-    output::end();
-}
-
-fn due_from(space: &mut [i64]) {
-    let year = input::word();
-    let month = input::word();
-    let n = input::list(space);
-    due_with(year, month, &space[..n]);
+    let day = input::word();
+    input::with_list::<HOLIDAYS, _>(|holidays| {
+        output::name(b"final");
+        print_day(robijan_final_statement(day, holidays));
+        output::digest(holidays);
+        output::end();
+    });
 }
 
 fn month_to_due() {
-    let mut space = [0i64; HOLIDAYS];
-    due_from(&mut space);
+    let year = input::word();
+    let month = input::word();
+    input::with_list::<HOLIDAYS, _>(|holidays| {
+        output::name(b"due");
+        print_day(robijan_residual_due(year, month, holidays));
+        output::digest(holidays);
+        output::end();
+    });
 }
 
-// A calendar call; false for a byte that is none.
+// A calendar call; false for a byte that is none. No enum of commands, as in main.rt.
 pub fn calendar_call(command: u8) -> bool
     ensures { result ≡ calendar_command command }
 {

@@ -1,95 +1,51 @@
 // Standard input, field by field, little-endian. What is cut off reads as zeros.
-ghost use Rattle.std.specs.Prelude.{◌≡◌, ◌+◌, ◌*◌, ◌≤◌, ◌<◌, length, drop};
+ghost use Rattle.std.specs.Prelude.{◌≡◌, ◌*◌, ◌≤◌, length, drop};
 ghost use Rattle.io.specs.Counts.{IsPrefixLen as Counts·bytes};
-ghost use Rattle.rulebook.specs.File.{num};
 ghost use Rattle.replay.specs.Counts.{Counts};
-ghost use Rattle.replay.specs.Fields.{word_in, words_in, ListRead};
-
-use integer::{least, put_word};
+ghost use Rattle.replay.specs.Fields.{words_in, ListRead};
 
 // 1,200 words.
 const LISTED_BYTES: usize = 9600;
 
-// The byte that starts a frame; 0 at the end of the input.
-pub fn command() -> u8 {
+// The byte that starts a frame; none at the end of the input.
+pub fn command() -> Option<u8> {
     let mut field = [0u8; 1];
-    io::read_full(0, &mut field);
-    field[0]
-}
-
-pub fn wide(b: u8) -> u64
-    ensures { (result ≡ b) × (result < 256) }
-{
-    b as u64
-}
-
-// The number that 4 bytes spell.
-fn number_in(field: &[u8], at: usize) -> u64
-    requires { at + 4 ≤ length field.now }
-    ensures { (result ≡ num 4 field.now at) × (result < 4294967296) }
-{
-    wide(field[at])
-        + 256 * wide(field[at + 1])
-        + 65536 * wide(field[at + 2])
-        + 16777216 * wide(field[at + 3])
-}
-
-// The number that 8 bytes spell.
-fn long_in(field: &[u8], at: usize) -> usize
-    requires { at + 8 ≤ length field.now }
-    ensures { result ≡ num 8 field.now at }
-{
-    let low = number_in(field, at);
-    let high = number_in(field, at + 4);
-    (low + 4294967296 * high) as usize
-}
-
-// The word that 8 bytes spell, in two's complement.
-fn word_in(field: &[u8], at: usize) -> i64
-    requires { at + 8 ≤ length field.now }
-    ensures { result ≡ word_in field.now at }
-{
-    let low = number_in(field, at);
-    let high = number_in(field, at + 4);
-    if high < 2147483648 {
-        (low + 4294967296 * high) as i64
-    } else {
-        let rest = low + 4294967296 * (high - 2147483648);
-        i64::MIN + rest as i64
+    match io::read_full(0, &mut field) {
+        0 => None,
+        _ => Some(field[0]),
     }
 }
 
-// A number of 4 bytes.
-pub fn number() -> u64
-    ensures { result < 4294967296 }
-{
-    let mut field = [0u8; 4];
+// A field of N bytes.
+fn field<const N: usize>() -> [u8; N] {
+    let mut field = [0u8; N];
     io::read_full(0, &mut field);
-    number_in(&field, 0)
+    field
+}
+
+// A number of 4 bytes.
+pub fn number() -> u32 {
+    u32::from_le_bytes(field::<4>())
 }
 
 // A number of 8 bytes.
 pub fn long() -> usize {
-    let mut field = [0u8; 8];
-    io::read_full(0, &mut field);
-    long_in(&field, 0)
+    usize::from_le_bytes(field::<8>())
 }
 
 // A word: 8 bytes, two's complement.
 pub fn word() -> i64 {
-    let mut field = [0u8; 8];
-    io::read_full(0, &mut field);
-    word_in(&field, 0)
+    i64::from_le_bytes(field::<8>())
 }
 
-// A number of 4 bytes, or `most` where it is more.
+// A number of 4 bytes, or `most` where it is more. `as`, since there is no From of a u32 for usize.
 fn at_most(most: usize) -> usize
     ensures { result ≤ most }
 {
-    least(number() as usize, most)
+    (number() as usize).min(most)
 }
 
-// How many words of `space` are meant, from the first on.
+// How many words of `space` are meant, from the first on. A count, here and below: without a heap, a list fills the start of lent words.
 pub fn count(space: &[i64]) -> usize
     ensures { Counts result space.now }
 {
@@ -101,8 +57,9 @@ fn words_in(list: &mut [i64], bytes: &[u8])
     requires { 8 * length list.old ≤ length bytes.now }
     ensures { list.new ≡ words_in (length list.old) bytes.now }
 {
-    for i in 0..list.len() {
-        put_word(list, i, word_in(bytes, 8 * i));
+    let words = bytes.as_chunks::<8>().0;
+    for (i, word) in list.iter_mut().enumerate() {
+        *word = i64::from_le_bytes(words[i]);
     }
 }
 
@@ -110,7 +67,7 @@ fn words_in(list: &mut [i64], bytes: &[u8])
 fn list_by(space: &mut [i64], bytes: &mut [u8]) -> usize
     ensures { ListRead result space.old space.new bytes.new }
 {
-    let n = at_most(least(space.len(), bytes.len() / 8));
+    let n = at_most(space.len().min(bytes.len() / 8));
     let end = 8 * n;
     io::read_full(0, &mut bytes[..end]);
     words_in(&mut space[..n], bytes);
@@ -123,6 +80,16 @@ pub fn list(space: &mut [i64]) -> usize
 {
     let mut bytes = [0u8; LISTED_BYTES];
     list_by(space, &mut bytes)
+}
+
+// A list of at most N words after its count, handed to a call.
+pub fn with_list<const N: usize, F: FnOnce(&[i64])>(call: F)
+    requires few { N ≤ 1200 }
+    requires callable { F.IsAlwaysCallable call }
+{
+    let mut space = [0i64; N];
+    let n = list(&mut space);
+    call(&space[..n]);
 }
 
 // A file after its length; it stands at the start of `space`, the bytes beyond kept.

@@ -39,7 +39,7 @@ use rules_calls::{price, profile, share, tranche};
 // a stack of 8 MB has.
 const BOOK_WORDS: usize = 802000;
 
-// A call on no book; false for a byte that is none.
+// A call on no book; false for a byte that is none. No enum of commands: each byte would be matched twice, to name the call and to make it.
 fn call_without_book(command: u8) -> bool
     ensures { result ≡ bookless command }
 {
@@ -56,7 +56,7 @@ fn call_without_book(command: u8) -> bool
     true
 }
 
-// One frame, by its byte; false for a byte that starts none.
+// One frame, by its byte; false for a byte that starts none. No enum of commands, for the same reason.
 fn frame(book: &mut [i64], command: u8) -> bool
     ensures { Framed command book.old book.new × (result ≡ starts command) }
 {
@@ -74,17 +74,20 @@ fn frame(book: &mut [i64], command: u8) -> bool
 fn step(book: &mut [i64]) -> bool
     ensures { Stepped result book.old book.new }
 {
-    let command = input::command();
-    frame(book, command)
+    match input::command() {
+        Some(command) => frame(book, command),
+        None => false,
+    }
 }
 
-// The frames, one after another.
+// The frames, one after another; up to u64::MAX, since a proved loop has to end.
 fn run(book: &mut [i64])
     ensures { Ran book.old book.new }
 {
-    let mut turns = u64::MAX;
-    while turns > 0 && step(book) {
-        turns -= 1;
+    for _ in 0..u64::MAX {
+        if !step(book) {
+            break;
+        }
     }
 }
 

@@ -2,8 +2,7 @@
 ghost use Rattle.std.specs.Prelude.{◌≡◌, ◌<◌};
 ghost use Rattle.replay.specs.Digests as digests;
 
-use crate::input::wide;
-use integer::{magnitude, word_at};
+use itoa::{Buffer, Integer};
 
 // A digest is below this prime, 2^31 − 1.
 const MODULUS: u64 = 2147483647;
@@ -16,28 +15,20 @@ pub fn name(text: &[u8]) {
 }
 
 // A figure, after a space.
-pub fn figure(n: u64) {
+pub fn figure<I: Integer>(n: I) {
+    let mut buffer = Buffer::new();
     io::write_all(1, b" ");
-    io::print_decimal(1, n);
+    io::write_all(1, buffer.format(n).as_bytes());
 }
 
 pub fn end() {
     io::write_all(1, b"\n");
 }
 
-// A signed figure, after a space.
-pub fn word(z: i64) {
-    io::write_all(1, b" ");
-    if z < 0 {
-        io::write_all(1, b"-");
-    }
-    io::print_decimal(1, magnitude(z));
-}
-
 // Each word of a list.
 pub fn words(list: &[i64]) {
-    for i in 0..list.len() {
-        word(word_at(list, i));
+    for z in list {
+        figure(*z);
     }
 }
 
@@ -52,7 +43,7 @@ fn more(d: u64, x: u64) -> u64
 fn sign(z: i64) -> u64
     ensures { (result ≡ digests.sign z) × (result < 2) }
 {
-    if z < 0 { 1 } else { 0 }
+    u64::from(z < 0)
 }
 
 // A digest with one word more: the upper half of its magnitude with its sign, then the lower half.
@@ -60,17 +51,18 @@ fn more_word(d: u64, z: i64) -> u64
     requires { d < 2147483647 }
     ensures { (result ≡ digests.more_word d z) × (result < 2147483647) }
 {
-    let size = magnitude(z);
+    let size = z.unsigned_abs();
     let upper = 2 * (size / 4294967296) + sign(z);
     more(more(d, upper), size % 4294967296)
 }
 
+// Two loops, for words and for bytes: they go in unlike, and of a `fold` the proof lacks that the digest stays below the prime.
 fn digest_of(list: &[i64]) -> u64
     ensures { result ≡ digests.digest list.now }
 {
     let mut d = 1;
-    for i in 0..list.len() {
-        d = more_word(d, word_at(list, i));
+    for z in list {
+        d = more_word(d, *z);
     }
     d
 }
@@ -79,8 +71,8 @@ fn file_digest_of(file: &[u8]) -> u64
     ensures { result ≡ digests.file_digest file.now }
 {
     let mut d = 1;
-    for i in 0..file.len() {
-        d = more(d, wide(file[i]));
+    for b in file {
+        d = more(d, u64::from(*b));
     }
     d
 }

@@ -11,6 +11,7 @@ const AMOUNTS: usize = 40;
 
 const BYTES: usize = 512;
 
+// Functions, here and below, and no closures as `with_list` takes: their contracts say what the lent words become.
 fn pack_to(amounts: &[i64], lent: &mut [u8])
     ensures { lent.new ≡ (pack_call amounts.now lent.old).output }
 {
@@ -56,6 +57,7 @@ fn unpack_with(fields: &[u8], words: &mut [i64])
     unpack_to(fields, &mut words[..n]);
 }
 
+// A part of the bytes is lent on while the words are made: a call each.
 fn unpack_lent(fields: &[u8]) {
     let z = input::word();
     let mut words = [z; AMOUNTS];

@@ -13,29 +13,22 @@ const LIST_WORDS: usize = 40;
 
 const PROFILE_WORDS: usize = 64;
 
-fn price_of(mep: &[i64], ieq: &[i64]) {
-    let answer = robijan_price(mep, ieq);
-    output::name(b"price");
-    output::figure(answer.number);
-    output::word(answer.price);
-    output::digest(mep);
-    output::digest(ieq);
-    output::end();
-}
-
-fn price_from(meps: &mut [i64], ieqs: &mut [i64]) {
-    let m = input::list(meps);
-    let n = input::list(ieqs);
-    price_of(&meps[..m], &ieqs[..n]);
-}
-
 pub fn price() {
-    let mut meps = [0i64; LIST_WORDS];
-    let mut ieqs = [0i64; LIST_WORDS];
-    price_from(&mut meps, &mut ieqs);
+    input::with_list::<LIST_WORDS, _>(|mep| {
+        input::with_list::<LIST_WORDS, _>(|ieq| {
+            let answer = robijan_price(mep, ieq);
+            output::name(b"price");
+            output::figure(answer.number);
+            output::figure(answer.price);
+            output::digest(mep);
+            output::digest(ieq);
+            output::end();
+        });
+    });
 }
 
-// The share call of an edition, after its name.
+// The share call of an edition, after its name. Edition, R and UEGQ are a frame's fields, handed to the call as they are; functions, here and
+// below, whose contracts say what the lent words become.
 fn share_called(edition: Edition, r: i64, uegq: &[i64], lent: &mut [i64]) -> u64
     ensures { record { number = result; output = lent.new } ≡ share_call edition r uegq.now lent.old }
 {
@@ -84,28 +77,20 @@ pub fn tranche() {
     let answer = robijan_tranche(rvq, bvq, mq);
     output::name(b"tranche");
     output::figure(answer.number);
-    output::word(answer.first);
-    output::word(answer.second);
+    output::figure(answer.first);
+    output::figure(answer.second);
     output::end();
-}
-
-fn profile_of(total: i64, contracted: i64, profile: &[i64]) {
-    let answer = robijan_profile(profile, total, contracted);
-    output::name(b"profile");
-    output::figure(answer.number);
-    output::figure(answer.keeps);
-    output::digest(profile);
-    output::end();
-}
-
-fn profile_from(space: &mut [i64]) {
-    let total = input::word();
-    let contracted = input::word();
-    let n = input::list(space);
-    profile_of(total, contracted, &space[..n]);
 }
 
 pub fn profile() {
-    let mut space = [0i64; PROFILE_WORDS];
-    profile_from(&mut space);
+    let total = input::word();
+    let contracted = input::word();
+    input::with_list::<PROFILE_WORDS, _>(|profile| {
+        let answer = robijan_profile(profile, total, contracted);
+        output::name(b"profile");
+        output::figure(answer.number);
+        output::figure(answer.keeps);
+        output::digest(profile);
+        output::end();
+    });
 }

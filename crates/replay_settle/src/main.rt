@@ -4,12 +4,12 @@
 #![tactic(auto)]
 
 ghost use Rattle.std.specs.Prelude.{◌≡◌, ◌≤◌, ◌<◌, length, drop};
-ghost use Rattle.console.specs.Lines.{line_room};
 ghost use Rattle.interpreter.specs.Interpreter.{most_accounts, new_words, Performs};
 ghost use Rattle.interpreter.specs.Running.{RestOf, RunLeaves};
 
-use console::lines::{LINE_ROOM, print};
-use interpreter::{BOOK_WORDS, Handed, begin, perform};
+use console::line::{LINE_ROOM, Line};
+use console::lines::print;
+use interpreter::{BOOK_WORDS, Next, begin, perform};
 
 // Standard input and output.
 const STDIN_FILENO: i32 = 0;
@@ -19,45 +19,35 @@ const STDOUT_FILENO: i32 = 1;
 // The longest input.
 const FRAME_BYTES: usize = 40000;
 
-fn wide(b: u8) -> usize
-    ensures { result < 256 }
-{
-    b as usize
-}
-
 // A frame's length, or `most` where it is more; the lower byte comes first.
-fn length_of(field: &[u8; 2], most: usize) -> usize
+fn length_of(field: [u8; 2], most: usize) -> usize
     ensures { result ≤ most }
 {
-    let n = wide(field[0]) + 256 * wide(field[1]);
-    if n < most { n } else { most }
+    usize::from(u16::from_le_bytes(field)).min(most)
 }
 
-// The bytes of a frame, put at the start of `space`.
-fn fill(space: &mut [u8], n: usize) -> usize
-    requires { n ≤ length space.old }
-    ensures { result ≤ n }
+// The item that the last turn named, of an input in memory (its bound is asked here and of the two calls below: a type around the slice is no
+// plainer): what `printed_from` says of it.
+fn item(book: &mut [i64], turn: Next, s: &[u8], line: &mut Line<LINE_ROOM>) -> Option<Next>
+    requires { (turn.accounts ≤ most_accounts) × (turn.position ≤ length s.now) × (length s.now ≤ 40000) }
+    ensures { Performs turn.accounts turn.position book.old (drop turn.position s.now) result book.new line.new }
 {
-    io::read_full(STDIN_FILENO, &mut space[..n])
-}
-
-// The item that the last turn named, of an input in memory: what `printed_from` says of it.
-fn item(book: &mut [i64], turn: Handed, s: &[u8], line: &mut [u8]) -> Handed
-    requires { (turn.accounts ≤ most_accounts) × (turn.position ≤ length s.now) × (length s.now ≤ 40000) × (line_room ≤ length line.old) }
-    ensures { Performs turn.accounts turn.position book.old (drop turn.position s.now) line.old result book.new line.new }
-{
+    // `as`: there is no From of a u64 for usize.
     let from = turn.position as usize;
     perform(book, turn, &s[from..], line)
 }
 
-// An input on a new book.
-fn run(book: &mut [i64], s: &[u8], line: &mut [u8])
-    requires { (book.old ≡ new_words) × (length s.now ≤ 40000) × (line_room ≤ length line.old) }
+// An input on a new book. A loop of its own beside that of `settle`: its items are at hand, those are read, and the contracts differ.
+fn run(book: &mut [i64], s: &[u8], line: &mut Line<LINE_ROOM>)
+    requires { (book.old ≡ new_words) × (length s.now ≤ 40000) }
     ensures { RunLeaves (RestOf s.now) new_words s.now book.new line.new }
 {
-    let mut turn = begin(book, s, line);
-    while print(line, turn.end) && turn.more {
-        turn = item(book, turn, s, line);
+    let mut next = begin(book, s, line);
+    while print(line) {
+        let Some(turn) = next else {
+            return;
+        };
+        next = item(book, turn, s, line);
     }
 }
 
@@ -66,32 +56,29 @@ fn replay(s: &[u8])
     requires { length s.now ≤ 40000 }
 {
     let mut book = [0i64; BOOK_WORDS];
-    let mut line = [0u8; LINE_ROOM];
+    let mut line = Line::new();
     run(&mut book, s, &mut line);
     io::write_all(STDOUT_FILENO, b"end\n");
 }
 
 // One frame; false at the end of the stream.
-fn step(space: &mut [u8]) -> bool
-    requires { length space.old ≤ 40000 }
-{
+fn step(space: &mut [u8; FRAME_BYTES]) -> bool {
     let mut field = [0u8; 2];
     if io::read_full(STDIN_FILENO, &mut field) < 2 {
         return false;
     }
-    let n = length_of(&field, space.len());
-    let got = fill(space, n);
+    let n = length_of(field, space.len());
+    let got = io::read_full(STDIN_FILENO, &mut space[..n]);
     replay(&space[..got]);
     true
 }
 
-// The frames, one after another.
-fn replay_all(space: &mut [u8])
-    requires { length space.old ≤ 40000 }
-{
-    let mut frames = u64::MAX;
-    while frames > 0 && step(space) {
-        frames -= 1;
+// The frames, one after another; up to u64::MAX, since a proved loop has to end.
+fn replay_all(space: &mut [u8; FRAME_BYTES]) {
+    for _ in 0..u64::MAX {
+        if !step(space) {
+            break;
+        }
     }
 }
 

@@ -6,16 +6,10 @@ use Rattle.rulebook.specs.Layout.{size}
 use Rattle.rulebook.specs.WellFormed.{well_formed}
 use Rattle.rulebook.specs.Numbers.{accepted, outside_range, not_well_formed}
 use Rattle.robijan.specs.declared.book_calls.BookSize.{BookSize}
-use Rattle.book.specs.declared.judge.Judged.{Judged}
-use Rattle.book.specs.declared.judge.Judged.TheVariants.{WellFormed, IllFormed}
 
 -- 3 for words that are no well-formed book
 unfoldable pub judge_number : List ℤ → ℕ
 judge_number w = cond (well_formed w) accepted not_well_formed
-
-abbrev pub judged_number : Judged → ℕ
-judged_number (WellFormed o C) = accepted
-judged_number IllFormed = not_well_formed
 
 -- the number, and the words that a book takes; terms outside their ranges are refused, as by an opening
 unfoldable pub size_returned : Terms → BookSize

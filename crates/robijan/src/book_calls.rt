@@ -4,16 +4,19 @@ ghost use Rattle.rulebook.specs.Numbers.{of_open, of_submit, of_close};
 ghost use Rattle.rulebook.specs.Opening.{opened};
 ghost use Rattle.rulebook.specs.Submit.{submitted};
 ghost use Rattle.rulebook.specs.Close.{closed};
-ghost use Rattle.robijan.specs.Returned.{size_returned, judge_number, judged_number};
+ghost use Rattle.robijan.specs.Returned.{size_returned, judge_number};
 
-use book::judge::{Judged, judge};
+use book::judge::judge;
 use closing::close::close;
 use opening::header::book_size;
-use opening::open::{open_book, terms_fit};
+use opening::open::open_book;
+use rulebook::accepted::AcceptedTerms;
+use rulebook::numbers::{ACCEPTED, NOT_WELL_FORMED, OUTSIDE_RANGE};
 use rulebook::{Answer, Terms};
 use submission::submit::submit;
 
-// The number of a call, and a book's size in words.
+// The number of a call, and a book's size in words. Programs in other languages get it, hence C's layout, and numbers (`as`: every usize fits
+// u64, and there is no From between them).
 #[repr(C)]
 #[derive(Clone, Copy)]
 pub struct BookSize {
@@ -26,7 +29,7 @@ pub fn robijan_open(book: &mut [i64], terms: Terms) -> Answer
     ensures answered { result ≡ of_open (opened terms book.old).answer }
     ensures book_after { book.new ≡ (opened terms book.old).words }
 {
-    answers::of_open(open_book(book, terms))
+    open_book(book, terms).into()
 }
 
 // Submits a file to a book.
@@ -34,7 +37,7 @@ pub fn robijan_submit(book: &mut [i64], file: &[u8]) -> Answer
     ensures answered { result ≡ of_submit (submitted book.old file.now).answer }
     ensures book_after { book.new ≡ (submitted book.old file.now).words }
 {
-    answers::of_submit(submit(book, file))
+    submit(book, file).into()
 }
 
 // Closes a book's next day.
@@ -43,38 +46,31 @@ pub fn robijan_close(book: &mut [i64], statement: &mut [i64]) -> Answer
     ensures book_after { book.new ≡ (closed book.old statement.old).words }
     ensures statement_after { statement.new ≡ (closed book.old statement.old).statement }
 {
-    answers::of_close(close(book, statement))
-}
-
-fn of_judged(judged: Judged) -> u64
-    ensures { result ≡ judged_number judged }
-{
-    match judged {
-        Judged::WellFormed(_, _) => answers::ACCEPTED,
-        Judged::IllFormed => answers::NOT_WELL_FORMED,
-    }
+    close(book, statement).into()
 }
 
 // Is a lent book well formed? 0, or 3.
 pub fn robijan_judge(book: &[i64]) -> u64
     ensures { result ≡ judge_number book.now }
 {
-    of_judged(judge(book))
+    match judge(book) {
+        Some(_) => ACCEPTED,
+        None => NOT_WELL_FORMED,
+    }
 }
 
 // The words that a book of these terms takes; terms that an opening refuses are refused as by it.
 pub fn robijan_book_size(terms: Terms) -> BookSize
     ensures { result ≡ size_returned terms }
 {
-    if terms_fit(terms) {
-        BookSize {
-            number: answers::ACCEPTED,
+    match AcceptedTerms::new(terms) {
+        Some(terms) => BookSize {
+            number: ACCEPTED,
             words: book_size(terms) as u64,
-        }
-    } else {
-        BookSize {
-            number: answers::OUTSIDE_RANGE,
+        },
+        None => BookSize {
+            number: OUTSIDE_RANGE,
             words: 0,
-        }
+        },
     }
 }

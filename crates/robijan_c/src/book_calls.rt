@@ -4,7 +4,7 @@ ghost use Rattle.rulebook.specs.Numbers.{of_open, of_submit, of_close};
 ghost use Rattle.rulebook.specs.Opening.{opened};
 ghost use Rattle.rulebook.specs.Submit.{submitted};
 ghost use Rattle.rulebook.specs.Close.{closed};
-ghost use Rattle.robijan.specs.Returned.{size_returned, judge_number, judged_number};
+ghost use Rattle.robijan.specs.Returned.{size_returned, judge_number};
 
 use robijan::book_calls::BookSize;
 use rulebook::{Answer, Terms};

@@ -1,6 +1,6 @@
 // The calls of the calendar. Each is the function of its name in the crate `robijan`, whose clauses it states again.
 ghost use Rattle.std.specs.Prelude.{◌≡◌};
-ghost use Rattle.calendar.specs.Calendar.{date_returned, date_told, day_refused, day_returned, day_told, weekday_returned, weekday_told, statement_told, business_returned, business_told, final_statement_told, residual_due_told};
+ghost use Rattle.calendar.specs.Calendar.{date_told, day_told, weekday_told, statement_told, business_told, final_statement_told, residual_due_told};
 
 use calendar::{BusinessReturned, DateReturned, DayReturned, WeekdayReturned};
 

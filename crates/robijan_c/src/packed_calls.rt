@@ -1,6 +1,6 @@
 // Statements in packed decimal. Each is the function of its name in the crate `robijan`, whose clauses it states again.
 ghost use Rattle.std.specs.Prelude.{◌≡◌};
-ghost use Rattle.packed.specs.Packed.{pack_number, pack_call, unpack_refused, unpack_returned, unpack_call};
+ghost use Rattle.packed.specs.Packed.{pack_call, unpack_call};
 
 use packed::UnpackReturned;
 

@@ -1,7 +1,6 @@
 // The calls of the rules, which hold no book. Each is the function of its name in the crate `robijan`, whose clauses it states again.
 ghost use Rattle.std.specs.Prelude.{◌≡◌};
 ghost use Rattle.rulebook.specs.declared.Edition.TheVariants.{First, Second};
-ghost use Rattle.rulebook.specs.Numbers.{price_returned, tranche_returned, profile_refused, profile_returned};
 ghost use Rattle.rulebook.specs.Calls.{price_call, share_call, tranche_call, profile_call};
 
 use rulebook::{PriceReturned, ProfileReturned, TrancheReturned};

@@ -1,8 +1,7 @@
 -- What is proved of submission files, in one place. It speaks of the four layouts written out (Encoding), of the rows that a book can take (Proper),
 -- of the table's conditions at a file's fields (FileTable), and of the rule book's own form and judge (File, Judging). Assumes nothing.
-use Rattle.std.specs.Prelude.{◌≡◌, false, List, ◌↔◌, ℕ, ◌<◌, T, ℤ}
+use Rattle.std.specs.Prelude.{◌≡◌, false, List, ◌↔◌, ℕ, ◌<◌, T, ℤ, Ok}
 use Rattle.rulebook.specs.declared.Terms.{Terms}
-use Rattle.rulebook.specs.declared.Verdict.TheVariants.{Accepted}
 use Rattle.rulebook.specs.Terms.{InTerms}
 use Rattle.rulebook.specs.BookData.{terms_of, next_day}
 use Rattle.rulebook.specs.WellFormed.{well_formed}
@@ -28,18 +27,18 @@ use Rattle.rulebook.proofs.laws.SubmitTableLaws.{submit-ill_formed, submit-refus
 -- a book's terms are o, C is its next day to close
 pub record FileTheorems : Type 0 where
   -- taken whole: the rows of an accepted file, written out, are the file
-  pub taken_whole : (o : Terms) (C : ℕ) (file : List ℕ) → Bytes file → judged (limits_of o C) file ≡ Accepted → encoded (named_rows file) ≡ file
+  pub taken_whole : (o : Terms) (C : ℕ) (file : List ℕ) → Bytes file → judged (limits_of o C) file ≡ (Ok tt) → encoded (named_rows file) ≡ file
   -- its rows are proper: of an account, the day open, counts and figures in range, each key once
-  pub rows_proper : (o : Terms) → InTerms o → (C : ℕ) (file : List ℕ) → Bytes file → judged (limits_of o C) file ≡ Accepted → ProperRows o C (named_rows file)
+  pub rows_proper : (o : Terms) → InTerms o → (C : ℕ) (file : List ℕ) → Bytes file → judged (limits_of o C) file ≡ (Ok tt) → ProperRows o C (named_rows file)
   -- conversely the file of proper rows is accepted, and its rows are those
   pub file_accepted : (o : Terms) → InTerms o → (C : ℕ) (rows : List NamedRow) → ProperRows o C rows
-      → (judged (limits_of o C) (encoded rows) ≡ Accepted) × AllAlike (named_rows (encoded rows)) rows
+      → (judged (limits_of o C) (encoded rows) ≡ (Ok tt)) × AllAlike (named_rows (encoded rows)) rows
   -- rows that say the same are the same bytes, so that nothing is lost by "alike"; and what is written are bytes
   pub alike_bytes : (rows others : List NamedRow) → AllAlike rows others → encoded rows ≡ encoded others
   pub encoded_bytes : (rows : List NamedRow) → Bytes (encoded rows)
   -- so a file of bytes is accepted exactly if it is the file of proper rows
   pub accepted_exactly : (o : Terms) → InTerms o → (C : ℕ) (file : List ℕ) → Bytes file
-      → (judged (limits_of o C) file ≡ Accepted) ↔ ((rows : List NamedRow) × ProperRows o C rows × (encoded rows ≡ file))
+      → (judged (limits_of o C) file ≡ (Ok tt)) ↔ ((rows : List NamedRow) × ProperRows o C rows × (encoded rows ≡ file))
   -- a figure that a row lacks reads zero
   pub lacking_zero : (row : Row) (i : ℕ) → LackingZero (named row) i
   -- numbers 4 to 8: a file is refused with number n at position p exactly if, of the table's conditions at the file's fields in order, n's is the first
@@ -47,7 +46,7 @@ pub record FileTheorems : Type 0 where
   pub refused_exactly : (o : Terms) → InTerms o → (C : ℕ) (file : List ℕ) (n p : ℕ) → 0 < n
       → (of_verdict (judged (limits_of o C) file) ≡ numbered n p) ↔ FirstStrikes (checks o C file) n p
   -- and accepted exactly if none strikes
-  pub accepted_clear : (o : Terms) → InTerms o → (C : ℕ) (file : List ℕ) → (judged (limits_of o C) file ≡ Accepted) ↔ NoneStrikes (checks o C file)
+  pub accepted_clear : (o : Terms) → InTerms o → (C : ℕ) (file : List ℕ) → (judged (limits_of o C) file ≡ (Ok tt)) ↔ NoneStrikes (checks o C file)
   -- so a submission to a lent book returns 3 exactly where the book is not well formed, and else by the table
   pub submit_ill_formed : (w : List ℤ) (file : List ℕ) → (of_submit (submitted w file).answer ≡ numbered not_well_formed 0) ↔ (well_formed w ≡ false)
   pub submit_refused : (w : List ℤ) (file : List ℕ) → T (well_formed w) → (n p : ℕ) → 0 < n

@@ -1,5 +1,5 @@
 -- What is proved of the rule book, in one place. Assumes nothing.
-use Rattle.std.specs.Prelude.{◌≡◌, ◌≢◌, List, reverse, ℕ, ◌+◌, ◌*◌, ◌≤◌, ◌<◌, ◌-◌, T, ℤ, pos, nat_abs, ◌-ℤ◌, ◌*ℤ◌, length}
+use Rattle.std.specs.Prelude.{◌≡◌, ◌≢◌, List, reverse, ℕ, ◌+◌, ◌*◌, ◌≤◌, ◌<◌, ◌-◌, T, ℤ, pos, nat_abs, ◌-ℤ◌, ◌*ℤ◌, length, Ok}
 use Rattle.integer.specs.Below.{all, Each}
 use Rattle.integer.specs.Words.{word}
 use Rattle.integer.specs.Nearest.{IsNearest}
@@ -7,7 +7,6 @@ use Rattle.integer.proofs.laws.NearestLaws.{nearest-is}
 use Rattle.rulebook.specs.declared.Terms.{Terms}
 use Rattle.rulebook.specs.declared.Edition.{Edition}
 use Rattle.rulebook.specs.declared.Section.{Section}
-use Rattle.rulebook.specs.declared.Verdict.TheVariants.{Accepted}
 use Rattle.rulebook.specs.Units.{last_day, intervals, nearest}
 use Rattle.rulebook.specs.Shares.{share_of, share, second_share, ShareTotal, RuleShare, EveryKwh}
 use Rattle.rulebook.specs.Tranches.{TrancheSplit}
@@ -103,7 +102,7 @@ pub record Theorems : Type 0 where
   pub submit_keeps : (w : List ℤ) (file : List ℕ) → T (well_formed w) → T (well_formed (submitted w file).words)
   pub close_keeps : (w statement : List ℤ) → T (well_formed w) → T (well_formed (closed w statement).words)
   -- an accepted row replaces all it names: each word of each day of the window is the last row's, or as it was
-  pub submit_stores : (w : List ℤ) (file : List ℕ) → T (well_formed w) → judged (limits_of (terms_of w) (next_day w)) file ≡ Accepted
+  pub submit_stores : (w : List ℤ) (file : List ℕ) → T (well_formed w) → judged (limits_of (terms_of w) (next_day w)) file ≡ (Ok tt)
       → (s : Section) (a d i j : ℕ) → InWindow (terms_of w) (next_day w - (terms_of w).first) d → a < accounts_of s (terms_of w).accounts → i < intervals → j < width s
       → word (submitted w file).words (row_word (terms_of w) s a d i j) ≡ entry_or (last_for (file_rows file) s a d) (entries_of (terms_of w) w s a d) i j
   -- every word that an accepted file or close leaves, by its index: what is replaced, what grows, what is blanked, and that all else is as it was; the close's

@@ -41,7 +41,7 @@ pub record PricesIn (mep ieq : List ℤ) : Type 0 where
 
 unfoldable pub price_call : List ℤ → List ℤ → PriceReturned
 price_call mep ieq =
-    cond (price_input mep ieq) (price_accepted (reference_price (length mep) (word mep) (word ieq))) price_refused
+    cond (price_input mep ieq) (price_accepted (reference_price (length mep) (word mep) (word ieq))) (price_refused outside_range)
 
 -- ---- Shares: R, the accounts' UEGQ, the lent output
 
@@ -87,7 +87,7 @@ unfoldable pub tranche_call : ℤ → ℤ → ℤ → TrancheReturned
 tranche_call rvq bvq mq =
     cond (tranche_input rvq bvq mq)
     (tranche_accepted (pos (tranche1 (as_quantity rvq) (as_quantity bvq) (as_quantity mq))) (pos (tranche2 (as_quantity rvq) (as_quantity bvq) (as_quantity mq))))
-    tranche_refused
+    (tranche_refused outside_range)
 
 -- ---- Profiles (document 02, P1): 48 quantities, the day's total T, and D
 

@@ -1,15 +1,13 @@
 -- Document 01, "Close". Assumes nothing.
-use Rattle.std.specs.Prelude.{Bool, cond, List, ℕ, zero, suc, ◌+◌, ◌*◌, ℤ, pos, ◌+ℤ◌, ltb, length, set}
-use Rattle.integer.specs.declared.Found.{Found}
-use Rattle.integer.specs.declared.Found.TheVariants.{At, Nothing}
+use Rattle.std.specs.Prelude.{Bool, cond, List, ℕ, zero, suc, ◌+◌, ◌*◌, ℤ, pos, ◌+ℤ◌, ltb, length, set, Option, Some, None, Ok, Err}
 use Rattle.integer.specs.Below.{first, or_else}
 use Rattle.integer.specs.Words.{word}
+use Rattle.rulebook.specs.Answers.{CloseAnswer}
 use Rattle.rulebook.specs.declared.Section.{Section}
 use Rattle.rulebook.specs.declared.Section.TheVariants.{Vesting, Meter, Residual, Ncc}
 use Rattle.rulebook.specs.declared.Terms.{Terms}
 use Rattle.rulebook.specs.declared.CloseFigures.{CloseFigures}
-use Rattle.rulebook.specs.declared.CloseAnswer.{CloseAnswer}
-use Rattle.rulebook.specs.declared.CloseAnswer.TheVariants.{Closed, BookIllFormed, Finished, NoRoom, DatumMissing}
+use Rattle.rulebook.specs.declared.CloseError.TheVariants.{BookIllFormed, Finished, NoRoom, DatumMissing}
 use Rattle.rulebook.specs.Units.{last_day, intervals}
 use Rattle.rulebook.specs.DayAmount.{settles_residual, residual_day, posted_amount, mssl_amount}
 use Rattle.rulebook.specs.Layout.{stored, next_day_word, mssl_word, balance_word, slot_length, slot_start, flag_word}
@@ -19,20 +17,20 @@ use Rattle.rulebook.specs.WellFormed.{is_zero, well_formed}
 -- ---- The search
 
 -- an index, if its word is zero
-unfoldable pub absent_at : List ℤ → ℕ → Found
-absent_at w n = cond (is_zero (word w n)) (At n) Nothing
+unfoldable pub absent_at : List ℤ → ℕ → Option ℕ
+absent_at w n = cond (is_zero (word w n)) (Some n) None
 
 -- the order of a search, by what it finds at the row of a section and an account: vesting of an account, then meter
-abbrev pub account_searched : (Section → ℕ → Found) → ℕ → Found
+abbrev pub account_searched : (Section → ℕ → Option ℕ) → ℕ → Option ℕ
 account_searched x a = or_else (x Vesting a) (x Meter a)
 
 -- NCC, then residual by account
-abbrev pub residuals_searched : ℕ → (Section → ℕ → Found) → Found
+abbrev pub residuals_searched : ℕ → (Section → ℕ → Option ℕ) → Option ℕ
 residuals_searched n x = or_else (x Ncc 0) (first n (x Residual))
 
 -- n accounts ascending; then these, if residuals are due
-unfoldable pub searched : ℕ → Bool → (Section → ℕ → Found) → Found
-searched n due x = or_else (first n (account_searched x)) (cond due (residuals_searched n x) Nothing)
+unfoldable pub searched : ℕ → Bool → (Section → ℕ → Option ℕ) → Option ℕ
+searched n due x = or_else (first n (account_searched x)) (cond due (residuals_searched n x) None)
 
 -- the day of the row that a close of D needs of a section: D or r
 abbrev pub needed_day : Terms → ℕ → Section → ℕ
@@ -43,14 +41,14 @@ needed_day o D Ncc = residual_day o D
 
 module _ (o : Terms) (w : List ℤ) (D : ℕ) where
   -- the index of that row's flag at interval i, if the flag is zero
-  abbrev pub absent_flag : ℕ → Section → ℕ → Found
+  abbrev pub absent_flag : ℕ → Section → ℕ → Option ℕ
   absent_flag i s a = absent_at w (flag_word o s a (needed_day o D s) i)
 
   -- the search in interval i, and in all
-  unfoldable pub missing_at : ℕ → Found
+  unfoldable pub missing_at : ℕ → Option ℕ
   missing_at i = searched o.accounts (settles_residual o D) (absent_flag i)
 
-  unfoldable pub first_missing : Found
+  unfoldable pub first_missing : Option ℕ
   first_missing = first intervals missing_at
 
 -- ---- What an accepted close writes
@@ -102,18 +100,18 @@ abbrev pub close_refused : List ℤ → List ℤ → CloseAnswer → Closing
 close_refused w st answer = record { answer = answer; words = w; statement = st }
 
 -- by what the search found
-unfoldable pub settled : Terms → List ℤ → ℕ → List ℤ → Found → Closing
-settled o w D st (At n) = close_refused w st (DatumMissing n)
-settled o w D st Nothing = record { answer = Closed (close_figures o D); words = day_closed o w D; statement = statement_written o w D st }
+unfoldable pub settled : Terms → List ℤ → ℕ → List ℤ → Option ℕ → Closing
+settled o w D st (Some n) = close_refused w st (Err (DatumMissing n))
+settled o w D st None = record { answer = Ok (close_figures o D); words = day_closed o w D; statement = statement_written o w D st }
 
 -- by whether the book is well formed, whether no day is left, whether the statement is too short, and what the search found
-abbrev pub closed_by : Terms → List ℤ → ℕ → List ℤ → Bool → Bool → Bool → Found → Closing
+abbrev pub closed_by : Terms → List ℤ → ℕ → List ℤ → Bool → Bool → Bool → Option ℕ → Closing
 closed_by o w D st formed finished short found =
     cond formed
-    (cond finished (close_refused w st Finished)
-    (cond short (close_refused w st NoRoom)
+    (cond finished (close_refused w st (Err Finished))
+    (cond short (close_refused w st (Err NoRoom))
     (settled o w D st found)))
-    (close_refused w st BookIllFormed)
+    (close_refused w st (Err BookIllFormed))
 
 unfoldable pub closed : List ℤ → List ℤ → Closing
 closed w st =

@@ -1,13 +1,10 @@
 -- Demand 3's companion: on every run, each call's whole answer, and what it leaves of statement and book, told from the history. Assumes nothing.
-use Rattle.std.specs.Prelude.{◌≡◌, ◌≢◌, ◌↔◌, cond, List, ℕ, ◌+◌, ◌≤◌, ◌<◌, ℤ, neg_ℤ, ltb, length}
-use Rattle.std.proofs.Math.Option.{Option, none, some}
-use Rattle.integer.specs.declared.Found.{Found}
-use Rattle.integer.specs.declared.Found.TheVariants.{At, Nothing}
+use Rattle.std.specs.Prelude.{◌≡◌, ◌≢◌, ◌↔◌, cond, List, ℕ, ◌+◌, ◌≤◌, ◌<◌, ℤ, neg_ℤ, ltb, length, Option, Some, None}
 use Rattle.integer.specs.Below.{sum_ℤ}
 use Rattle.integer.specs.Words.{word}
+use Rattle.rulebook.specs.Answers.{OpenAnswer}
 use Rattle.rulebook.specs.declared.Section.{Section}
 use Rattle.rulebook.specs.declared.Terms.{Terms}
-use Rattle.rulebook.specs.declared.OpenAnswer.{OpenAnswer}
 use Rattle.rulebook.specs.Units.{last_day}
 use Rattle.rulebook.specs.DayAmount.{settles_residual}
 use Rattle.rulebook.specs.Terms.{InTerms}
@@ -28,21 +25,21 @@ submit_told o past file = of_verdict (judged (limits_of o (closing_day o past)) 
 -- ---- A close: 9 when no day is left, else 10 without room, else 11 when a needed row is missing, else 0 with day and count
 
 -- a row that is not in force lacks all its flags, the first of them in interval 0
-abbrev pub flag_lacking : Option Row → ℕ → Found
-flag_lacking none at = At at
-flag_lacking (some r) at = Nothing
+abbrev pub flag_lacking : Option Row → ℕ → Option ℕ
+flag_lacking None at = Some at
+flag_lacking (Some r) at = None
 
 module _ (o : Terms) (past : List Event) where
-  abbrev pub lacking : Section → ℕ → ℕ → Found
+  abbrev pub lacking : Section → ℕ → ℕ → Option ℕ
   lacking s a d = flag_lacking (in_force past s a d) (flag_word o s a d 0)
 
   -- in the order of the search
-  unfoldable pub first_lacking : Found
+  unfoldable pub first_lacking : Option ℕ
   first_lacking = searched o.accounts (settles_residual o (closing_day o past)) (λ s a. lacking s a (needed_day o (closing_day o past) s))
 
-  abbrev pub search_answered : Found → Answer
-  search_answered (At at) = numbered datum_absent at
-  search_answered Nothing = record { number = accepted; position = 0; day = closing_day o past; count = residual_count o (closing_day o past) }
+  abbrev pub search_answered : Option ℕ → Answer
+  search_answered (Some at) = numbered datum_absent at
+  search_answered None = record { number = accepted; position = 0; day = closing_day o past; count = residual_count o (closing_day o past) }
 
   unfoldable pub close_told : List ℤ → Answer
   close_told statement =

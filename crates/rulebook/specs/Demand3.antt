@@ -1,12 +1,11 @@
 -- Demand 3: one statement about every list of submissions and closes on a newly opened book. Assumes nothing.
-use Rattle.std.specs.Prelude.{◌≡◌, ◌↔◌, List, [], ◌∷◌, ℕ, ◌+◌, ◌-◌, ◌*◌, ◌≤◌, ◌<◌, ℤ, pos, ◌+ℤ◌, T, length}
-use Rattle.std.proofs.Math.Option.{none}
+use Rattle.std.specs.Prelude.{◌≡◌, ◌↔◌, List, [], ◌∷◌, ℕ, ◌+◌, ◌-◌, ◌*◌, ◌≤◌, ◌<◌, ℤ, pos, ◌+ℤ◌, T, length, None}
 use Rattle.integer.specs.Below.{sum_ℤ}
 use Rattle.integer.specs.Words.{word}
+use Rattle.rulebook.specs.Answers.{OpenAnswer}
 use Rattle.rulebook.specs.declared.Section.{Section}
 use Rattle.rulebook.specs.declared.Section.TheVariants.{Vesting, Meter, Residual, Ncc}
 use Rattle.rulebook.specs.declared.Terms.{Terms}
-use Rattle.rulebook.specs.declared.OpenAnswer.{OpenAnswer}
 use Rattle.rulebook.specs.Units.{last_day, intervals}
 use Rattle.rulebook.specs.DayAmount.{settles_residual, residual_day}
 use Rattle.rulebook.specs.Layout.{balance_word, mssl_word}
@@ -29,7 +28,7 @@ pub record Missing (o : Terms) (past : List Event) : Type 0 where
   pub account : ℕ
   pub day : ℕ
   pub needed : Needed o (closing_day o past) section account day
-  pub absent : in_force past section account day ≡ none
+  pub absent : in_force past section account day ≡ None
 
 -- a day was left to close, the statement had room, and a row that the close needed was not in force
 pub record MissingDatum (o : Terms) (past : List Event) (statement : List ℤ) : Type 0 where

@@ -1,7 +1,6 @@
 -- Demand 3's history: told from the opening's arguments and the calls' arguments and answers, never from the book's words.
 -- A history has its latest call first. Assumes nothing.
-use Rattle.std.specs.Prelude.{Bool, true, false, cond, ◌&&◌, List, [], ◌∷◌, ℕ, suc, ◌+◌, ℤ, pos, ◌+ℤ◌, eqb}
-use Rattle.std.proofs.Math.Option.{Option, none, some}
+use Rattle.std.specs.Prelude.{Bool, true, false, cond, ◌&&◌, List, [], ◌∷◌, ℕ, suc, ◌+◌, ℤ, pos, ◌+ℤ◌, eqb, Option, Some, None}
 use Rattle.rulebook.specs.declared.Section.{Section}
 use Rattle.rulebook.specs.declared.Section.TheVariants.{Meter}
 use Rattle.rulebook.specs.declared.Terms.{Terms}
@@ -56,8 +55,8 @@ residual_counts (e ∷ past) = cond (is_close e.call) (residual_counts past + e.
 
 -- the first that is there of two, the later before the earlier
 unfoldable pub latest : {A : Type 0} → Option A → Option A → Option A
-latest none y = y
-latest (some a) y = some a
+latest None y = y
+latest (Some a) y = Some a
 
 -- the row for a section, account and day, if there is one
 abbrev pub RowsInForce : Type 0
@@ -69,8 +68,8 @@ is_for s a d row = same_section row.section s && eqb row.account a && eqb row.da
 
 -- the last row of a list for its section, account and day
 unfoldable pub last_for : List Row → RowsInForce
-last_for [] s a d = none
-last_for (r ∷ rs) s a d = latest (last_for rs s a d) (cond (is_for s a d r) (some r) none)
+last_for [] s a d = None
+last_for (r ∷ rs) s a d = latest (last_for rs s a d) (cond (is_for s a d r) (Some r) None)
 
 -- the rows of a call: what its file's bytes say
 abbrev pub call_rows : Call → List Row
@@ -83,20 +82,20 @@ accepted_rows e = cond (was_accepted e) (call_rows e.call) []
 
 -- the row in force: the last accepted for its section, account and day
 unfoldable pub in_force : List Event → RowsInForce
-in_force [] s a d = none
+in_force [] s a d = None
 in_force (e ∷ past) s a d = latest (last_for (accepted_rows e) s a d) (in_force past s a d)
 
 -- ---- Data of rows, by name
 
 -- a row's figure at interval i; zero without a row
 abbrev pub figure_in : Option Row → ℕ → Figure → ℤ
-figure_in none i g = pos 0
-figure_in (some r) i g = figure_of r i g
+figure_in None i g = pos 0
+figure_in (Some r) i g = figure_of r i g
 
 -- its count
 abbrev pub count_in : Option Row → ℕ
-count_in none = 0
-count_in (some r) = r.count
+count_in None = 0
+count_in (Some r) = r.count
 
 -- that of the row in force for account a and day d
 abbrev pub figure_in_force : RowsInForce → ℕ → ℕ → ℕ → Figure → ℤ

@@ -1,34 +1,40 @@
 -- Document 01, "A submission file": how it is judged, its fields in file order, the first refusal standing. Assumes nothing.
-use Rattle.std.specs.Prelude.{Bool, true, false, not, ◌&&◌, List, ℕ, ◌+◌, ◌-◌, eqb, leb, length}
+use Rattle.std.specs.Prelude.{Bool, true, false, not, ◌&&◌, List, ℕ, ◌+◌, ◌-◌, eqb, leb, length, Ok, Err, Result}
 use Rattle.integer.specs.Below.{fold, any}
 use Rattle.rulebook.specs.declared.Section.{Section}
 use Rattle.rulebook.specs.declared.Section.TheVariants.{Vesting, Meter, Residual, Ncc}
 use Rattle.rulebook.specs.declared.Terms.{Terms}
 use Rattle.rulebook.specs.declared.Limits.{Limits}
+use Rattle.rulebook.specs.declared.Refusal.{Refusal}
 use Rattle.rulebook.specs.declared.Why.{Why}
 use Rattle.rulebook.specs.declared.Why.TheVariants.{NotWhole, OutOfRange, DayNotOpen, Repeated, Excess}
-use Rattle.rulebook.specs.declared.Verdict.{Verdict}
-use Rattle.rulebook.specs.declared.Verdict.TheVariants.{Accepted, Refused}
 use Rattle.rulebook.specs.Sections.{least_count, most_count, value_in_range}
 use Rattle.rulebook.specs.Layout.{window_from, window_to}
 use Rattle.rulebook.specs.File.{num, account_bytes, count_bytes, day_pos, count_pos, values_pos, account_at, day_at, values_in, value_at, row_pos, rows_in, meter_pos, residual_pos, ncc_pos, end_pos, rows_width, day_width, value_width, value_pos, first_row}
 
 -- ---- Checks in order
 
+-- accepted, or why it is refused and where
+abbrev pub Verdict : Type 0
+Verdict = Result (Unit {0}) Refusal
+
+abbrev pub refused : Why → ℕ → Verdict
+refused w at = Err (record { why = w; at = at })
+
 -- accepted where the test holds, else refused so
 abbrev pub require : Bool → Why → ℕ → Verdict
-require true w at = Accepted
-require false w at = Refused w at
+require true w at = Ok tt
+require false w at = refused w at
 
 -- one check after another: the first refusal stands
 infixr 5 ◌and_then◌
 abbrev pub ◌and_then◌ : Verdict → Verdict → Verdict
-Accepted and_then y = y
-(Refused w at) and_then y = Refused w at
+(Ok _) and_then y = y
+(Err r) and_then y = Err r
 
 -- checks 0 to n - 1
 abbrev pub up_to : ℕ → (ℕ → Verdict) → Verdict
-up_to n f = fold ◌and_then◌ Accepted n f
+up_to n f = fold ◌and_then◌ (Ok tt) n f
 
 -- ---- Limits
 

@@ -3,8 +3,7 @@
 -- and whose balances are the formula's. Demand 3 is that each call keeps the two together: `State` holds of a new book, and after each call of what it
 -- left. Every book that is well formed holds a ledger, a lent one too (`ledger_of`). The laws stand in `LedgerLaws` (a row stored), `CloseLaws` (a day
 -- closed), `FormLaws` and `FormedLaws` (well formed), `StateLaws` and `CloseStateLaws` (each call). Assumes nothing.
-use Rattle.std.specs.Prelude.{◌≡◌, ◌≢◌, cond, List, [], ◌∷◌, ℕ, suc, ◌+◌, ◌-◌, ◌*◌, ◌≤◌, ◌<◌, T, ℤ, pos, nat_abs, length, get_or}
-use Rattle.std.proofs.Math.Option.{Option, none, some}
+use Rattle.std.specs.Prelude.{◌≡◌, ◌≢◌, cond, List, [], ◌∷◌, ℕ, suc, ◌+◌, ◌-◌, ◌*◌, ◌≤◌, ◌<◌, T, ℤ, pos, nat_abs, length, get_or, Option, Some, None}
 use Rattle.integer.specs.Words.{word}
 use Rattle.rulebook.specs.declared.Section.{Section}
 use Rattle.rulebook.specs.declared.Section.TheVariants.{Vesting, Meter}
@@ -106,12 +105,12 @@ pub record RowRanged (row : Row) : Type 0 where
 
 -- k days are closed: each row in force is in range and of no day past the window, those of closed days are all there, and balances are bounded
 pub record Kept (o : Terms) (k : ℕ) (rows : RowsInForce) (balance : ℕ → ℤ) : Type 0 where
-  pub section : (s : Section) (a d : ℕ) (r : Row) → rows s a d ≡ some r → r.section ≡ s
-  pub ranged : (s : Section) (a d : ℕ) (r : Row) → rows s a d ≡ some r → RowRanged r
-  pub ahead : (s : Section) (a d : ℕ) (r : Row) → rows s a d ≡ some r → d < o.first + k + o.horizon
-  pub dated : (s : Section) (a d : ℕ) (r : Row) → rows s a d ≡ some r → d ≤ last_day
-  pub vestings : (a d : ℕ) → a < o.accounts → o.first ≤ d → d < o.first + k → rows Vesting a d ≢ none
-  pub meters : (a d : ℕ) → a < o.accounts → o.first ≤ d → d < o.first + k → rows Meter a d ≢ none
+  pub section : (s : Section) (a d : ℕ) (r : Row) → rows s a d ≡ Some r → r.section ≡ s
+  pub ranged : (s : Section) (a d : ℕ) (r : Row) → rows s a d ≡ Some r → RowRanged r
+  pub ahead : (s : Section) (a d : ℕ) (r : Row) → rows s a d ≡ Some r → d < o.first + k + o.horizon
+  pub dated : (s : Section) (a d : ℕ) (r : Row) → rows s a d ≡ Some r → d ≤ last_day
+  pub vestings : (a d : ℕ) → a < o.accounts → o.first ≤ d → d < o.first + k → rows Vesting a d ≢ None
+  pub meters : (a d : ℕ) → a < o.accounts → o.first ≤ d → d < o.first + k → rows Meter a d ≢ None
   pub bounded : (a : ℕ) → a < o.accounts → nat_abs (balance a) ≤ k * day_bound
   pub begun : o.first + k ≤ suc last_day
 

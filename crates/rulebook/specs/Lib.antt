@@ -13,6 +13,7 @@ pub mod WellFormed
 pub mod FormedBook
 pub mod RowPairs
 pub mod WindowWalk
+pub mod Answers
 pub mod Opening
 pub mod File
 pub mod Judging

@@ -1,27 +1,19 @@
 -- Document 01, "Numbers returned", and the numbers that document 02 adds: the table, and what each answer returns. Assumes nothing.
-use Rattle.std.specs.Prelude.{Bool, cond, List, ℕ, ℤ, pos}
+use Rattle.std.specs.Prelude.{Bool, cond, List, ℕ, ℤ, pos, Ok, Err, Result}
+use Rattle.rulebook.specs.Answers.{OpenAnswer, SubmitAnswer, CloseAnswer}
 use Rattle.rulebook.specs.declared.Why.{Why}
 use Rattle.rulebook.specs.declared.Why.TheVariants.{NotWhole, OutOfRange, DayNotOpen, Repeated, Excess}
-use Rattle.rulebook.specs.declared.Verdict.{Verdict}
-use Rattle.rulebook.specs.declared.Verdict.TheVariants.{Accepted, Refused}
-use Rattle.rulebook.specs.declared.OpenAnswer.{OpenAnswer}
-use Rattle.rulebook.specs.declared.OpenAnswer.TheVariants.{Opened, BadTerms, TooShort}
-use Rattle.rulebook.specs.declared.SubmitAnswer.{SubmitAnswer}
-use Rattle.rulebook.specs.declared.SubmitAnswer.TheVariants.{Taken, IllFormed, FileRefused}
-use Rattle.rulebook.specs.declared.CloseAnswer.{CloseAnswer}
-use Rattle.rulebook.specs.declared.CloseAnswer.TheVariants.{Closed, BookIllFormed, Finished, NoRoom, DatumMissing}
+use Rattle.rulebook.specs.Judging.{Verdict}
+use Rattle.rulebook.specs.declared.OpenError.TheVariants.{BadTerms, TooShort}
+use Rattle.rulebook.specs.declared.SubmitError.TheVariants.{IllFormed, FileRefused}
+use Rattle.rulebook.specs.declared.CloseError.TheVariants.{BookIllFormed, Finished, NoRoom, DatumMissing}
 pub use Rattle.rulebook.specs.declared.Answer.{Answer}
 use Rattle.rulebook.specs.declared.PriceReturned.{PriceReturned}
 use Rattle.rulebook.specs.declared.TrancheReturned.{TrancheReturned}
 use Rattle.rulebook.specs.declared.ProfileReturned.{ProfileReturned}
-use Rattle.rulebook.specs.declared.PriceAnswer.{PriceAnswer}
-use Rattle.rulebook.specs.declared.PriceAnswer.TheVariants.{Priced, PriceRefused}
-use Rattle.rulebook.specs.declared.ShareAnswer.{ShareAnswer}
-use Rattle.rulebook.specs.declared.ShareAnswer.TheVariants.{Shared, ShareRefused, OutputTooShort}
-use Rattle.rulebook.specs.declared.TrancheAnswer.{TrancheAnswer}
-use Rattle.rulebook.specs.declared.TrancheAnswer.TheVariants.{Split, TrancheRefused}
-use Rattle.rulebook.specs.declared.ProfileAnswer.{ProfileAnswer}
-use Rattle.rulebook.specs.declared.ProfileAnswer.TheVariants.{Judged, TotalImpossible, ProfileRefused}
+use Rattle.rulebook.specs.declared.RuleError.{RuleError}
+use Rattle.rulebook.specs.declared.RuleError.TheVariants.{OutsideRange, OutputTooShort, TotalImpossible}
+use Rattle.rulebook.specs.declared.Tranches.{Tranches}
 
 -- ---- The table
 
@@ -109,43 +101,47 @@ why_number Repeated = row_repeated
 why_number Excess = bytes_after_end
 
 abbrev pub of_open : OpenAnswer → Answer
-of_open Opened = numbered accepted 0
-of_open BadTerms = numbered outside_range 0
-of_open TooShort = numbered words_too_few 0
+of_open (Ok _) = numbered accepted 0
+of_open (Err BadTerms) = numbered outside_range 0
+of_open (Err TooShort) = numbered words_too_few 0
 
 -- a file's
 abbrev pub of_verdict : Verdict → Answer
-of_verdict Accepted = numbered accepted 0
-of_verdict (Refused why at) = numbered (why_number why) at
+of_verdict (Ok _) = numbered accepted 0
+of_verdict (Err r) = numbered (why_number r.why) r.at
 
 abbrev pub of_submit : SubmitAnswer → Answer
-of_submit Taken = of_verdict Accepted
-of_submit IllFormed = numbered not_well_formed 0
-of_submit (FileRefused why at) = of_verdict (Refused why at)
+of_submit (Ok _) = of_verdict (Ok tt)
+of_submit (Err IllFormed) = numbered not_well_formed 0
+of_submit (Err (FileRefused r)) = of_verdict (Err r)
 
 abbrev pub of_close : CloseAnswer → Answer
-of_close (Closed c) = record { number = accepted; position = 0; day = c.day; count = c.count }
-of_close BookIllFormed = numbered not_well_formed 0
-of_close Finished = numbered book_finished 0
-of_close NoRoom = numbered output_too_short 0
-of_close (DatumMissing at) = numbered datum_absent at
+of_close (Ok c) = record { number = accepted; position = 0; day = c.day; count = c.count }
+of_close (Err BookIllFormed) = numbered not_well_formed 0
+of_close (Err Finished) = numbered book_finished 0
+of_close (Err NoRoom) = numbered output_too_short 0
+of_close (Err (DatumMissing at)) = numbered datum_absent at
 
 -- ---- The calls on no book: number and figures; refused, every figure is 0
+
+abbrev pub rule_number : RuleError → ℕ
+rule_number OutsideRange = outside_range
+rule_number OutputTooShort = output_too_short
+rule_number TotalImpossible = total_impossible
 
 abbrev pub price_accepted : ℤ → PriceReturned
 price_accepted v = record { number = accepted; price = v }
 
-abbrev pub price_refused : PriceReturned
-price_refused = record { number = outside_range; price = pos 0 }
+abbrev pub price_refused : ℕ → PriceReturned
+price_refused number = record { number = number; price = pos 0 }
 
-abbrev pub price_returned : PriceAnswer → PriceReturned
-price_returned (Priced v) = price_accepted v
-price_returned PriceRefused = price_refused
+abbrev pub price_returned : Result ℤ RuleError → PriceReturned
+price_returned (Ok v) = price_accepted v
+price_returned (Err e) = price_refused (rule_number e)
 
-abbrev pub share_number : ShareAnswer → ℕ
-share_number Shared = accepted
-share_number ShareRefused = outside_range
-share_number OutputTooShort = output_too_short
+abbrev pub share_number : Result (Unit {0}) RuleError → ℕ
+share_number (Ok _) = accepted
+share_number (Err e) = rule_number e
 
 -- the number, and the output's words after
 pub record ShareReturned : Type 0 where
@@ -155,12 +151,12 @@ pub record ShareReturned : Type 0 where
 abbrev pub tranche_accepted : ℤ → ℤ → TrancheReturned
 tranche_accepted t u = record { number = accepted; first = t; second = u }
 
-abbrev pub tranche_refused : TrancheReturned
-tranche_refused = record { number = outside_range; first = pos 0; second = pos 0 }
+abbrev pub tranche_refused : ℕ → TrancheReturned
+tranche_refused number = record { number = number; first = pos 0; second = pos 0 }
 
-abbrev pub tranche_returned : TrancheAnswer → TrancheReturned
-tranche_returned (Split t u) = tranche_accepted t u
-tranche_returned TrancheRefused = tranche_refused
+abbrev pub tranche_returned : Result Tranches RuleError → TrancheReturned
+tranche_returned (Ok t) = tranche_accepted t.first t.second
+tranche_returned (Err e) = tranche_refused (rule_number e)
 
 -- 1 where the profile keeps the limits, 0 where it does not
 abbrev pub profile_accepted : Bool → ProfileReturned
@@ -169,7 +165,6 @@ profile_accepted keeps = record { number = accepted; keeps = cond keeps 1 0 }
 abbrev pub profile_refused : ℕ → ProfileReturned
 profile_refused number = record { number = number; keeps = 0 }
 
-abbrev pub profile_returned : ProfileAnswer → ProfileReturned
-profile_returned (Judged keeps) = profile_accepted keeps
-profile_returned TotalImpossible = profile_refused total_impossible
-profile_returned ProfileRefused = profile_refused outside_range
+abbrev pub profile_returned : Result Bool RuleError → ProfileReturned
+profile_returned (Ok keeps) = profile_accepted keeps
+profile_returned (Err e) = profile_refused (rule_number e)

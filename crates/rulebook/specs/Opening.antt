@@ -1,9 +1,9 @@
 -- Document 01, "The book": opening. Assumes nothing.
-use Rattle.std.specs.Prelude.{cond, not, List, [], ◌∷◌, ℤ, pos, ltb, length}
+use Rattle.std.specs.Prelude.{cond, not, List, [], ◌∷◌, ℤ, pos, ltb, length, Ok, Err}
 use Rattle.integer.specs.Words.{word}
+use Rattle.rulebook.specs.Answers.{OpenAnswer}
 use Rattle.rulebook.specs.declared.Terms.{Terms}
-use Rattle.rulebook.specs.declared.OpenAnswer.{OpenAnswer}
-use Rattle.rulebook.specs.declared.OpenAnswer.TheVariants.{Opened, BadTerms, TooShort}
+use Rattle.rulebook.specs.declared.OpenError.TheVariants.{BadTerms, TooShort}
 use Rattle.rulebook.specs.Terms.{terms_fit}
 use Rattle.rulebook.specs.Layout.{book_mark, size, stored}
 
@@ -22,6 +22,6 @@ pub record Opening : Type 0 where
 
 unfoldable pub opened : Terms → List ℤ → Opening
 opened o w =
-    cond (not (terms_fit o)) (record { answer = BadTerms; words = w })
-    (cond (ltb (length w) (size o)) (record { answer = TooShort; words = w })
-    (record { answer = Opened; words = new_book o w }))
+    cond (not (terms_fit o)) (record { answer = Err BadTerms; words = w })
+    (cond (ltb (length w) (size o)) (record { answer = Err TooShort; words = w })
+    (record { answer = Ok tt; words = new_book o w }))

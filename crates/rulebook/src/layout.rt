@@ -87,6 +87,7 @@ pub const RESIDUAL_WORDS: usize = 5;
 pub const NCC_WORDS: usize = 2;
 
 // The word of account a's balance: 64 + 8a. After n accounts the slots start.
+// Of a number, and not of AcceptedTerms: intervals and slots, which hold no terms, ask too.
 pub fn balance_word(a: usize) -> usize
     requires { a ≤ most_accounts }
     ensures { result ≡ balance_word a }

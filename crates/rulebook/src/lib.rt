@@ -5,9 +5,14 @@
 pub mod units; // units.rt: days, intervals, ranges
 pub mod layout; // layout.rt: where each word of a book stands, widths
 pub mod file; // file.rt: the number that a field spells
+pub mod accepted; // accepted.rt: the terms that an opening accepts
+pub mod numbers; // numbers.rt: the table of numbers, and what each call returns by it
+
+ghost use Rattle.std.specs.Prelude.{◌≡◌};
+ghost use Rattle.rulebook.specs.declared.SubmitError.TheVariants.{FileRefused};
 
 // What a value is, hence its range.
-#[derive(Clone, Copy)]
+#[derive(Clone, Copy, PartialEq, Eq, Debug)]
 pub enum Kind {
     Quantity,
     Injection,
@@ -17,7 +22,7 @@ pub enum Kind {
 
 // An opening's arguments: N accounts, lag L, horizon H, first day F, change day X. Programs in other languages pass it, hence C's layout.
 #[repr(C)]
-#[derive(Clone, Copy)]
+#[derive(Clone, Copy, PartialEq, Eq, Debug)]
 pub struct Terms {
     pub accounts: usize,
     pub lag: usize,
@@ -27,14 +32,14 @@ pub struct Terms {
 }
 
 // Document 02, P2: how an interval's residual load is shared. The first edition drops the odd kWh, the second shares every one.
-#[derive(Clone, Copy)]
+#[derive(Clone, Copy, PartialEq, Eq, Debug)]
 pub enum Edition {
     First,
     Second,
 }
 
 // The four sections of a submission file.
-#[derive(Clone, Copy)]
+#[derive(Clone, Copy, PartialEq, Eq, Debug)]
 pub enum Section {
     Vesting,
     Meter,
@@ -53,7 +58,7 @@ pub struct Limits {
 }
 
 // Why a file is refused: numbers 4 to 8.
-#[derive(Clone, Copy)]
+#[derive(Clone, Copy, PartialEq, Eq, Debug)]
 pub enum Why {
     NotWhole,
     OutOfRange,
@@ -62,43 +67,65 @@ pub enum Why {
     Excess,
 }
 
-// What the judge says of a file; a refusal with its position.
-#[derive(Clone, Copy)]
-pub enum Verdict {
-    Accepted,
-    Refused(Why, usize),
+// A refusal of a file, with its position.
+#[derive(Clone, Copy, PartialEq, Eq, Debug)]
+pub struct Refusal {
+    pub why: Why,
+    pub at: usize,
 }
 
-// What open, submit and close answer.
-#[derive(Clone, Copy)]
-pub enum OpenAnswer {
-    Opened,
+// Why an opening is refused.
+#[derive(Clone, Copy, PartialEq, Eq, Debug)]
+pub enum OpenError {
     BadTerms,
     TooShort,
 }
 
-#[derive(Clone, Copy)]
-pub enum SubmitAnswer {
-    Taken,
+// Why a submission is refused.
+#[derive(Clone, Copy, PartialEq, Eq, Debug)]
+pub enum SubmitError {
     IllFormed,
-    FileRefused(Why, usize),
+    FileRefused(Refusal),
+}
+
+impl From<Refusal> for SubmitError {
+    ghost from_gives = { λ r e. e ≡ FileRefused r };
+
+    fn from(refusal: Refusal) -> SubmitError {
+        SubmitError::FileRefused(refusal)
+    }
 }
 
 // The figures of an accepted close: its day and residual count.
-#[derive(Clone, Copy)]
+#[derive(Clone, Copy, PartialEq, Eq, Debug)]
 pub struct CloseFigures {
     pub day: usize,
     pub count: usize,
 }
 
-// A close's figures, or why it is refused; a missing datum with its flag's index.
-#[derive(Clone, Copy)]
-pub enum CloseAnswer {
-    Closed(CloseFigures),
+// Why a close is refused; a missing datum with its flag's index.
+#[derive(Clone, Copy, PartialEq, Eq, Debug)]
+pub enum CloseError {
     BookIllFormed,
     Finished,
     NoRoom,
     DatumMissing(usize),
+}
+
+// Why a call on no book is refused: a list's length or a value is outside its range, the words for the output are too few, or no 48 quantities
+// keep a profile's limits.
+#[derive(Clone, Copy, PartialEq, Eq, Debug)]
+pub enum RuleError {
+    OutsideRange,
+    OutputTooShort,
+    TotalImpossible,
+}
+
+// Both tranches of a share, in kWh.
+#[derive(Clone, Copy, PartialEq, Eq, Debug)]
+pub struct Tranches {
+    pub first: i64,
+    pub second: i64,
 }
 
 // What open, submit and close return: number, position of a refusal, an accepted close's day and residual count; every other figure is 0.
@@ -112,7 +139,7 @@ pub struct Answer {
     pub count: u64,
 }
 
-// What the reference price call returns: number, and V in cents per MWh; refused, 0.
+// What the reference price call returns: number, and V in cents per MWh; refused, 0. In C's layout, as Answer.
 #[repr(C)]
 #[derive(Clone, Copy)]
 pub struct PriceReturned {
@@ -120,7 +147,7 @@ pub struct PriceReturned {
     pub price: i64,
 }
 
-// What the tranche call returns: number, tranche 1 and tranche 2 in kWh; refused, 0.
+// What the tranche call returns: number, tranche 1 and tranche 2 in kWh; refused, 0. In C's layout, as Answer.
 #[repr(C)]
 #[derive(Clone, Copy)]
 pub struct TrancheReturned {
@@ -129,41 +156,10 @@ pub struct TrancheReturned {
     pub second: i64,
 }
 
-// What the profile call returns: number, and 1 where the profile keeps the limits; where it does not, or refused, 0.
+// What the profile call returns: number, and 1 where the profile keeps the limits; where it does not, or refused, 0. In C's layout, as Answer.
 #[repr(C)]
 #[derive(Clone, Copy)]
 pub struct ProfileReturned {
     pub number: u64,
     pub keeps: u64,
-}
-
-// What the reference price call answers: V, or a list's length or a value outside its range.
-#[derive(Clone, Copy)]
-pub enum PriceAnswer {
-    Priced(i64),
-    PriceRefused,
-}
-
-// What the share call answers.
-#[derive(Clone, Copy)]
-pub enum ShareAnswer {
-    Shared,
-    ShareRefused,
-    OutputTooShort,
-}
-
-// What the tranche call answers: tranche 1 and tranche 2, or a value outside its range.
-#[derive(Clone, Copy)]
-pub enum TrancheAnswer {
-    Split(i64, i64),
-    TrancheRefused,
-}
-
-// What the profile call answers: whether the profile keeps the limits, or that no 48 quantities could, or a list not of 48 or a value outside its
-// range.
-#[derive(Clone, Copy)]
-pub enum ProfileAnswer {
-    Judged(bool),
-    TotalImpossible,
-    ProfileRefused,
 }

@@ -1,3 +1,3 @@
 -- laws and proofs, in the order in which they lean on each other
-pub mod SpareToldLaws
+pub mod ToldLaws
 pub mod PeriodsToldLaws

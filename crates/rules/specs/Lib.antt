@@ -1,3 +1,3 @@
 pub mod PriceSums
-pub mod SpareTold
+pub mod LoadAndSpare
 pub mod PeriodsTold

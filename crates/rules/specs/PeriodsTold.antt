@@ -1,14 +1,11 @@
--- What a pass over a profile's periods tells, where a test of the profile passes. Assumes nothing.
-use Rattle.std.specs.Prelude.{Bool, cond, ◌&&◌, List, ℕ, ◌+◌, ◌*◌, min, max, leb, eqb, ℤ}
+-- What a pass over a profile's periods tells. Assumes nothing.
+use Rattle.std.specs.Prelude.{Bool, ◌&&◌, List, ℕ, ◌+◌, ◌*◌, min, max, leb, eqb, ℤ}
 use Rattle.integer.specs.Below.{fold, sum_ℕ}
 use Rattle.integer.specs.Words.{word}
 use Rattle.rulebook.specs.declared.Kind.TheVariants.{Quantity}
 use Rattle.rulebook.specs.Units.{in_range, most_quantity}
-use Rattle.rulebook.specs.Profile.{balancing_periods, period_kwh, least_kwh, most_kwh}
-use Rattle.rulebook.specs.Calls.{quantities_in}
+use Rattle.rulebook.specs.Profile.{least_kwh, most_kwh}
 use Rattle.rules.specs.declared.profile.Span.{Span}
-use Rattle.rules.specs.declared.profile.Periods.{Periods}
-use Rattle.rules.specs.declared.profile.Periods.TheVariants.{Told, OutOfRange}
 
 -- both words of period b are quantities
 abbrev pub period_in_range : List ℤ → ℕ → Bool
@@ -25,6 +22,3 @@ extended s kwh = record { lowest = min s.lowest kwh; highest = max s.highest kwh
 -- all within the limits of D, the total T
 abbrev pub span_keeps : ℕ → ℕ → Span → Bool
 span_keeps t d s = (leb (least_kwh d) s.lowest && leb s.highest (most_kwh d)) && eqb s.total t
-
-abbrev pub periods_where : Bool → List ℤ → Periods
-periods_where passed profile = cond passed (Told (span_of balancing_periods (period_kwh (quantities_in profile)))) OutOfRange

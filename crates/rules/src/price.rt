@@ -5,27 +5,33 @@ ghost use Rattle.rulebook.specs.Units.{most_price, most_quantity};
 ghost use Rattle.rulebook.specs.ReferencePrice.{most_facilities, weight, average};
 ghost use Rattle.rulebook.specs.Numbers.{price_returned};
 ghost use Rattle.rulebook.specs.Calls.{price_input, price_call, PricesIn};
-ghost use Rattle.rules.specs.PriceSums.{sums_of, added, SumsWithin};
+ghost use Rattle.rules.specs.PriceSums.{sums_of, no_facility, added};
 
 use crate::ranges::all_in_range;
-use integer::{add, natural, nearest_to, signed, word_at};
+use integer::{add, natural, nearest_to, signed};
 use rulebook::units::MOST_FACILITIES;
-use rulebook::{Kind, PriceAnswer};
+use rulebook::{Kind, RuleError};
+use std::marker::Model;
 
-// The sums of some facilities, of which V is the average: MEP times weight, weight, MEP, and their number.
+// The sums of some facilities, of which V is the average: MEP times weight, weight, MEP, and their number. MEP and IEQ are in their ranges.
 #[derive(Clone, Copy)]
 pub struct Sums {
-    pub weighted: i64,
-    pub weights: u64,
-    pub simple: i64,
-    pub facilities: u64,
+    weighted: i64,
+    weights: u64,
+    simple: i64,
+    facilities: u64,
 }
 
-// The weight of a facility: max(IEQ, 0).
-fn weight_of(ieq: i64) -> u64
-    ensures { result ≡ weight ieq }
-{
-    natural(ieq) as u64
+impl Model for Sums {
+    ghost use Rattle.rules.specs.PriceSums.{FacilitySums, SumsWithin};
+
+    ghost Value = { FacilitySums };
+
+    ghost view = { λ a. record { weighted = a.weighted; weights = a.weights; simple = a.simple; facilities = a.facilities } };
+
+    ghost invariant = { λ a. SumsWithin (record { weighted = a.weighted; weights = a.weights; simple = a.simple; facilities = a.facilities }) };
+
+    ghost inverse = { λ s. record { weighted = s.weighted; weights = s.weights; simple = s.simple; facilities = s.facilities } };
 }
 
 // Σ (MEP × weight) with one facility more.
@@ -36,30 +42,44 @@ fn weighted_more(weighted: i64, mep: i64, w: u64) -> i64
     weighted + mep * signed(w)
 }
 
-// The sums with one facility more.
-pub fn with_facility(sums: Sums, mep: i64, ieq: i64) -> Sums
-    requires { (SumsWithin sums) × (sums.facilities < most_facilities) × (nat_abs mep ≤ most_price) × (nat_abs ieq ≤ most_quantity) }
-    ensures { result ≡ added sums mep ieq }
-{
-    let w = weight_of(ieq);
-    Sums {
-        weighted: weighted_more(sums.weighted, mep, w),
-        weights: sums.weights + w,
-        simple: add(sums.simple, mep),
-        facilities: sums.facilities + 1,
+impl Sums {
+    // Before the first facility.
+    pub fn none() -> Sums
+        ensures { result ≡ no_facility }
+    {
+        Sums {
+            weighted: 0,
+            weights: 0,
+            simple: 0,
+            facilities: 0,
+        }
     }
-}
 
-// V of the sums: the weighted average, or where the weights sum to 0 the simple average.
-pub fn price_of(sums: Sums) -> i64
-    requires { (SumsWithin sums) × (0 < sums.facilities) × (sums.facilities ≤ most_facilities) }
-    ensures { result ≡ average sums.weighted sums.weights sums.simple sums.facilities }
-{
-    let weights = sums.weights;
-    if weights == 0 {
-        nearest_to(sums.simple, sums.facilities)
-    } else {
-        nearest_to(sums.weighted, weights)
+    // With one facility more, whose weight is max(IEQ, 0).
+    pub fn with_facility(self, mep: i64, ieq: i64) -> Sums
+        requires { (self.facilities < most_facilities) × (nat_abs mep ≤ most_price) × (nat_abs ieq ≤ most_quantity) }
+        ensures { result ≡ added self mep ieq }
+    {
+        // `as`: every usize fits u64, and there is no From between them.
+        let weight = natural(ieq) as u64;
+        Sums {
+            weighted: weighted_more(self.weighted, mep, weight),
+            weights: self.weights + weight,
+            simple: add(self.simple, mep),
+            facilities: self.facilities + 1,
+        }
+    }
+
+    // V: the weighted average, or where the weights sum to 0 the simple average.
+    pub fn price(self) -> i64
+        requires { (0 < self.facilities) × (self.facilities ≤ most_facilities) }
+        ensures { result ≡ average self.weighted self.weights self.simple self.facilities }
+    {
+        if self.weights == 0 {
+            nearest_to(self.simple, self.facilities)
+        } else {
+            nearest_to(self.weighted, self.weights)
+        }
     }
 }
 
@@ -68,14 +88,9 @@ fn sums_of(mep: &[i64], ieq: &[i64]) -> Sums
     requires { PricesIn mep.now ieq.now }
     ensures { result ≡ sums_of (length mep.now) (word mep.now) (word ieq.now) }
 {
-    let mut sums = Sums {
-        weighted: 0,
-        weights: 0,
-        simple: 0,
-        facilities: 0,
-    };
-    for f in 0..mep.len() {
-        sums = with_facility(sums, word_at(mep, f), word_at(ieq, f));
+    let mut sums = Sums::none();
+    for (m, i) in mep.iter().zip(ieq) {
+        sums = sums.with_facility(*m, *i);
     }
     sums
 }
@@ -85,18 +100,16 @@ fn price_input(mep: &[i64], ieq: &[i64]) -> bool
     ensures { result ≡ price_input mep.now ieq.now }
 {
     let n = mep.len();
-    (1 <= n)
-        & (n <= MOST_FACILITIES)
+    (1..=MOST_FACILITIES).contains(&n)
         & ((ieq.len() == n) & (all_in_range(Kind::Price, mep) & all_in_range(Kind::Injection, ieq)))
 }
 
-// The reference price call: the lists of MEP and IEQ.
-pub fn reference_price(mep: &[i64], ieq: &[i64]) -> PriceAnswer
+// The reference price call: two lists, of MEP and of IEQ, as the C interface lends them.
+pub fn reference_price(mep: &[i64], ieq: &[i64]) -> Result<i64, RuleError>
     ensures { price_returned result ≡ price_call mep.now ieq.now }
 {
-    if price_input(mep, ieq) {
-        PriceAnswer::Priced(price_of(sums_of(mep, ieq)))
-    } else {
-        PriceAnswer::PriceRefused
+    if !price_input(mep, ieq) {
+        return Err(RuleError::OutsideRange);
     }
+    Ok(sums_of(mep, ieq).price())
 }

@@ -1,50 +1,16 @@
 // Document 02, P1: profiles from the load forecasters (000, section 2).
-ghost use Rattle.std.specs.Prelude.{◌≡◌, true, ◌+◌, ◌*◌, ◌≤◌, ◌<◌, length};
+ghost use Rattle.std.specs.Prelude.{◌≡◌, cond, ◌*◌, ◌≤◌, length, Ok, Err};
 ghost use Rattle.rulebook.specs.declared.Kind.TheVariants.{Quantity};
+ghost use Rattle.rulebook.specs.declared.RuleError.TheVariants.{OutsideRange};
 ghost use Rattle.rulebook.specs.Units.{intervals, most_quantity};
-ghost use Rattle.rulebook.specs.Profile.{most_contracted, least_kwh, most_kwh, period_kwh, total_possible};
+ghost use Rattle.rulebook.specs.Profile.{most_contracted, least_kwh, most_kwh, balancing_periods, period_kwh, total_possible};
 ghost use Rattle.rulebook.specs.Numbers.{profile_returned};
-ghost use Rattle.rulebook.specs.Calls.{all_in_range, quantities_in, profile_terms, profile_told, profile_call};
-ghost use Rattle.rules.specs.PeriodsTold.{period_in_range, extended, span_keeps, periods_where};
+ghost use Rattle.rulebook.specs.Calls.{all_in_range, quantities_in, profile_terms, profile_call};
+ghost use Rattle.rules.specs.PeriodsTold.{span_of, extended, span_keeps};
 
-use crate::ranges::{in_range, is_between, quantity_at};
-use integer::{greatest, least, natural, word_at};
-use rulebook::{Kind, ProfileAnswer, units};
-
-// 80 per cent of D, rounded up: the least whole kWh of a Gas Balancing Period.
-fn least_kwh(contracted: usize) -> usize
-    requires { contracted ≤ most_contracted }
-    ensures { result ≡ least_kwh contracted }
-{
-    (4 * contracted + 4) / 5
-}
-
-// 125 per cent of D, rounded down: the most.
-fn most_kwh(contracted: usize) -> usize
-    requires { contracted ≤ most_contracted }
-    ensures { result ≡ most_kwh contracted }
-{
-    5 * contracted / 4
-}
-
-// Both intervals of period b have quantities.
-fn has_quantities(profile: &[i64], b: usize) -> bool
-    requires { 2 * b + 1 < length profile.now }
-    ensures { result ≡ period_in_range profile.now b }
-{
-    let first = 2 * b;
-    in_range(Kind::Quantity, word_at(profile, first))
-        & in_range(Kind::Quantity, word_at(profile, first + 1))
-}
-
-// The kWh of period b.
-fn period_kwh(profile: &[i64], b: usize) -> usize
-    requires { (2 * b + 1 < length profile.now) × (period_in_range profile.now b ≡ true) }
-    ensures { (result ≡ period_kwh (quantities_in profile.now) b) × (result ≤ 2 * most_quantity) }
-{
-    let first = 2 * b;
-    (quantity_at(profile, first) + quantity_at(profile, first + 1)) as usize
-}
+use crate::ranges::{is_between, quantity};
+use integer::natural;
+use rulebook::{RuleError, units};
 
 // The lowest and the highest kWh of some periods, and their total.
 #[derive(Clone, Copy)]
@@ -54,78 +20,75 @@ pub struct Span {
     pub total: usize,
 }
 
-// With one period more.
-fn with_period(span: Span, kwh: usize) -> Span
-    requires { (span.total ≤ intervals * most_quantity) × (kwh ≤ 2 * most_quantity) }
-    ensures { result ≡ extended span kwh }
-{
-    Span {
-        lowest: least(span.lowest, kwh),
-        highest: greatest(span.highest, kwh),
-        total: span.total + kwh,
+impl Span {
+    // With one period more.
+    fn with_period(self, kwh: usize) -> Span
+        requires { (self.total ≤ intervals * most_quantity) × (kwh ≤ 2 * most_quantity) }
+        ensures { result ≡ extended self kwh }
+    {
+        Span {
+            lowest: self.lowest.min(kwh),
+            highest: self.highest.max(kwh),
+            total: self.total + kwh,
+        }
     }
 }
 
-// What a pass over the periods tells; or that an interval has no quantity.
-#[derive(Clone, Copy)]
-pub enum Periods {
-    Told(Span),
-    OutOfRange,
-}
-
-// Left at the first period that lacks a quantity. No period has more kWh than two quantities.
-fn read_periods(profile: &[i64]) -> Periods
+// That of a profile of 48 quantities, two a period; left at the first word that is no quantity. No period has more kWh than two quantities.
+// `as`: there is no From of an i64, nor of a u64, for usize.
+fn span_of(profile: &[i64]) -> Result<Span, RuleError>
     requires { length profile.now ≡ intervals }
-    ensures { result ≡ periods_where (all_in_range Quantity profile.now) profile.now }
+    ensures { result ≡ cond (all_in_range Quantity profile.now) (Ok (span_of balancing_periods (period_kwh (quantities_in profile.now)))) (Err OutsideRange) }
 {
     let mut span = Span {
         lowest: 2 * units::MOST_QUANTITY as usize,
         highest: 0,
         total: 0,
     };
-    for b in 0..units::BALANCING_PERIODS {
-        if !has_quantities(profile, b) {
-            return Periods::OutOfRange;
-        }
-        span = with_period(span, period_kwh(profile, b));
+    for [first, second] in profile.as_chunks::<2>().0 {
+        let kwh = quantity(*first)? + quantity(*second)?;
+        span = span.with_period(kwh as usize);
     }
-    Periods::Told(span)
+    Ok(span)
 }
 
-// All periods are within the limits of D, and their total is T.
-fn keeps_limits(span: Span, total: usize, contracted: usize) -> bool
-    requires { contracted ≤ most_contracted }
-    ensures { result ≡ span_keeps total contracted span }
-{
-    (least_kwh(contracted) <= span.lowest)
-        & (span.highest <= most_kwh(contracted))
-        & (span.total == total)
+// D, the contracted quantity of a Gas Balancing Period, and its limits.
+#[derive(Clone, Copy)]
+pub struct Contracted {
+    pub kwh: usize,
+    ghost few: { kwh ≤ most_contracted },
 }
 
-// Some 48 quantities keep the limits of D and total T.
-fn is_possible(total: usize, contracted: usize) -> bool
-    requires { contracted ≤ most_contracted }
-    ensures { result ≡ total_possible total contracted }
-{
-    (units::BALANCING_PERIODS * least_kwh(contracted) <= total)
-        & (total <= units::BALANCING_PERIODS * most_kwh(contracted))
-}
+impl Contracted {
+    // 80 per cent of D, rounded up: the least whole kWh of a period.
+    fn least_kwh(self) -> usize
+        ensures { result ≡ least_kwh self.kwh }
+    {
+        (4 * self.kwh).div_ceil(5)
+    }
 
-// A profile of 48 intervals, where T and D are in range. Whether T is possible is asked before the pass, so that its answer need not wait for it.
-fn check_periods(profile: &[i64], total: usize, contracted: usize) -> ProfileAnswer
-    requires { (length profile.now ≡ intervals) × (contracted ≤ most_contracted) }
-    ensures { profile_returned result ≡ profile_told (all_in_range Quantity profile.now) profile.now total contracted }
-{
-    let possible = is_possible(total, contracted);
-    match read_periods(profile) {
-        Periods::Told(span) => {
-            if possible {
-                ProfileAnswer::Judged(keeps_limits(span, total, contracted))
-            } else {
-                ProfileAnswer::TotalImpossible
-            }
-        }
-        Periods::OutOfRange => ProfileAnswer::ProfileRefused,
+    // 125 per cent of D, rounded down: the most.
+    fn most_kwh(self) -> usize
+        ensures { result ≡ most_kwh self.kwh }
+    {
+        5 * self.kwh / 4
+    }
+
+    // All periods are within the limits, and their total is T.
+    fn keeps(self, span: Span, total: usize) -> bool
+        ensures { result ≡ span_keeps total self.kwh span }
+    {
+        (self.least_kwh() <= span.lowest)
+            & (span.highest <= self.most_kwh())
+            & (span.total == total)
+    }
+
+    // Some 48 quantities keep the limits and total T.
+    fn allows(self, total: usize) -> bool
+        ensures { result ≡ total_possible total self.kwh }
+    {
+        (units::BALANCING_PERIODS * self.least_kwh() <= total)
+            & (total <= units::BALANCING_PERIODS * self.most_kwh())
     }
 }
 
@@ -138,12 +101,22 @@ fn profile_terms(count: usize, total: i64, contracted: i64) -> bool
             & is_between(0, units::MOST_CONTRACTED, contracted))
 }
 
-// The profile call: the 48 quantities, the day's total T, and D.
-pub fn check_profile(profile: &[i64], total: i64, contracted: i64) -> ProfileAnswer
+// The profile call: the 48 quantities, the day's total T, and D. Whether T is possible is asked before the pass, so that its answer need not wait for it.
+// The arguments are those of the C interface.
+pub fn check_profile(profile: &[i64], total: i64, contracted: i64) -> Result<bool, RuleError>
     ensures { profile_returned result ≡ profile_call profile.now total contracted }
 {
     if !profile_terms(profile.len(), total, contracted) {
-        return ProfileAnswer::ProfileRefused;
+        return Err(RuleError::OutsideRange);
     }
-    check_periods(profile, natural(total), natural(contracted))
+    let total = natural(total);
+    let contracted = Contracted {
+        kwh: natural(contracted),
+    };
+    let possible = contracted.allows(total);
+    let span = span_of(profile)?;
+    if !possible {
+        return Err(RuleError::TotalImpossible);
+    }
+    Ok(contracted.keeps(span, total))
 }

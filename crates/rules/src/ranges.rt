@@ -1,17 +1,17 @@
 // Document 01, "Units and ranges": is a value in the range of its kind?
-ghost use Rattle.std.specs.Prelude.{◌≡◌, true, ◌≤◌, ◌<◌, length};
-ghost use Rattle.integer.specs.Words.{word};
+ghost use Rattle.std.specs.Prelude.{◌≡◌, true, cond, ◌≤◌, Ok, Err};
 ghost use Rattle.rulebook.specs.declared.Kind.TheVariants.{Quantity};
+ghost use Rattle.rulebook.specs.declared.RuleError.TheVariants.{OutsideRange};
 ghost use Rattle.rulebook.specs.Units.{between, in_range, as_quantity, most_quantity};
 ghost use Rattle.rulebook.specs.Calls.{all_in_range};
 
-use integer::word_at;
-use rulebook::{Kind, units};
+use rulebook::{Kind, RuleError, units};
 
+// `(low..=high).contains(&z)` at each call would be no plainer.
 pub fn is_between(low: i64, high: i64, z: i64) -> bool
     ensures { result ≡ between low high z }
 {
-    if low <= z { z <= high } else { false }
+    low <= z && z <= high
 }
 
 pub fn in_range(kind: Kind, z: i64) -> bool
@@ -29,26 +29,25 @@ pub fn in_range(kind: Kind, z: i64) -> bool
 pub fn all_in_range(kind: Kind, xs: &[i64]) -> bool
     ensures { result ≡ all_in_range kind xs.now }
 {
-    for i in 0..xs.len() {
-        if !in_range(kind, word_at(xs, i)) {
-            return false;
-        }
-    }
-    true
+    xs.iter().all(|x| in_range(kind, *x))
 }
 
 // A word that is in the range of a quantity, as an unsigned number.
+// `unsigned_abs`, named once with the range of its word and its bound.
 pub fn as_quantity(z: i64) -> u64
     requires { in_range Quantity z ≡ true }
     ensures { (result ≡ as_quantity z) × (result ≤ most_quantity) }
 {
-    z as u64
+    z.unsigned_abs()
 }
 
-// The quantity at a word.
-pub fn quantity_at(xs: &[i64], i: usize) -> u64
-    requires { (i < length xs.now) × (in_range Quantity (word xs.now i) ≡ true) }
-    ensures { (result ≡ as_quantity (word xs.now i)) × (result ≤ most_quantity) }
+// A word as an unsigned number, if it is in the range of a quantity.
+pub fn quantity(z: i64) -> Result<u64, RuleError>
+    ensures { result ≡ cond (in_range Quantity z) (Ok (as_quantity z)) (Err OutsideRange) }
 {
-    as_quantity(word_at(xs, i))
+    if in_range(Kind::Quantity, z) {
+        Ok(as_quantity(z))
+    } else {
+        Err(RuleError::OutsideRange)
+    }
 }

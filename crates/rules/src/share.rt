@@ -1,143 +1,119 @@
 // Document 01, "Shares and tranches": shares (003, 2.5.8.1); document 02, P2: their second edition.
-ghost use Rattle.std.specs.Prelude.{◌≡◌, true, ◌+◌, ◌≤◌, ◌<◌, nat_abs, length};
-ghost use Rattle.integer.specs.Words.{filled};
+ghost use Rattle.std.specs.Prelude.{◌≡◌, cond, ◌+◌, ◌≤◌, nat_abs, length, Ok, Err};
 ghost use Rattle.rulebook.specs.declared.Kind.TheVariants.{Quantity};
-ghost use Rattle.rulebook.specs.declared.Edition.TheVariants.{First, Second};
-ghost use Rattle.rulebook.specs.Shares.{most_accounts, least_residual, most_spare, share_of, second_share_of, share_by};
+ghost use Rattle.rulebook.specs.declared.RuleError.TheVariants.{OutsideRange};
+ghost use Rattle.rulebook.specs.Shares.{most_accounts, least_residual, most_spare, share_of, share_by};
 ghost use Rattle.rulebook.specs.Numbers.{share_number, ShareReturned};
-ghost use Rattle.rulebook.specs.Calls.{all_in_range, share_input, spare_in, share_word, share_call};
-ghost use Rattle.rules.specs.SpareTold.{spare_where};
+ghost use Rattle.rulebook.specs.Calls.{all_in_range, share_input, spare_in, share_call};
 
-use crate::ranges::{in_range, is_between, quantity_at};
-use integer::{put_word, signed, word_at};
-use rulebook::{Edition, Kind, ShareAnswer, units};
+use crate::ranges::{as_quantity, is_between, quantity};
+use integer::signed;
+use rulebook::{Edition, RuleError, units};
+use std::marker::Model;
 
-// The share of an account with UEGQ u, or of accounts with UEGQ u together, of the residual load r, where all UEGQ total s.
-pub fn share_of(r: i64, s: u64, u: u64) -> u64
-    requires { (nat_abs r ≤ least_residual) × (u ≤ most_spare) }
-    ensures { result ≡ share_of r s u }
-{
-    if r <= 0 {
-        return 0;
-    }
-    if s == 0 {
-        return 0;
-    }
-    let load = r as u64;
-    if s <= load { u } else { load * u / s }
-}
-
-// By the second edition, where the accounts before it have `before`: what they get together with it, less what they get without it.
-fn second_share_of(r: i64, s: u64, before: u64, u: u64) -> u64
-    requires { (nat_abs r ≤ least_residual) × (before + u ≤ most_spare) }
-    ensures { result ≡ second_share_of r s before u }
-{
-    share_of(r, s, before + u) - share_of(r, s, before)
-}
-
-// The share of an account with UEGQ u by edition, where the accounts before it have `before`.
-pub fn share_by(edition: Edition, r: i64, s: u64, before: u64, u: u64) -> u64
-    requires { (nat_abs r ≤ least_residual) × (before + u ≤ most_spare) }
-    ensures { result ≡ share_by edition r s before u }
-{
-    match edition {
-        Edition::First => share_of(r, s, u),
-        Edition::Second => second_share_of(r, s, before, u),
-    }
-}
-
-// S of a list of UEGQ, or that one is no quantity.
+// The residual load R of an interval, within what a share takes, and the spare generation S, the sum of all UEGQ.
 #[derive(Clone, Copy)]
-pub enum Spare {
-    Total(u64),
-    OutOfRange,
+pub struct Residual {
+    load: i64,
+    spare: u64,
+}
+
+impl Model for Residual {
+    ghost use Rattle.std.specs.Prelude.{◌≤◌, nat_abs};
+    ghost use Rattle.rulebook.specs.Shares.{least_residual};
+    ghost use Rattle.rules.specs.LoadAndSpare.{LoadAndSpare};
+
+    ghost Value = { LoadAndSpare };
+
+    ghost view = { λ a. record { load = a.load; spare = a.spare } };
+
+    ghost invariant = { λ a. nat_abs a.load ≤ least_residual };
+
+    ghost inverse = { λ r. record { load = r.load; spare = r.spare } };
+}
+
+impl Residual {
+    pub fn new(load: i64, spare: u64) -> Residual
+        requires { nat_abs load ≤ least_residual }
+        ensures { result ≡ record { load = load; spare = spare } }
+    {
+        Residual { load, spare }
+    }
+
+    // The share of an account with UEGQ u, or of accounts with UEGQ u together.
+    pub fn share(self, u: u64) -> u64
+        requires { u ≤ most_spare }
+        ensures { result ≡ share_of self.load self.spare u }
+    {
+        if self.load <= 0 || self.spare == 0 {
+            return 0;
+        }
+        let load = self.load.unsigned_abs();
+        if self.spare <= load {
+            u
+        } else {
+            load * u / self.spare
+        }
+    }
+
+    // The share by edition, where the accounts before it have `before`. By the second: what they get together with it, less what they get without it.
+    pub fn share_by(self, edition: Edition, before: u64, u: u64) -> u64
+        requires { before + u ≤ most_spare }
+        ensures { result ≡ share_by edition self.load self.spare before u }
+    {
+        match edition {
+            Edition::First => self.share(u),
+            Edition::Second => self.share(before + u) - self.share(before),
+        }
+    }
 }
 
 // S: the sum of all UEGQ, each judged as it is added; left at the first that is no quantity.
-fn spare_generation(uegq: &[i64]) -> Spare
+fn spare_generation(uegq: &[i64]) -> Result<u64, RuleError>
     requires { length uegq.now ≤ most_accounts }
-    ensures { result ≡ spare_where (all_in_range Quantity uegq.now) uegq.now }
+    ensures { result ≡ cond (all_in_range Quantity uegq.now) (Ok (spare_in uegq.now)) (Err OutsideRange) }
 {
-    let mut total: u64 = 0;
-    for b in 0..uegq.len() {
-        if !in_range(Kind::Quantity, word_at(uegq, b)) {
-            return Spare::OutOfRange;
-        }
-        total += quantity_at(uegq, b);
+    let mut total = 0;
+    for u in uegq {
+        total += quantity(*u)?;
     }
-    Spare::Total(total)
+    Ok(total)
 }
 
-// The word that account a's share of the first edition is written as, where s is S.
-fn first_share_at(r: i64, s: u64, uegq: &[i64], a: usize) -> i64
-    requires { (nat_abs r ≤ least_residual) × (a < length uegq.now) × (all_in_range Quantity uegq.now ≡ true) × (s ≡ spare_in uegq.now) }
-    ensures { result ≡ share_word First r uegq.now a }
-{
-    signed(share_of(r, s, quantity_at(uegq, a)))
-}
-
-// Writes one share an account by the first edition, where s is S, and keeps the words beyond.
-fn put_first_shares(r: i64, s: u64, uegq: &[i64], output: &mut [i64])
-    requires { (nat_abs r ≤ least_residual) × (s ≡ spare_in uegq.now) × (all_in_range Quantity uegq.now ≡ true) × (length uegq.now ≤ length output.old) }
-    ensures { output.new ≡ filled (length uegq.now) (share_word First r uegq.now) output.old }
-{
-    for a in 0..uegq.len() {
-        put_word(output, a, first_share_at(r, s, uegq, a));
-    }
-}
-
-// The same by the second edition: each account gets what is shared up to it, less what was given before it.
-fn put_second_shares(r: i64, s: u64, uegq: &[i64], output: &mut [i64])
-    requires { (nat_abs r ≤ least_residual) × (s ≡ spare_in uegq.now) × (all_in_range Quantity uegq.now ≡ true) × (length uegq.now ≤ most_accounts) × (length uegq.now ≤ length output.old) }
-    ensures { output.new ≡ filled (length uegq.now) (share_word Second r uegq.now) output.old }
-{
-    let mut sum: u64 = 0;
-    let mut given: u64 = 0;
-    for a in 0..uegq.len() {
-        sum += quantity_at(uegq, a);
-        let shared = share_of(r, s, sum);
-        put_word(output, a, signed(shared - given));
-        given = shared;
-    }
-}
-
-// Writes one share an account by edition, where s is S, and keeps the words beyond.
-fn put_shares(edition: Edition, r: i64, s: u64, uegq: &[i64], output: &mut [i64])
-    requires { (nat_abs r ≤ least_residual) × (s ≡ spare_in uegq.now) × (all_in_range Quantity uegq.now ≡ true) × (length uegq.now ≤ most_accounts) × (length uegq.now ≤ length output.old) }
-    ensures { output.new ≡ filled (length uegq.now) (share_word edition r uegq.now) output.old }
-{
-    match edition {
-        Edition::First => put_first_shares(r, s, uegq, output),
-        Edition::Second => put_second_shares(r, s, uegq, output),
-    }
-}
-
-// S, where R and each UEGQ are in range, and there are 1 to 32 accounts.
-fn share_input(r: i64, uegq: &[i64]) -> Spare
-    ensures { result ≡ spare_where (share_input r uegq.now) uegq.now }
+// R and S, where R and each UEGQ are in range, and there are 1 to 32 accounts.
+fn residual_of(r: i64, uegq: &[i64]) -> Result<Residual, RuleError>
+    ensures { result ≡ cond (share_input r uegq.now) (Ok (record { load = r; spare = spare_in uegq.now })) (Err OutsideRange) }
 {
     let n = uegq.len();
-    if is_between(units::LEAST_RESIDUAL, units::MOST_RESIDUAL, r)
-        & ((1 <= n) & (n <= units::MOST_ACCOUNTS))
+    if !(is_between(units::LEAST_RESIDUAL, units::MOST_RESIDUAL, r)
+        & ((1 <= n) & (n <= units::MOST_ACCOUNTS)))
     {
-        spare_generation(uegq)
-    } else {
-        Spare::OutOfRange
+        return Err(RuleError::OutsideRange);
     }
+    Ok(Residual::new(r, spare_generation(uegq)?))
 }
 
-// The share call of an edition: R, each account's UEGQ, and the output, of which one word an account is written.
-pub fn shares(edition: Edition, r: i64, uegq: &[i64], output: &mut [i64]) -> ShareAnswer
+// The share call of an edition: R, each account's UEGQ, and the output, of which one word an account is written. By the second edition each
+// gets what is shared up to it, less what was given before it: one division an account, where `share_by` would take two. R and the lists are those of the C interface.
+pub fn shares(edition: Edition, r: i64, uegq: &[i64], output: &mut [i64]) -> Result<(), RuleError>
     ensures { record { number = share_number result; output = output.new } ≡ share_call edition r uegq.now output.old }
 {
-    match share_input(r, uegq) {
-        Spare::Total(s) => {
-            if output.len() < uegq.len() {
-                return ShareAnswer::OutputTooShort;
-            }
-            put_shares(edition, r, s, uegq, output);
-            ShareAnswer::Shared
-        }
-        Spare::OutOfRange => ShareAnswer::ShareRefused,
+    let residual = residual_of(r, uegq)?;
+    if output.len() < uegq.len() {
+        return Err(RuleError::OutputTooShort);
     }
+    let mut sum = 0;
+    let mut given = 0;
+    // By index: of words written through `iter_mut().zip(..)` no proof knows what they became.
+    for (a, u) in uegq.iter().enumerate() {
+        let u = as_quantity(*u);
+        sum += u;
+        let share = match edition {
+            Edition::First => residual.share(u),
+            Edition::Second => residual.share(sum) - given,
+        };
+        given += share;
+        output[a] = signed(share);
+    }
+    Ok(())
 }

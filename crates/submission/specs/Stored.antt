@@ -14,7 +14,7 @@ use Rattle.submission.specs.declared.store.Form.{Form}
 -- ---- Words
 
 abbrev pub form_of : Section → ℕ → Form
-form_of sec count = record { words = width sec; place = flag_index sec; flag = present sec count; values = per_interval sec count }
+form_of sec count = record { words = width sec; place = flag_index sec; flag = pos (present sec count); values = per_interval sec count }
 
 -- number k of n that start at `from`; zero where there is no such number
 unfoldable pub number_from : ℕ → List ℕ → ℕ → ℕ → ℤ
@@ -26,7 +26,7 @@ value_number place j = cond (ltb j place) j (j - 1)
 
 -- word j of an interval whose numbers start at `from`
 unfoldable pub word_from : Form → List ℕ → ℕ → ℕ → ℤ
-word_from form s from j = cond (eqb j form.place) (pos form.flag) (number_from form.values s from (value_number form.place j))
+word_from form s from j = cond (eqb j form.place) form.flag (number_from form.values s from (value_number form.place j))
 
 -- the words of interval i of a row whose numbers start at `from`
 unfoldable pub row_from : Form → List ℕ → ℕ → ℕ → ℕ → ℤ

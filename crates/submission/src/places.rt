@@ -6,7 +6,8 @@ ghost use Rattle.rulebook.specs.Layout.{place};
 
 use rulebook::{Section, layout};
 
-// The place in an interval of the first word of a row: an NCC row's words are the interval's own.
+// The place in an interval of the first word of a row.
+// A table by section that takes an argument, as a match: an NCC row's words are the interval's own.
 pub fn place_of(sec: Section, account: usize) -> usize
     requires { account ≤ most_accounts }
     ensures { (result ≡ place sec account 0) × (result ≤ place Residual most_accounts 0) }

@@ -1,184 +1,166 @@
 // Document 01, "A submission file": an accepted row replaces all it names, in the 48 intervals of its day.
-ghost use Rattle.std.specs.Prelude.{◌≡◌, ◌+◌, ◌-◌, ◌*◌, ◌≤◌, ◌^◌, ◌<◌, length};
+ghost use Rattle.std.specs.Prelude.{◌≡◌, ◌+◌, ◌-◌, ◌*◌, ◌≤◌, length};
 ghost use Rattle.integer.specs.Below.{tabulate};
 ghost use Rattle.integer.specs.Words.{grid};
 ghost use Rattle.rulebook.specs.Units.{intervals};
 ghost use Rattle.rulebook.specs.ReferencePrice.{most_facilities};
-ghost use Rattle.rulebook.specs.Terms.{InTerms};
+ghost use Rattle.rulebook.specs.Sections.{most_count};
 ghost use Rattle.rulebook.specs.Layout.{size};
 ghost use Rattle.rulebook.specs.File.{row_end, row_at, section_end, section_rows, file_rows};
 ghost use Rattle.rulebook.specs.Submit.{row_stored, rows_stored};
-ghost use Rattle.submission.specs.Stored.{form_of, number_from, word_from, row_from, RowFits, SectionFits, FileFits};
+ghost use Rattle.submission.specs.Stored.{RowFits, SectionFits, FileFits, form_of, word_from, row_from};
 
 use crate::places::place_of;
-use book::places::{interval_size, slot_start};
+use book::places::slot_start;
 use files::fields::value_at;
-use files::positions::{
-    VALUE_BYTES, account_at, count_at, day_at, first_row, row_end, rows_in, values_pos,
-};
+use files::positions::{Row, VALUE_BYTES, first_row, rows_in};
 use files::sections::per_interval;
-use integer::{put_word, signed};
+use rulebook::accepted::AcceptedTerms;
 use rulebook::units::INTERVALS;
-use rulebook::{Section, Terms, layout};
+use rulebook::{Section, layout};
 
 // A row's words at an interval: how many they are, which of them is the flag, what the flag is, and how many values the row has.
 #[derive(Clone, Copy)]
 pub struct Form {
     pub words: usize,
     pub place: usize,
-    pub flag: usize,
+    pub flag: i64,
     pub values: usize,
 }
 
-// The form of a section's rows, of a tranche or facility count.
-fn form_of(sec: Section, count: usize) -> Form
-    requires { count ≤ most_facilities }
-    ensures { result ≡ form_of sec count }
-{
-    let values = per_interval(sec, count);
-    match sec {
-        Section::Vesting => Form {
-            words: layout::VESTING_WORDS,
-            place: 0,
-            flag: 1 + count,
-            values,
-        },
-        Section::Meter => Form {
-            words: layout::METER_WORDS,
-            place: 0,
-            flag: count,
-            values,
-        },
-        Section::Residual => Form {
-            words: layout::RESIDUAL_WORDS,
-            place: 0,
-            flag: 1,
-            values,
-        },
-        Section::Ncc => Form {
-            words: layout::NCC_WORDS,
-            place: layout::NCC_FLAG,
-            flag: 1,
-            values,
-        },
+impl Form {
+    // That of a section's rows, of a tranche or facility count.
+    fn of(section: Section, count: usize) -> Form
+        requires { count ≤ most_facilities }
+        ensures { result ≡ form_of section count }
+    {
+        let values = per_interval(section, count);
+        // No From makes an i64 of a usize; that the casts keep the number is proved.
+        match section {
+            Section::Vesting => Form {
+                words: layout::VESTING_WORDS,
+                place: 0,
+                flag: 1 + count as i64,
+                values,
+            },
+            Section::Meter => Form {
+                words: layout::METER_WORDS,
+                place: 0,
+                flag: count as i64,
+                values,
+            },
+            Section::Residual => Form {
+                words: layout::RESIDUAL_WORDS,
+                place: 0,
+                flag: 1,
+                values,
+            },
+            Section::Ncc => Form {
+                words: layout::NCC_WORDS,
+                place: layout::NCC_FLAG,
+                flag: 1,
+                values,
+            },
+        }
+    }
+
+    // Word j of an interval, whose values come first in `values`: the flag, a value, or the zero of an unused pair.
+    fn word(&self, values: &[u8], j: usize) -> i64
+        requires { 4 * self.now.values ≤ length values.now }
+        ensures { result ≡ word_from self.now values.now 0 j }
+    {
+        if j == self.place {
+            return self.flag;
+        }
+        let k = if j < self.place { j } else { j - 1 };
+        if k < self.values {
+            value_at(values, VALUE_BYTES * k)
+        } else {
+            0
+        }
+    }
+
+    // Writes the words of an interval.
+    fn put(&self, words: &mut [i64], values: &[u8])
+        requires { 4 * self.now.values ≤ length values.now }
+        ensures { words.new ≡ tabulate (length words.old) (word_from self.now values.now 0) }
+    {
+        for (j, word) in words.iter_mut().enumerate() {
+            *word = self.word(values, j);
+        }
+    }
+
+    // Writes the words of the 48 intervals, from `start` on and `stride` words apart.
+    fn put_row(&self, book: &mut [i64], start: usize, stride: usize, values: &[u8])
+        requires { (start + (intervals - 1) * stride + self.now.words ≤ length book.old) × (4 * (intervals * self.now.values) ≤ length values.now) }
+        ensures { book.new ≡ grid start stride self.now.words (row_from self.now values.now 0) intervals book.old }
+    {
+        // By index: chunks would have to pair the intervals of the book with those of the values, and of no values there are none.
+        for i in 0..INTERVALS {
+            let a = start + i * stride;
+            let e = a + self.words;
+            self.put(&mut book[a..e], &values[VALUE_BYTES * (i * self.values)..]);
+        }
     }
 }
 
-// Value k of the n values at a position, or the zero of an unused pair.
-fn value_or_zero(n: usize, file: &[u8], from: usize, k: usize) -> i64
-    requires { from + 4 * n ≤ length file.now }
-    ensures { result ≡ number_from n file.now from k }
-{
-    if k < n {
-        value_at(file, from + VALUE_BYTES * k)
-    } else {
-        0
-    }
+// The words of a book, which are enough for its terms.
+#[derive(Drop)]
+pub struct Store<'a> {
+    pub words: &'a mut [i64],
+    pub terms: AcceptedTerms,
+    ghost room: { size terms ≤ length words.now },
 }
 
-// Word j of a row at an interval, whose values are at a position.
-fn word_about_flag(form: Form, file: &[u8], from: usize, j: usize) -> i64
-    requires { (form.flag < 2 ^ 63) × (from + 4 * form.values ≤ length file.now) }
-    ensures { result ≡ word_from form file.now from j }
-{
-    if j < form.place {
-        return value_or_zero(form.values, file, from, j);
+impl Store<'_> {
+    // Stores a row; the position past it.
+    fn put_row(&mut self, row: &Row) -> usize
+        requires { RowFits self.old.terms row.now.section row.now.file.now row.now.at }
+        ensures past { result ≡ row_end row.now.section row.now.file.now row.now.at }
+        ensures words { self.new.words.now ≡ row_stored self.old.terms (row_at row.now.section row.now.file.now row.now.at) intervals self.old.words.now }
+        ensures terms { self.new.terms ≡ self.old.terms }
+        ensures same_reference { self.new.words.ghost_name ≡ self.old.words.ghost_name }
+    {
+        let count = row.count();
+        let form = Form::of(row.section, count);
+        let stride = layout::interval_length(self.terms.get().accounts);
+        let start = slot_start(self.terms, row.day()) + place_of(row.section, row.account());
+        let words = &mut *self.words;
+        form.put_row(words, start, stride, row.values());
+        row.end(count)
     }
-    if j == form.place {
-        return signed(form.flag as u64);
+
+    // Stores the rows of the section at a position, in file order; the position past it.
+    // A position, and no part of the file: it is handed on from section to section.
+    fn put_section(&mut self, section: Section, file: &[u8], at: usize) -> usize
+        requires { SectionFits self.old.terms section file.now at }
+        ensures past { result ≡ section_end section file.now at }
+        ensures words { self.new.words.now ≡ rows_stored self.old.terms (section_rows section file.now at) self.old.words.now }
+        ensures terms { self.new.terms ≡ self.old.terms }
+        ensures same_reference { self.new.words.ghost_name ≡ self.old.words.ghost_name }
+    {
+        let count = rows_in(file, at);
+        let mut next = first_row(at);
+        for _ in 0..count {
+            let row = Row {
+                section,
+                file,
+                at: next,
+            };
+            next = self.put_row(&row);
+        }
+        next
     }
-    value_or_zero(form.values, file, from, j - 1)
-}
 
-// The same where the flag comes first.
-fn word_after_flag(form: Form, file: &[u8], from: usize, j: usize) -> i64
-    requires { (form.place ≡ 0) × (form.flag < 2 ^ 63) × (from + 4 * form.values ≤ length file.now) }
-    ensures { result ≡ word_from form file.now from j }
-{
-    if j == 0 {
-        return signed(form.flag as u64);
+    // Stores the rows of an accepted file, section after section.
+    pub fn put_file(&mut self, file: &[u8])
+        requires { FileFits self.old.terms file.now }
+        ensures words { self.new.words.now ≡ rows_stored self.old.terms (file_rows file.now) self.old.words.now }
+        ensures same_reference { self.new.words.ghost_name ≡ self.old.words.ghost_name }
+    {
+        let meter = self.put_section(Section::Vesting, file, 0);
+        let residual = self.put_section(Section::Meter, file, meter);
+        let ncc = self.put_section(Section::Residual, file, residual);
+        self.put_section(Section::Ncc, file, ncc);
     }
-    value_or_zero(form.values, file, from, j - 1)
-}
-
-// The same of any form. Whether the flag comes first is asked apart from j, so that a loop over the words asks it once.
-fn entry_word(form: Form, file: &[u8], from: usize, j: usize) -> i64
-    requires { (form.flag < 2 ^ 63) × (from + 4 * form.values ≤ length file.now) }
-    ensures { result ≡ word_from form file.now from j }
-{
-    if form.place == 0 {
-        word_after_flag(form, file, from, j)
-    } else {
-        word_about_flag(form, file, from, j)
-    }
-}
-
-// Writes a row's words of an interval: the flag, the values, and zeros in the unused pairs.
-fn put_entry(words: &mut [i64], form: Form, file: &[u8], from: usize)
-    requires { (form.flag < 2 ^ 63) × (from + 4 * form.values ≤ length file.now) }
-    ensures { words.new ≡ tabulate (length words.old) (word_from form file.now from) }
-{
-    for j in 0..words.len() {
-        put_word(words, j, entry_word(form, file, from, j));
-    }
-}
-
-// Writes a row's words of the 48 intervals, from `start` on and `stride` words apart.
-fn put_row(book: &mut [i64], start: usize, stride: usize, form: Form, file: &[u8], from: usize)
-    requires { (form.flag < 2 ^ 63) × (start + (intervals - 1) * stride + form.words ≤ length book.old) × (from + 4 * (intervals * form.values) ≤ length file.now) }
-    ensures { book.new ≡ grid start stride form.words (row_from form file.now from) intervals book.old }
-{
-    for i in 0..INTERVALS {
-        let a = start + i * stride;
-        let e = a + form.words;
-        put_entry(
-            &mut book[a..e],
-            form,
-            file,
-            from + VALUE_BYTES * (i * form.values),
-        );
-    }
-}
-
-// Stores the row at a position; the position past it.
-fn store_row(book: &mut [i64], terms: Terms, sec: Section, file: &[u8], at: usize) -> usize
-    requires { InTerms terms × RowFits terms sec file.now at × (size terms ≤ length book.old) }
-    ensures { (result ≡ row_end sec file.now at) × (book.new ≡ row_stored terms (row_at sec file.now at) intervals book.old) }
-{
-    let count = count_at(sec, file, at);
-    let form = form_of(sec, count);
-    let start = slot_start(terms, day_at(sec, file, at)) + place_of(sec, account_at(sec, file, at));
-    put_row(
-        book,
-        start,
-        interval_size(terms),
-        form,
-        file,
-        values_pos(sec, at),
-    );
-    row_end(sec, at, count)
-}
-
-// Stores the rows of the section at a position, in file order; the position past it.
-fn store_section(book: &mut [i64], terms: Terms, sec: Section, file: &[u8], at: usize) -> usize
-    requires { InTerms terms × SectionFits terms sec file.now at × (size terms ≤ length book.old) }
-    ensures { (result ≡ section_end sec file.now at) × (book.new ≡ rows_stored terms (section_rows sec file.now at) book.old) }
-{
-    let count = rows_in(file, at);
-    let mut next = first_row(at);
-    for i in 0..count {
-        next = store_row(book, terms, sec, file, next);
-    }
-    next
-}
-
-// Stores the rows of an accepted file, section after section.
-pub fn store_file(book: &mut [i64], terms: Terms, file: &[u8])
-    requires { InTerms terms × FileFits terms file.now × (size terms ≤ length book.old) }
-    ensures { book.new ≡ rows_stored terms (file_rows file.now) book.old }
-{
-    let meter = store_section(book, terms, Section::Vesting, file, 0);
-    let residual = store_section(book, terms, Section::Meter, file, meter);
-    let ncc = store_section(book, terms, Section::Residual, file, residual);
-    store_section(book, terms, Section::Ncc, file, ncc);
 }

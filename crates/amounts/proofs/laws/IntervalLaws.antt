@@ -1,6 +1,8 @@
 -- The words of an interval that the rounds over its accounts read, and the sizes of R. Assumes nothing.
-use Rattle.std.specs.Prelude.{◌≡◌, List, ℕ, ◌+◌, ◌*◌, ◌≤◌, ◌<◌, ℤ, nat_abs, pos}
-use Rattle.std.proofs.Common.{arith}
+use Rattle.std.specs.Prelude.{◌≡◌, List, [], ℕ, ◌+◌, ◌*◌, ◌-◌, ◌≤◌, ◌<◌, ℤ, nat_abs, pos, length, get_or, take, drop}
+use Rattle.std.proofs.Common.{arith, sym, ap, ◌∙◌}
+use Rattle.std.specs.Simd.{first_chunks}
+use Rattle.integer.proofs.laws.ChunkLaws.{chunk-word as chunks}
 use Rattle.integer.proofs.laws.IntegerLaws.{parts-eq}
 use Rattle.integer.specs.Words.{word}
 use Rattle.integer.proofs.laws.WordsLaws.{get_d_part}
@@ -9,7 +11,7 @@ use Rattle.rulebook.proofs.laws.UnitsLaws.{load-range}
 use Rattle.rulebook.specs.Shares.{most_accounts, least_residual}
 use Rattle.rulebook.specs.Sections.{BVQ, TVQ, UEGQ}
 use Rattle.rulebook.specs.DayAmount.{tenders, report_figure, residual_load}
-use Rattle.rulebook.specs.Layout.{account_words, cell_place, account_place, cell_of, figure_at}
+use Rattle.rulebook.specs.Layout.{account_words, cell_place, account_place, interval_length, cell_of, figure_at}
 use Rattle.rulebook.specs.Bounds.{Sized}
 use Rattle.rulebook.proofs.laws.SizeLaws.{report-size, residual-load_size}
 use Rattle.amounts.specs.Interval.{IntervalRanged, QuantityWord, load_in, data_in}
@@ -45,3 +47,10 @@ module _ (n : ℕ) (x : List ℤ) (h : IntervalRanged n x) where
   -- R is within what a share takes
   pub residual-le : n ≤ most_accounts → nat_abs (residual_load (load_in x) n (data_in x)) ≤ least_residual
   residual-le k = (residual-load_size (load_in x) n (data_in x) data_sized k load-le).0
+
+-- word `at` of account b's chunk, where the words after the interval's own are read in chunks
+pub chunk-word : (n k : ℕ) (x : List ℤ) (b at : ℕ) → length x ≡ interval_length n → b < n → b < k → at < account_words
+    → word (get_or (first_chunks account_words k (take (length x - 4) (drop 4 x))) b []) at ≡ word (cell_of x b) at
+chunk-word n k x b at e h l m =
+    let i : 4 + (b * account_words + at) ≡ account_place b at = omega arith in
+    chunks account_words k 4 (length x - 4) x b at l m (omega arith) ∙ ap (word x) i ∙ sym (interval-word x b at m)

@@ -1,7 +1,7 @@
 -- What the judge's answer says of a lent book. Assumes nothing.
 use Rattle.std.proofs.Math.Path.{◌≡◌, refl, subst}
-use Rattle.std.proofs.Common.{sym, arith}
-use Rattle.std.specs.Prelude.{Bool, List, ℕ, ℤ}
+use Rattle.std.proofs.Common.{sym, ap, arith}
+use Rattle.std.specs.Prelude.{Bool, List, ℕ, ℤ, Option, Some, None}
 use Rattle.std.proofs.Math.Bool.{true, false, cond}
 use Rattle.std.proofs.Math.Dec.{T}
 use Rattle.rulebook.specs.declared.Terms.{Terms}
@@ -9,19 +9,20 @@ use Rattle.rulebook.specs.Terms.{InTerms}
 use Rattle.rulebook.specs.BookData.{terms_of, next_day}
 use Rattle.rulebook.specs.WellFormed.{well_formed}
 use Rattle.rulebook.proofs.laws.FormedLaws.{formed-holds, opened_of, next_of}
-use Rattle.book.specs.declared.judge.Judged.TheVariants.{WellFormed, IllFormed}
+use Rattle.book.specs.declared.judge.FormedBook.{FormedBook}
 use Rattle.book.specs.Judged.{judged_book, Formed}
 
 module _ (w : List ℤ) where
-  pub book-formed : (o : Terms) (C : ℕ) → judged_book w ≡ WellFormed o C → Formed w o C
+  pub book-formed : (o : Terms) (C : ℕ) → judged_book w ≡ Some (record { terms = o; next = C }) → Formed w o C
   unfolding judged_book
   book-formed o C e = go (well_formed w) refl e
     where
-      go : (b : Bool) → well_formed w ≡ b → cond b (WellFormed (terms_of w) (next_day w)) IllFormed ≡ WellFormed o C → Formed w o C
+      go : (b : Bool) → well_formed w ≡ b → cond {A = Option FormedBook} b (Some (record { terms = terms_of w; next = next_day w })) None ≡ Some (record { terms = o; next = C }) → Formed w o C
       go true f e =
           let t : T (well_formed w) = subst T (sym f) tt in
-          let x : terms_of w ≡ o = cc in
-          let y : next_day w ≡ C = cc in
+          let r : ◌≡◌ {A = FormedBook} (record { terms = terms_of w; next = next_day w }) (record { terms = o; next = C }) = cc in
+          let x : terms_of w ≡ o = ap (λ (f : FormedBook). f.terms) r in
+          let y : next_day w ≡ C = ap (λ (f : FormedBook). f.next) r in
           record {
             formed = f;
             terms = x;
@@ -33,10 +34,10 @@ module _ (w : List ℤ) where
           }
       go false f e = absurd (let z : ◌≡◌ {A = ℕ} 0 1 = cc in omega arith)
 
-  pub book-ill : judged_book w ≡ IllFormed → well_formed w ≡ false
+  pub book-ill : judged_book w ≡ None → well_formed w ≡ false
   unfolding judged_book
   book-ill e = go (well_formed w) refl e
     where
-      go : (b : Bool) → well_formed w ≡ b → cond b (WellFormed (terms_of w) (next_day w)) IllFormed ≡ IllFormed → well_formed w ≡ false
+      go : (b : Bool) → well_formed w ≡ b → cond {A = Option FormedBook} b (Some (record { terms = terms_of w; next = next_day w })) None ≡ None → well_formed w ≡ false
       go true f e = absurd (let z : ◌≡◌ {A = ℕ} 0 1 = cc in omega arith)
       go false f e = f

@@ -1,37 +1,21 @@
 -- The tests of a part are the rule book's tests of the words that it is lent. Assumes nothing.
-use Rattle.std.specs.Prelude.{◌≡◌, Bool, cond, List, ℕ, ◌+◌, ◌-◌, ◌*◌, ◌<◌, ℤ, length, take, drop}
+use Rattle.std.specs.Prelude.{◌≡◌, Bool, cond, List, ℕ, ◌+◌, ◌-◌, ◌*◌, ◌/◌, ◌≤◌, ◌<◌, ℤ, length}
 use Rattle.std.proofs.Math.Path.{sym, ap}
-use Rattle.std.proofs.Common.{◌∙◌, add-mul, mul_assoc, arith}
+use Rattle.std.proofs.Common.{◌∙◌, le-leb, add-mul, mul_assoc, arith}
 use Rattle.std.proofs.Math.Bool.{true, false}
 use Rattle.integer.specs.Below.{all}
 use Rattle.integer.specs.Words.{word, part}
-use Rattle.integer.proofs.laws.WordsLaws.{row_fits_lem, lent}
+use Rattle.integer.proofs.laws.WordsLaws.{row_fits_lem, length_part}
 use Rattle.rulebook.specs.declared.Terms.{Terms}
 use Rattle.rulebook.specs.Units.{intervals}
-use Rattle.rulebook.specs.Layout.{account_words, cell_place, account_place, interval_length, slot_length, interval_size, base, interval_word}
+use Rattle.rulebook.specs.Layout.{interval_words, account_words, interval_length, slot_length, interval_size, base, interval_word}
 use Rattle.rulebook.proofs.laws.TestLaws.{all_same}
-use Rattle.rulebook.proofs.laws.FitsLaws.{account-same, interval-same}
-use Rattle.rulebook.specs.WellFormed.{is_zero, account_fits, interval_fits, interval_blank, interval_at, slot_blank, dated_fits}
+use Rattle.rulebook.proofs.laws.FitsLaws.{interval-same}
+use Rattle.rulebook.specs.WellFormed.{is_zero, interval_fits, interval_blank, interval_at, slot_blank, dated_fits}
 use Rattle.opening.specs.Blank.{blank}
 use Rattle.opening.proofs.laws.LoopLaws.{word-part}
 use Rattle.opening.proofs.laws.BlankLaws.{all_rows}
-use Rattle.book.specs.Parts.{intervals_fit, slot_fits}
-
--- ---- Lent by an interval, and by a slot
-
--- account a's words
-pub account-lent : (closed : Bool) (xs : List ℤ) (a : ℕ) {i : ℕ} → i ≡ cell_place a
-    → account_fits closed (word (take (i + account_words - i) (drop i xs))) ≡ account_fits closed (λ q. word xs (account_place a q))
-account-lent closed xs a {i} e =
-    ap (λ (ys : List ℤ). account_fits closed (word ys)) (lent xs i account_words)
-    ∙ account-same closed (word (part xs i account_words)) (λ q. word xs (account_place a q)) (λ q h. word-part xs i account_words q h ∙ ap (word xs) (omega arith))
-
--- interval i's, of n accounts
-pub interval-lent : (n : ℕ) (closed : Bool) (xs : List ℤ) (i : ℕ)
-    → interval_fits n closed (word (take (i * interval_length n + interval_length n - i * interval_length n) (drop (i * interval_length n) xs))) ≡ interval_fits n closed (λ m. word xs (i * interval_length n + m))
-interval-lent n closed xs i =
-    ap (λ (ys : List ℤ). interval_fits n closed (word ys)) (lent xs (i * interval_length n) (interval_length n))
-    ∙ interval-same n closed (word (part xs (i * interval_length n) (interval_length n))) (λ m. word xs (i * interval_length n + m)) (word-part xs (i * interval_length n) (interval_length n))
+use Rattle.book.specs.Parts.{interval_told, intervals_fit, slot_fits}
 
 -- ---- A slot
 
@@ -62,3 +46,23 @@ module _ (o : Terms) (w : List ℤ) (t : ℕ) (xs : List ℤ)
   unfolding slot_fits
   slot_is l true closed = intervals-are closed
   slot_is l false closed = blank-is l
+
+-- ---- A slot's intervals, as they are lent
+
+one-lent : (n : ℕ) (closed : Bool) (xs : List ℤ) (i : ℕ) → length xs ≡ slot_length n → i < intervals
+    → interval_told closed (part xs (i * interval_length n) (interval_length n)) ≡ interval_fits n closed (λ m. word xs (i * interval_length n + m))
+unfolding interval_told
+one-lent n closed xs i l h =
+    let s = interval_length n in
+    let e : length (part xs (i * s) s) ≡ s = length_part xs (i * s) s (omega (arith, row_fits_lem i intervals s h)) in
+    let k : (length (part xs (i * s) s) - interval_words) / account_words ≡ n = ap (λ m. (m - interval_words) / account_words) e ∙ omega arith in
+    let some : interval_words ≤ length (part xs (i * s) s) = omega arith in
+    rw (le-leb interval_words (length (part xs (i * s) s)) some, k)
+    (interval-same n closed (word (part xs (i * s) s)) (λ m. word xs (i * s + m)) (word-part xs (i * s) s))
+
+pub intervals-lent : (n : ℕ) (closed : Bool) (xs : List ℤ) → length xs ≡ slot_length n → length xs / interval_length n ≡ intervals
+    → all (length xs / interval_length n) (λ i. interval_told closed (part xs (i * interval_length n) (interval_length n))) ≡ intervals_fit n closed xs
+unfolding intervals_fit
+intervals-lent n closed xs l k =
+    ap (λ (m : ℕ). all m (λ i. interval_told closed (part xs (i * interval_length n) (interval_length n)))) k
+    ∙ all_same intervals _ _ (λ i h. one-lent n closed xs i l h)

@@ -1,26 +1,27 @@
 -- `final_statement` meets its contract: both checks in their order, then the tenth business day after the statement day.
-use Rattle.std.proofs.Common.{◌≡◌, sym, ap, ◌∙◌}
-use Rattle.integer.specs.Integer.{positive}
-use Rattle.calendar.specs.Calendar.{is_day, statement_day, final_statement, up_to_last_day, search_told, final_statement_told}
-use Rattle.calendar.proofs.laws.DateLaws.{given}
+use Rattle.std.proofs.Common.{ap, ap₂, ◌∙◌}
+use Rattle.std.proofs.lemmas.Result.{err_from_is_err_and}
+use Rattle.calendar.specs.Calendar.{statement_day, final_statement, up_to_last_day, search_told, final_statement_told}
+use Rattle.calendar.proofs.laws.DateLaws.{day-given, day-read}
+use Rattle.calendar.proofs.laws.BusinessLaws.{found-returned}
 use Rattle.calendar.proofs.final_statement.Goals as goal
-use Rattle.calendar.proofs.final_statement.Goals.{After-is_day}
 
--- what is read of the number given
-judged : (c : After-is_day) → c.is_day.result ≡ is_day c.args.day
-judged c = c.is_day.ensures ∙ given is_day c.ranges.day
-
-pub returns-then-not-is_day : goal.returns-then-not-is_day
+pub returns-in_err-d : goal.returns-in_err-d
 unfolding final_statement_told search_told
-returns-then-not-is_day c = rw (sym (judged (goal.at.returns-then-not-is_day c).After-is_day) ∙ c.if-not-is_day.true)
+returns-in_err-d c =
+    let p = err_from_is_err_and c.from_residual.result c.from_residual.ensures.1 in
+    rw (p.1, p.2, c.in_err-d.ensures.1, day-given c.ranges.day c.in_err-d.ensures.0)
 
-pub returns-then-not-is_proper : goal.returns-then-not-is_proper
+pub returns-in_err-list : goal.returns-in_err-list
 unfolding final_statement_told search_told
-returns-then-not-is_proper c =
-    rw (sym (judged (goal.at.returns-then-not-is_proper c).After-is_day) ∙ c.if-not-is_day.false, sym c.is_proper.ensures ∙ c.if-not-is_proper.true)
+returns-in_err-list c =
+    let p = err_from_is_err_and c.from_residual-in_err-list.result c.from_residual-in_err-list.ensures.1 in
+    rw (p.1, p.2, c.in_err-list.ensures.1, day-given c.ranges.day c.in_ok-d.ensures.0, c.in_err-list.ensures.0)
 
 pub returns : goal.returns
 unfolding final_statement_told search_told final_statement statement_day
 returns c =
-    rw (sym (judged (goal.at.returns c).After-is_day) ∙ c.if-not-is_day.false, sym c.is_proper.ensures ∙ c.if-not-is_proper.false)
-    (c.up_to_last_day.ensures ∙ ap up_to_last_day (c.nth_business_day.ensures ∙ ap (final_statement c.args.holidays.now) (c.natural.ensures ∙ given positive c.ranges.day)))
+    let days = c.in_ok-list.ensures.1 in
+    let d = day-read c.ranges.day c.in_ok-d.ensures.1 in
+    rw (c.ok_or.ensures.value, found-returned c.nth_business_day.result, day-given c.ranges.day c.in_ok-d.ensures.0, c.in_ok-list.ensures.0)
+    (ap up_to_last_day (c.nth_business_day.ensures ∙ ap₂ final_statement days d))

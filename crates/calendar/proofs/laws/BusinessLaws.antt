@@ -6,16 +6,21 @@ use Rattle.std.proofs.Math.Logic.{⊎_elim}
 use Prim.Native.Nat.{ℕ, ◌+◌, ◌-◌, ◌≤◌, ◌<◌}
 use native.Mathlib.Omega.{arith}
 use borrow.Author.Tests.{ltb-true, lt-ltb, eqb-true, eq-eqb}
-use Rattle.std.specs.Prelude.{ltb}
+use Rattle.std.specs.Int.{from_bool}
+use Rattle.std.specs.Prelude.{ltb, Option, Some, None}
 use Rattle.integer.specs.Below.{fold, count}
 use Rattle.integer.proofs.laws.BelowLaws.{and-true, either, lt_or_le, first_stops, first-nothing, nothing-first, first-at}
-use Rattle.integer.specs.declared.Found.{Found}
-use Rattle.integer.specs.declared.Found.TheVariants.{At, Nothing}
 use Rattle.rulebook.specs.Units.{last_day}
 use Rattle.integer.proofs.laws.CountLaws.{count-suc, count-mono}
-use Rattle.calendar.specs.Calendar.{days_after, is_nth_after, nth_after}
+use Rattle.std.specs.Option.{ok_or}
+use Rattle.calendar.specs.declared.CalendarError.TheVariants.{PastLastDay}
+use Rattle.calendar.specs.Calendar.{days_after, is_nth_after, nth_after, day_returned, up_to_last_day}
 
 -- ---- How many days after d pass a test
+
+pub from_bool-le : (b : Bool) → from_bool b ≤ 1
+from_bool-le true = omega arith
+from_bool-le false = omega arith
 
 module _ (test : ℕ → Bool) (d : ℕ) where
   pub days_after-none : (e : ℕ) → e ≤ d → days_after test d e ≡ 0
@@ -29,6 +34,14 @@ module _ (test : ℕ → Bool) (d : ℕ) where
       let n : e + 1 - d ≡ e - d + 1 = omega arith in
       let i : d + 1 + (e - d) ≡ e + 1 = omega arith in
       ap (λ k. count k p) n ∙ count-suc (e - d) p ∙ ap (λ k. count (e - d) p + cond (test k) 1 0) i
+
+  -- one day more, by the test as a number
+  pub days_after-next : (e : ℕ) → d ≤ e → days_after test d (e + 1) ≡ days_after test d e + from_bool (test (e + 1))
+  days_after-next e h = days_after-suc e h ∙ ap (λ n. days_after test d e + n) (as_number (test (e + 1)))
+    where
+      as_number : (b : Bool) → ◌≡◌ {A = ℕ} (cond b 1 0) (from_bool b)
+      as_number true = refl
+      as_number false = refl
 
   pub days_after-mono : (e f : ℕ) → e ≤ f → days_after test d e ≤ days_after test d f
   unfolding days_after
@@ -78,41 +91,46 @@ module _ (test : ℕ → Bool) (n d : ℕ) where
   nth-unique e f s t = nth-one e f (of_is_nth e s) (of_is_nth f t)
 
   -- it is the one that is found
-  pub nth-found : (e : ℕ) → IsNth test n d e → e ≤ last_day → nth_after test n d ≡ At e
+  pub nth-found : (e : ℕ) → IsNth test n d e → e ≤ last_day → nth_after test n d ≡ Some e
   unfolding nth_after
   nth-found e v h = first_stops (last_day + 1) try e e (omega arith) (nothing-first e try before) (rw (is_nth_of e v))
     where
-      try : ℕ → Found
-      try f = cond (is_nth_after test n d f) (At f) Nothing
+      try : ℕ → Option ℕ
+      try f = cond (is_nth_after test n d f) (Some f) None
 
-      before : (f : ℕ) → f < e → try f ≡ Nothing
+      before : (f : ℕ) → f < e → try f ≡ None
       before f l = ⊎_elim (λ t. absurd (omega (arith, nth-one f e (of_is_nth f t) v))) (λ t. rw t) (either (is_nth_after test n d f))
 
   -- too few up to 31 December 2099: there is none
-  pub nth-none : days_after test d last_day < n → nth_after test n d ≡ Nothing
+  pub nth-none : days_after test d last_day < n → nth_after test n d ≡ None
   unfolding nth_after
-  nth-none h = nothing-first (last_day + 1) (λ e. cond (is_nth_after test n d e) (At e) Nothing) none
+  nth-none h = nothing-first (last_day + 1) (λ e. cond (is_nth_after test n d e) (Some e) None) none
     where
-      none : (e : ℕ) → e < last_day + 1 → cond (is_nth_after test n d e) (At e) Nothing ≡ Nothing
+      none : (e : ℕ) → e < last_day + 1 → cond (is_nth_after test n d e) (Some e) None ≡ None
       none e l = ⊎_elim (λ t. absurd (omega (arith, days_after-mono test d e last_day (omega arith), (of_is_nth e t).as_many))) (λ t. rw t) (either (is_nth_after test n d e))
 
   -- what is found is the one
-  pub nth-is : (e : ℕ) → nth_after test n d ≡ At e → (is_nth_after test n d e ≡ true) × (e ≤ last_day)
+  pub nth-is : (e : ℕ) → nth_after test n d ≡ Some e → (is_nth_after test n d e ≡ true) × (e ≤ last_day)
   unfolding nth_after
   nth-is e q =
-      let r = first-at (last_day + 1) (λ f. cond (is_nth_after test n d f) (At f) Nothing) e q in
+      let r = first-at (last_day + 1) (λ f. cond (is_nth_after test n d f) (Some f) None) e q in
       let c = at_cond (is_nth_after test n d r.0) r.0 r.2 in
       (rw c.1 at c.0, omega (arith, r.1, c.1))
     where
-      at_cond : (t : Bool) (f : ℕ) → cond t (At f) Nothing ≡ At e → (t ≡ true) × (f ≡ e)
+      at_cond : (t : Bool) (f : ℕ) → cond t (Some f) None ≡ Some e → (t ≡ true) × (f ≡ e)
       at_cond true f s = (refl, cc)
       at_cond false f s = absurd (let z : ◌≡◌ {A = ℕ} 0 1 = cc in omega arith)
 
   -- where none is found there is none
-  pub nth-nothing : nth_after test n d ≡ Nothing → (e : ℕ) → e ≤ last_day → is_nth_after test n d e ≡ false
+  pub nth-nothing : nth_after test n d ≡ None → (e : ℕ) → e ≤ last_day → is_nth_after test n d e ≡ false
   unfolding nth_after
-  nth-nothing q e h = nothing-cond (is_nth_after test n d e) e (first-nothing (last_day + 1) (λ f. cond (is_nth_after test n d f) (At f) Nothing) q e (omega arith))
+  nth-nothing q e h = nothing-cond (is_nth_after test n d e) e (first-nothing (last_day + 1) (λ f. cond (is_nth_after test n d f) (Some f) None) q e (omega arith))
     where
-      nothing-cond : (t : Bool) (f : ℕ) → cond t (At f) Nothing ≡ Nothing → t ≡ false
+      nothing-cond : (t : Bool) (f : ℕ) → cond t (Some f) None ≡ None → t ≡ false
       nothing-cond true f s = absurd (let z : ◌≡◌ {A = ℕ} 0 1 = cc in omega arith)
       nothing-cond false f s = refl
+
+-- a day that was found, or none up to 31 December 2099, as it is returned
+pub found-returned : (found : Option ℕ) → day_returned (ok_or found PastLastDay) ≡ up_to_last_day found
+found-returned (Some d) = refl
+found-returned None = refl

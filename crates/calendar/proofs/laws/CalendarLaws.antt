@@ -1,5 +1,5 @@
 -- What the calendar's calls return, as theorems: day and date lead back to each other, a holiday list is accepted where it ascends, and the business day that is found is the one asked for. Assumes nothing.
-use Rattle.std.specs.Prelude.{◌≡◌, refl, Bool, true, false, ◌||◌, List, ℕ, ◌+◌, ◌*◌, ◌-◌, ◌%◌, ◌≤◌, ◌<◌, ltb, eqb, ℤ, pos, negsuc, length}
+use Rattle.std.specs.Prelude.{◌≡◌, refl, Bool, true, false, ◌||◌, List, ℕ, ◌+◌, ◌*◌, ◌-◌, ◌%◌, ◌≤◌, ◌<◌, ltb, eqb, ℤ, pos, negsuc, length, Option, Some, None}
 use Rattle.std.proofs.Common.{ap, ⊎_elim, arith, ltb-true, ltb-false, eqb-true, eq-eqb, le→leb, lt→ltb}
 use Rattle.std.proofs.lemmas.Bool.{eqb-false}
 use Rattle.std.specs.Int.Signed.{le_z, lt_z, le_z_yes, lt_z_yes}
@@ -7,8 +7,6 @@ use Rattle.integer.specs.Integer.{positive}
 use Rattle.integer.specs.Words.{word}
 use Rattle.integer.proofs.laws.IntegerLaws.{T-path}
 use Rattle.integer.proofs.laws.BelowLaws.{either, all_of}
-use Rattle.integer.specs.declared.Found.{Found}
-use Rattle.integer.specs.declared.Found.TheVariants.{At, Nothing}
 use Rattle.rulebook.specs.Units.{last_day}
 use Rattle.rulebook.specs.Numbers.{accepted, no_such_date, bad_holidays, past_last_day, checked}
 use Rattle.integer.proofs.laws.CountLaws.{any_at, any_some}
@@ -80,15 +78,15 @@ entry_listed holidays d i l e = any_at (length holidays) (λ k. is_entry (word h
 
 -- ---- The day that is found
 
-searched-at : (given proper : Bool) (f : Found) (e : ℕ) → checked given (day_refused no_such_date) (checked proper (day_refused bad_holidays) (up_to_last_day f)) ≡ day_accepted e → f ≡ At e
-searched-at true true (At x) e q = ap At (ap (λ r. r.day) q)
-searched-at true true Nothing e q = absurd (let z : ◌≡◌ {A = ℕ} past_last_day accepted = ap (λ r. r.number) q in omega arith)
+searched-at : (given proper : Bool) (f : Option ℕ) (e : ℕ) → checked given (day_refused no_such_date) (checked proper (day_refused bad_holidays) (up_to_last_day f)) ≡ day_accepted e → f ≡ Some e
+searched-at true true (Some x) e q = ap Some (ap (λ r. r.day) q)
+searched-at true true None e q = absurd (let z : ◌≡◌ {A = ℕ} past_last_day accepted = ap (λ r. r.number) q in omega arith)
 searched-at true false f e q = absurd (let z : ◌≡◌ {A = ℕ} bad_holidays accepted = ap (λ r. r.number) q in omega arith)
 searched-at false b f e q = absurd (let z : ◌≡◌ {A = ℕ} no_such_date accepted = ap (λ r. r.number) q in omega arith)
 
-searched-nothing : (given proper : Bool) (f : Found) → checked given (day_refused no_such_date) (checked proper (day_refused bad_holidays) (up_to_last_day f)) ≡ day_refused past_last_day → f ≡ Nothing
-searched-nothing true true (At x) q = absurd (let z : ◌≡◌ {A = ℕ} accepted past_last_day = ap (λ r. r.number) q in omega arith)
-searched-nothing true true Nothing q = refl
+searched-nothing : (given proper : Bool) (f : Option ℕ) → checked given (day_refused no_such_date) (checked proper (day_refused bad_holidays) (up_to_last_day f)) ≡ day_refused past_last_day → f ≡ None
+searched-nothing true true (Some x) q = absurd (let z : ◌≡◌ {A = ℕ} accepted past_last_day = ap (λ r. r.number) q in omega arith)
+searched-nothing true true None q = refl
 searched-nothing true false f q = absurd (let z : ◌≡◌ {A = ℕ} bad_holidays past_last_day = ap (λ r. r.number) q in omega arith)
 searched-nothing false b f q = absurd (let z : ◌≡◌ {A = ℕ} no_such_date past_last_day = ap (λ r. r.number) q in omega arith)
 

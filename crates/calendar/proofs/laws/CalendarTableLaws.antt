@@ -1,10 +1,8 @@
 -- The calendar's checks in turn give its table of numbers. Assumes nothing.
-use Rattle.std.specs.Prelude.{◌≡◌, refl, Bool, true, false, List, ◌↔◌, ℕ, ◌+◌, ◌≤◌, ◌<◌, leb, eqb, ℤ}
+use Rattle.std.specs.Prelude.{◌≡◌, refl, Bool, true, false, List, ◌↔◌, ℕ, ◌+◌, ◌≤◌, ◌<◌, leb, eqb, ℤ, Option, Some, None}
 use Rattle.std.proofs.Common.{sym, ap, ⊎_elim, arith, leb-true, le-leb}
 use Rattle.integer.specs.Integer.{positive}
 use Rattle.integer.proofs.laws.BelowLaws.{lt_or_le}
-use Rattle.integer.specs.declared.Found.{Found}
-use Rattle.integer.specs.declared.Found.TheVariants.{At, Nothing}
 use Rattle.rulebook.specs.Units.{last_day}
 use Rattle.rulebook.specs.Numbers.{checked}
 use Rattle.rulebook.proofs.laws.CheckedLaws.{test-fails, then, differ, struck, met, met-last}
@@ -141,7 +139,7 @@ module _ (day : ℤ) (holidays : List ℤ) where
       }
 
 module _ (holidays : List ℤ) (n d : ℕ) where
-  abbrev nth_of : Found
+  abbrev nth_of : Option ℕ
   nth_of = nth_after (is_business_day holidays) n d
 
   found-is : (e : ℕ) → (up_to_last_day nth_of ≡ day_accepted e) ↔ (NthBusinessDay holidays n d e × (e ≤ 36524))
@@ -150,9 +148,9 @@ module _ (holidays : List ℤ) (n d : ℕ) where
       let s = nth-says holidays n d e in
       (λ q. let t = r.0 (at nth_of q) in (s.0 t.0, t.1), λ v. ap up_to_last_day (r.1 (s.1 v.0, v.1)))
     where
-      at : (f : Found) → up_to_last_day f ≡ day_accepted e → f ≡ At e
-      at (At x) q = ap At (ap (λ (r : DayReturned). r.day) q)
-      at Nothing q = absurd (differ day_number (day_refused 14) (day_accepted e) refl q)
+      at : (f : Option ℕ) → up_to_last_day f ≡ day_accepted e → f ≡ Some e
+      at (Some x) q = ap Some (ap (λ (r : DayReturned). r.day) q)
+      at None q = absurd (differ day_number (day_refused 14) (day_accepted e) refl q)
 
   found_none : (up_to_last_day nth_of ≡ day_refused 14) ↔ ((e : ℕ) → e ≤ 36524 → ¬ NthBusinessDay holidays n d e)
   found_none =
@@ -162,17 +160,17 @@ module _ (holidays : List ℤ) (n d : ℕ) where
       isnt : (e : ℕ) → (is_nth_after (is_business_day holidays) n d e ≡ false) ↔ (¬ NthBusinessDay holidays n d e)
       isnt e = test-fails (is_nth_after (is_business_day holidays) n d e) (nth-says holidays n d e)
 
-      none : (f : Found) → up_to_last_day f ≡ day_refused 14 → f ≡ Nothing
-      none (At x) q = absurd (differ day_number (day_accepted x) (day_refused 14) refl q)
-      none Nothing q = refl
+      none : (f : Option ℕ) → up_to_last_day f ≡ day_refused 14 → f ≡ None
+      none (Some x) q = absurd (differ day_number (day_accepted x) (day_refused 14) refl q)
+      none None q = refl
 
-  found_number : (f : Found) → eqb (up_to_last_day f).number 13 ≡ false
-  found_number (At x) = refl
-  found_number Nothing = refl
+  found_number : (f : Option ℕ) → eqb (up_to_last_day f).number 13 ≡ false
+  found_number (Some x) = refl
+  found_number None = refl
 
-  list_number : (t : Bool) (f : Found) → eqb (checked t (day_refused 13) (up_to_last_day f)).number 12 ≡ false
-  list_number true (At x) = refl
-  list_number true Nothing = refl
+  list_number : (t : Bool) (f : Option ℕ) → eqb (checked t (day_refused 13) (up_to_last_day f)).number 12 ≡ false
+  list_number true (Some x) = refl
+  list_number true None = refl
   list_number false f = refl
 
   search-table : {Given : Type 0} (given : Bool) → (given ≡ true) ↔ Given → SearchTable (search_told given holidays nth_of) Given holidays n d

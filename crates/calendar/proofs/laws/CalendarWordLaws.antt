@@ -1,11 +1,10 @@
 -- The calendar's tests say what document 01's words mean. Assumes nothing.
-use Rattle.std.specs.Prelude.{◌≡◌, refl, Bool, true, false, cond, not, List, ◌↔◌, ℕ, ◌+◌, ◌≤◌, ℤ, pos}
+use Rattle.std.specs.Prelude.{◌≡◌, refl, Bool, true, false, cond, not, List, ◌↔◌, ℕ, ◌+◌, ◌≤◌, ℤ, pos, Some, None}
 use Rattle.std.proofs.Common.{arith}
 use Rattle.std.specs.Int.Signed.{le_z}
 use Rattle.integer.specs.Integer.{positive}
 use Rattle.integer.proofs.laws.IntegerLaws.{int, parts, le_test, le_true, le_parts, parts-le}
 use Rattle.integer.proofs.laws.BelowLaws.{and-true, nothing-first}
-use Rattle.integer.specs.declared.Found.TheVariants.{At, Nothing}
 use Rattle.rulebook.specs.Units.{last_day}
 use Rattle.rulebook.proofs.laws.CheckedLaws.{test-fails}
 use Rattle.calendar.proofs.laws.DateLaws.{within-true, true-within, of_is_month}
@@ -94,12 +93,12 @@ nth-says holidays n d e = (
 )
 
 -- the n-th day that is found, and none
-pub nth-told : (test : ℕ → Bool) (n d e : ℕ) → (nth_after test n d ≡ At e) ↔ ((is_nth_after test n d e ≡ true) × (e ≤ last_day))
+pub nth-told : (test : ℕ → Bool) (n d e : ℕ) → (nth_after test n d ≡ Some e) ↔ ((is_nth_after test n d e ≡ true) × (e ≤ last_day))
 nth-told test n d e = (nth-is test n d e, λ r. nth-found test n d e (of_is_nth test n d e r.0) r.1)
 
-pub nth-absent : (test : ℕ → Bool) (n d : ℕ) → (nth_after test n d ≡ Nothing) ↔ ((e : ℕ) → e ≤ last_day → is_nth_after test n d e ≡ false)
+pub nth-absent : (test : ℕ → Bool) (n d : ℕ) → (nth_after test n d ≡ None) ↔ ((e : ℕ) → e ≤ last_day → is_nth_after test n d e ≡ false)
 unfolding nth_after
 nth-absent test n d = (
   nth-nothing test n d,
-  λ h. nothing-first (last_day + 1) (λ e. cond (is_nth_after test n d e) (At e) Nothing) (λ e l. rw (h e (omega arith))),
+  λ h. nothing-first (last_day + 1) (λ e. cond (is_nth_after test n d e) (Some e) None) (λ e l. rw (h e (omega arith))),
 )

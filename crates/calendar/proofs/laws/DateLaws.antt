@@ -1,6 +1,6 @@
 -- Laws of dates: the lengths of months and years, what lies before a date, and that day and date name each other. Assumes nothing.
 use Rattle.std.specs.Prelude.{◌≡◌, refl, Bool, true, false, ℕ, zero, suc, ◌+◌, ◌-◌, ◌≤◌, ◌<◌, leb, ltb, ℤ, pos, negsuc}
-use Rattle.std.proofs.Common.{ap, ◌∙◌, ⊎_elim, arith, ltb-true, ltb-false, leb-true, le-leb, SFits, to_z, of_z}
+use Rattle.std.proofs.Common.{sym, ap, ◌∙◌, ⊎_elim, arith, ltb-true, ltb-false, leb-true, le-leb, SFits, to_z, of_z}
 use Rattle.std.proofs.Math.Dec.{leb-zero}
 use Rattle.std.specs.Int.{w64}
 use Rattle.std.proofs.lemmas.Int.{to_z-of_z}
@@ -191,13 +191,13 @@ date_of-day_of date e =
     let r = dated (day_of date) (day_of-le date e) in
     same_date (date_of (day_of date)) date r.0 (of_is_date date e) r.1
 
--- the date so many days into a year, by the month that holds it
-pub date_of-in_year : (year month days : ℕ) → first_year ≤ year → year ≤ last_year → 1 ≤ month → month ≤ 12 → days_before_month year month ≤ days → days < days_before_month year month + days_in_month year month → date_of (days_before_year year + days) ≡ record { year = year; month = month; day = days - days_before_month year month + 1 }
+-- the date so many days into a month of a year
+pub date_of-in_month : (year month rest : ℕ) → first_year ≤ year → year ≤ last_year → 1 ≤ month → month ≤ 12 → rest < days_in_month year month → date_of (days_before_year year + (days_before_month year month + rest)) ≡ record { year = year; month = month; day = rest + 1 }
 unfolding day_of
-date_of-in_year year month days a b c d e f =
-    let date : Date = record { year = year; month = month; day = days - days_before_month year month + 1 } in
+date_of-in_month year month rest a b c d e =
+    let date : Date = record { year = year; month = month; day = rest + 1 } in
     let v : IsDate date = record { year-from = a; year-to = b; month-from = c; month-to = d; day-from = omega arith; day-to = omega arith } in
-    let g : days_before_year year + days ≡ day_of date = omega arith in
+    let g : days_before_year year + (days_before_month year month + rest) ≡ day_of date = omega arith in
     ap date_of g ∙ date_of-day_of date (is_date-of date v)
 
 -- ---- The numbers given
@@ -205,6 +205,12 @@ date_of-in_year year month days a b c d e f =
 -- what is read of a signed number is the number
 pub given {ℓ} : {A : Type ℓ} (f : ℤ → A) {z : ℤ} → SFits w64 z → f (to_z w64 (of_z w64 z)) ≡ f z
 given f {z} fits = ap f (to_z-of_z w64 z fits)
+
+pub day-given : {z : ℤ} {t : Bool} → SFits w64 z → is_day (to_z w64 (of_z w64 z)) ≡ t → is_day z ≡ t
+day-given fits e = sym (given is_day fits) ∙ e
+
+pub day-read : {z : ℤ} {d : ℕ} → SFits w64 z → d ≡ positive (to_z w64 (of_z w64 z)) → d ≡ positive z
+day-read fits e = e ∙ given positive fits
 
 -- a day is a number from 0 to 36,524
 pub record IsDay (z : ℤ) : Type 0 where

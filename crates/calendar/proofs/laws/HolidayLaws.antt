@@ -1,16 +1,21 @@
 -- Laws of holiday lists: a proper list ascends, so one index parts the entries before a day from those from it on. Assumes nothing.
-use Rattle.std.specs.Prelude.{◌≡◌, true, ◌&&◌, List, ℕ, zero, suc, ◌+◌, ◌-◌, ◌≤◌, ◌<◌, ℤ, pos, negsuc}
-use Rattle.std.proofs.Common.{sym, ap, ◌∙◌, not-suc-le-zero, add-one, leb→le, le→leb, ltb→lt}
+use Rattle.std.specs.Prelude.{◌≡◌, refl, Bool, true, ◌&&◌, List, ℕ, zero, suc, ◌+◌, ◌-◌, ◌≤◌, ◌<◌, ltb, ℤ, pos, negsuc}
+use Rattle.std.specs.List.{IsAllAdjacentAnswer}
+use Rattle.std.specs.List.Sorted.{IsPartitionedBy, IsPartitionPoint}
+use Rattle.std.proofs.Common.{sym, ap, ◌∙◌, not-suc-le-zero, add-one, add-zero, leb→le, le→leb, ltb→lt}
+use Rattle.std.proofs.lemmas.List.Sorted.{IsPartitionedBy-ltb, IsNonDecreasingBy-from_default}
+use Rattle.integer.specs.Integer.{positive}
 use Rattle.std.proofs.Math.Bool.{false}
 use Rattle.std.proofs.Math.Logic.{⊎_elim}
 use native.Mathlib.Omega.{arith}
-use borrow.Author.Tests.{ltb-true, ne_eqb, eq-eqb, eqb-true, eqb-false}
+use borrow.Author.Tests.{ltb-true, ltb-false, ne_eqb, eq-eqb, eqb-true, eqb-false}
 use Rattle.std.proofs.Math.Dec.{T, eqb}
 use Rattle.std.proofs.Math.ListN.{length}
+use Rattle.std.specs.Int.{from_bool}
 use Rattle.std.specs.Int.Signed.{le_z, lt_z}
 use Rattle.integer.specs.Below.{all}
 use Rattle.integer.specs.Words.{word}
-use Rattle.integer.proofs.laws.BelowLaws.{and-true, either, lt_or_le, all_at}
+use Rattle.integer.proofs.laws.BelowLaws.{and-true, either, lt_or_le, all_at, all_of, all_fails}
 use Rattle.integer.proofs.laws.CountLaws.{any_at, any_none}
 use Rattle.rulebook.specs.Units.{last_day}
 use Rattle.rulebook.proofs.laws.TestLaws.{and_left, and_right, and_both, tests_same, all_yes, all_at as all-holds}
@@ -69,20 +74,19 @@ module _ (holidays : List ℤ) where
       day : T (all (length holidays) (in_place holidays)) → (i : ℕ) → i < length holidays → T (is_day (word holidays i))
       day t i l = and_left (is_day (word holidays i)) (is_later holidays i) (all-holds (length holidays) (in_place holidays) t i l)
 
+-- what is asked of each entry and the next is asked of each
+pub sorted_ascends : (holidays : List ℤ) (r : Bool) → IsAllAdjacentAnswer (λ x y b. b ≡ lt_z x y) holidays r → r ≡ all (length holidays) (is_later holidays)
+sorted_ascends holidays true h = sym (all_of (length holidays) (is_later holidays) later)
+  where
+    later : (i : ℕ) → i < length holidays → is_later holidays i ≡ true
+    later zero l = refl
+    later (suc i) l = let z : eqb (suc i) 0 ≡ false = ne_eqb (suc i) 0 (λ e. omega arith) in let j : suc i - 1 ≡ i = omega arith in rw (z, j) (sym (rw (add-one i) at (h i (pos 0) (omega arith))))
+sorted_ascends holidays false (i, l, e) =
+    let z : eqb (i + 1) 0 ≡ false = ne_eqb (i + 1) 0 (λ q. omega arith) in
+    let j : i + 1 - 1 ≡ i = omega arith in
+    sym (all_fails (length holidays) (is_later holidays) (i + 1) l (rw (z, j) (sym (e (pos 0)))))
+
 -- ---- The index that parts a list
-
--- `FirstFrom` with the entries from low to high yet to be looked at
-pub record Bracket (holidays : List ℤ) (d low high : ℕ) : Type 0 where
-  pub ordered : low ≤ high
-  pub within : high ≤ length holidays
-  pub below : (k : ℕ) → k < low → entry_at holidays k < d
-  pub above : (k : ℕ) → high ≤ k → k < length holidays → d ≤ entry_at holidays k
-
-pub bracket_start : (holidays : List ℤ) (d : ℕ) → Bracket holidays d 0 (length holidays)
-bracket_start holidays d = record { ordered = omega arith; within = omega arith; below = λ k l. absurd (not-suc-le-zero l); above = λ k h l. absurd (omega arith) }
-
-pub bracket_end : (holidays : List ℤ) (d low high : ℕ) → Bracket holidays d low high → high ≤ low → FirstFrom holidays d low
-bracket_end holidays d low high b h = record { within = omega (arith, b.ordered, b.within); below = b.below; above = λ k l m. b.above k (omega (arith, b.ordered)) m }
 
 pos-below : (a b : ℕ) → lt_z (pos a) (pos b) ≡ true → a < b
 pos-below a b e = ltb-true a b e
@@ -152,10 +156,26 @@ module _ (holidays : List ℤ) (proper : is_proper holidays ≡ true) where
         (λ n. let j : entry_at holidays k ≡ entry_at holidays r = ap (entry_at holidays) (omega arith) in omega (arith, f.above r (omega arith) (omega arith), h (omega arith))) (lt_or_le r k);
   }
 
-  -- the entry at m settles all on one side of it
-  module _ (d low high m : ℕ) (b : Bracket holidays d low high) (l : low ≤ m) (h : m < high) where
-    pub bracket_up : entry_at holidays m < d → Bracket holidays d (m + 1) high
-    bracket_up e = record { ordered = omega arith; within = b.within; below = λ k q. ⊎_elim (λ n. omega (arith, entries-ascend k m n (omega (arith, b.within)))) (λ n. let j : entry_at holidays k ≡ entry_at holidays m = ap (entry_at holidays) (omega arith) in omega arith) (lt_or_le k m); above = b.above }
+  -- one day further on, by the test whether the day is listed
+  pub next_day : (d r : ℕ) → FirstFrom holidays d r → FirstFrom holidays (d + 1) (r + from_bool (is_listed holidays d))
+  next_day d r f = ⊎_elim here none (lt_or_le r (length holidays))
+    where
+      here : r < length holidays → FirstFrom holidays (d + 1) (r + from_bool (is_listed holidays d))
+      here l =
+          ⊎_elim (λ e. let y = sym (listed-is d r f l) ∙ e in rw y (next_up d r f l (eqb-true (entry_at holidays r) d e)))
+          (λ e. let n = sym (listed-is d r f l) ∙ e in rw (n, add-zero) (next_same d r f (λ k. eqb-false (entry_at holidays r) d e)))
+          (either (eqb (entry_at holidays r) d))
 
-    pub bracket_down : d ≤ entry_at holidays m → Bracket holidays d low m
-    bracket_down e = record { ordered = l; within = omega (arith, b.within); below = b.below; above = λ k q r. ⊎_elim (λ n. omega (arith, entries-ascend m k n r)) (λ n. let j : entry_at holidays k ≡ entry_at holidays m = ap (entry_at holidays) (omega arith) in omega arith) (lt_or_le m k) }
+      none : length holidays ≤ r → FirstFrom holidays (d + 1) (r + from_bool (is_listed holidays d))
+      none h = rw (none_listed d r f h, add-zero) (next_same d r f (λ k. absurd (omega arith)))
+
+  -- entries that ascend are parted by the test whether they lie before a day
+  pub parted : (d : ℕ) → IsPartitionedBy (λ z. ltb (positive z) d) holidays
+  parted d = IsPartitionedBy-ltb positive holidays d (IsNonDecreasingBy-from_default positive holidays (pos 0) (λ i j h l. ⊎_elim (λ k. omega (arith, entries-ascend i j k l)) (λ k. let e : entry_at holidays i ≡ entry_at holidays j = ap (entry_at holidays) (omega arith) in omega arith) (lt_or_le i j)))
+
+  pub first_from : (d r : ℕ) → r ≤ length holidays → IsPartitionPoint (λ z. ltb (positive z) d ≡ true) (λ z. ltb (positive z) d ≡ false) holidays r → FirstFrom holidays d r
+  first_from d r h p = record {
+    within = h;
+    below = λ k l. ltb-true (entry_at holidays k) d (p.0 k (pos 0) (omega arith) l);
+    above = λ k l m. ltb-false (entry_at holidays k) d (p.1 k (pos 0) l m);
+  }

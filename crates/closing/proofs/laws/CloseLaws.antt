@@ -1,11 +1,10 @@
 -- The promise of a close, answer by answer. Assumes nothing.
-use Rattle.std.specs.Prelude.{◌≡◌, true, false, List, ℕ, ◌+◌, ◌≤◌, ◌<◌, ltb, ℤ, length}
+use Rattle.std.specs.Prelude.{◌≡◌, true, false, List, ℕ, ◌+◌, ◌≤◌, ◌<◌, ltb, ℤ, length, Some, None, Ok, Err}
 use Rattle.std.proofs.Common.{sym, ◌∙◌}
 use Rattle.std.proofs.Math.Path.{ap}
 use borrow.Author.Tests.{lt-ltb, le-ltb}
-use Rattle.integer.specs.declared.Found.TheVariants.{At, Nothing}
 use Rattle.rulebook.specs.declared.Terms.{Terms}
-use Rattle.rulebook.specs.declared.CloseAnswer.TheVariants.{Closed, BookIllFormed, Finished, NoRoom, DatumMissing}
+use Rattle.rulebook.specs.declared.CloseError.TheVariants.{BookIllFormed, Finished, NoRoom, DatumMissing}
 use Rattle.rulebook.specs.Units.{last_day}
 use Rattle.rulebook.specs.BookData.{next_day}
 use Rattle.rulebook.specs.WellFormed.{well_formed}
@@ -23,7 +22,7 @@ module _ (w st : List ℤ) where
     statement_after = ap (λ (c : Closing). c.statement) (sym e);
   }
 
-  pub ill_formed : well_formed w ≡ false → ClosePromise w st BookIllFormed w st
+  pub ill_formed : well_formed w ≡ false → ClosePromise w st (Err BookIllFormed) w st
   unfolding closed
   ill_formed e = kept (rw e)
 
@@ -36,18 +35,18 @@ module _ (w st : List ℤ) where
     unfolding closed
     closing-is = rw f.formed (ap (λ (x : Terms). closing x (next_day w)) f.terms ∙ ap (closing o) f.next)
 
-    pub finished : last_day < D → ClosePromise w st Finished w st
+    pub finished : last_day < D → ClosePromise w st (Err Finished) w st
     finished h = kept (closing-is ∙ rw (lt-ltb last_day D h))
 
     module _ (left : D ≤ last_day) where
-      pub no_room : length st < o.accounts + 1 → ClosePromise w st NoRoom w st
+      pub no_room : length st < o.accounts + 1 → ClosePromise w st (Err NoRoom) w st
       no_room h = kept (closing-is ∙ rw (le-ltb last_day D left, lt-ltb (length st) (o.accounts + 1) h))
 
       module _ (room : o.accounts + 1 ≤ length st) where
-        pub missing : (n : ℕ) → first_missing o w D ≡ At n → ClosePromise w st (DatumMissing n) w st
+        pub missing : (n : ℕ) → first_missing o w D ≡ Some n → ClosePromise w st (Err (DatumMissing n)) w st
         unfolding settled
         missing n e = kept (closing-is ∙ rw (le-ltb last_day D left, le-ltb (length st) (o.accounts + 1) room, e))
 
-        pub accepted : first_missing o w D ≡ Nothing → ClosePromise w st (Closed (close_figures o D)) (day_closed o w D) (statement_written o w D st)
+        pub accepted : first_missing o w D ≡ None → ClosePromise w st (Ok (close_figures o D)) (day_closed o w D) (statement_written o w D st)
         unfolding settled
         accepted e = kept (closing-is ∙ rw (le-ltb last_day D left, le-ltb (length st) (o.accounts + 1) room, e))

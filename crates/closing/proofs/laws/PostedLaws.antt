@@ -1,14 +1,12 @@
 -- The amount posted from two slots is the rule book's. Assumes nothing.
-use Rattle.std.specs.Prelude.{◌≡◌, refl, Bool, true, false, cond, List, ℕ, ◌≤◌, ◌<◌, T, ℤ, pos, get_or}
+use Rattle.std.specs.Prelude.{◌≡◌, refl, Bool, true, false, cond, List, ℕ, ◌≤◌, ◌<◌, T, ℤ, pos, Some, None, option_map}
 use Rattle.std.proofs.Math.Path.{sym, ap}
 use Rattle.std.proofs.Common.{◌∙◌}
-use Rattle.integer.specs.Below.{sum_ℕ}
 use Rattle.integer.proofs.laws.BelowLaws.{sum_ℤ-cong}
 use Rattle.rulebook.specs.declared.Terms.{Terms}
-use Rattle.rulebook.specs.declared.Edition.{Edition}
 use Rattle.rulebook.specs.Units.{last_day, intervals}
-use Rattle.rulebook.specs.Shares.{share_by}
-use Rattle.rulebook.specs.DayAmount.{spare_generation, residual_load, rvq, residual_amount, settles_residual, residual_day, edition_of, interval_amount, exact_amount, in_cents, posted_amount}
+use Rattle.rulebook.specs.DayAmount as rule
+use Rattle.rulebook.specs.DayAmount.{spare_generation, residual_load, rvq, settles_residual, residual_day, edition_of, interval_amount, exact_amount, in_cents, posted_amount}
 use Rattle.rulebook.specs.Layout.{interval_of}
 use Rattle.rulebook.specs.BookData.{book_data, terms_of, next_day}
 use Rattle.rulebook.specs.WellFormed.{well_formed}
@@ -17,14 +15,11 @@ use Rattle.rulebook.specs.Bounds.{SizedDay}
 use Rattle.rulebook.proofs.laws.SecondShareLaws.{edition-by}
 use Rattle.rulebook.proofs.laws.AmountLaws.{SameFigures, vesting-same, residual-same}
 use Rattle.rulebook.proofs.laws.BookSizeLaws.{close-sized}
-use Rattle.amounts.specs.declared.interval.ResidualAndSpare.{ResidualAndSpare}
-use Rattle.amounts.specs.declared.shares.DayShares.{DayShares}
 use Rattle.amounts.specs.Cell.{cell_data}
 use Rattle.amounts.proofs.laws.CellLaws.{sum_cong}
 use Rattle.amounts.specs.Interval.{load_in, data_in}
-use Rattle.amounts.specs.Day.{cell_at, residuals_of, no_residuals, shares_in, cell_residual, slot_amount, total_to, shares_posted, slot_posted}
-use Rattle.amounts.proofs.laws.DayLaws.{residual-in, share_in_lem}
-use Rattle.closing.specs.Slots.{slot_words, then_day, residuals_due}
+use Rattle.amounts.specs.Day.{cell_at, sum_in, share_in, cell_residual, residual_amount, slot_amount, total_to, slot_posted}
+use Rattle.closing.specs.Slots.{slot_words, settled_day, then_of, settled_then}
 use Rattle.closing.proofs.laws.SlotDataLaws.{load_same, cell-alike}
 
 -- ---- One interval
@@ -38,58 +33,39 @@ module _ (o : Terms) (w : List ℤ) (a : ℕ) (ha : a < o.accounts) where
     alike b hb = cell-alike o w d b i hb hi (sized b i hb hi).few
 
     -- an account's share of the slot is the rule book's, of R and S of the interval
-    share-same : (e : Edition) → rvq (load_in interval) o.accounts (data_in interval) e a
-        ≡ get_or (shares_in true e o.accounts (slot_words o w d) (residuals_of o.accounts (slot_words o w d)) a).kwh i 0
-    unfolding rvq spare_generation
-    share-same e =
-        edition-by e (residual_load (load_in interval) o.accounts (data_in interval)) o.accounts (λ b. (data_in interval b).uegq) a
-        ∙ ap (λ (r : ResidualAndSpare). share_by e r.load r.spare (sum_ℕ a (λ b. (data_in interval b).uegq)) (data_in interval a).uegq) (sym (residual-in o.accounts (slot_words o w d) i hi))
-        ∙ sym (share_in_lem e o.accounts (slot_words o w d) (residuals_of o.accounts (slot_words o w d)) a i hi)
+    share-same : rvq (load_in interval) o.accounts (data_in interval) (edition_of o d) a ≡ share_in (then_of o w d) a i
+    unfolding rvq spare_generation share_in sum_in
+    share-same = edition-by (edition_of o d) (residual_load (load_in interval) o.accounts (data_in interval)) o.accounts (λ b. (data_in interval b).uegq) a
 
     -- the residual amount of the book's data is that of the slot's cell, of its share
-    slot-residual : (e : Edition) → residual_amount ((book_data o w).load d i) o.accounts (λ b. (book_data o w).account b d i) e a
-        ≡ cell_residual (cell_at o.accounts (slot_words o w d) a i) (get_or (shares_in true e o.accounts (slot_words o w d) (residuals_of o.accounts (slot_words o w d)) a).kwh i 0)
-    unfolding residual_amount
-    slot-residual e =
-        residual-same ((book_data o w).load d i) o.accounts (λ b. (book_data o w).account b d i) (data_in interval) alike e a ha
-        ∙ ap (λ (l : ℕ). residual_amount l o.accounts (data_in interval) e a) (load_same o w d i hi)
-        ∙ ap (cell_residual (cell_at o.accounts (slot_words o w d) a i)) (share-same e)
+    slot-residual : rule.residual_amount ((book_data o w).load d i) o.accounts (λ b. (book_data o w).account b d i) (edition_of o d) a ≡ residual_amount (Some (then_of o w d)) a i
+    unfolding rule.residual_amount residual_amount
+    slot-residual =
+        residual-same ((book_data o w).load d i) o.accounts (λ b. (book_data o w).account b d i) (data_in interval) alike (edition_of o d) a ha
+        ∙ ap (λ (l : ℕ). rule.residual_amount l o.accounts (data_in interval) (edition_of o d) a) (load_same o w d i hi)
+        ∙ ap (cell_residual (cell_at o.accounts (slot_words o w d) a i)) share-same
 
   -- ---- The day
 
   module _ (D : ℕ) (now : SizedDay o.accounts (book_data o w) D) (then : T (settles_residual o D) → SizedDay o.accounts (book_data o w) (residual_day o D)) where
-    amount-same : (i : ℕ) → i < intervals
-        → slot_amount o.accounts (slot_words o w D) (slot_words o w (then_day o D)) (settles_residual o D)
-        (shares_in (settles_residual o D) (edition_of o (then_day o D)) o.accounts (slot_words o w (then_day o D)) (residuals_due o w D) a) a i
-        ≡ interval_amount o (book_data o w) a D i
-    unfolding slot_amount interval_amount then_day residuals_due
+    amount-same : (i : ℕ) → i < intervals → slot_amount o.accounts (slot_words o w D) (settled_then o w D) a i ≡ interval_amount o (book_data o w) a D i
+    unfolding slot_amount interval_amount settled_day residual_amount
     amount-same i hi = sum_cong (sym (vesting-same ((book_data o w).account a D i) (cell_data (cell_at o.accounts (slot_words o w D) a i)) alike)) (go (settles_residual o D) then)
       where
         alike : SameFigures ((book_data o w).account a D i) (cell_data (cell_at o.accounts (slot_words o w D) a i))
         alike = cell-alike o w D a i ha hi (now a i ha hi).few
 
-        then_day_lem : Bool → ℕ
-        then_day_lem b = cond b (residual_day o D) D
-
-        then_words : Bool → List ℤ
-        then_words b = slot_words o w (then_day_lem b)
-
-        day-shares : Bool → DayShares
-        day-shares b = shares_in b (edition_of o (then_day_lem b)) o.accounts (then_words b) (cond b (residuals_of o.accounts (then_words b)) no_residuals) a
-
         go : (b : Bool) → (T b → SizedDay o.accounts (book_data o w) (residual_day o D))
-            → cond b (cell_residual (cell_at o.accounts (then_words b) a i) (get_or (day-shares b).kwh i 0)) (pos 0)
-            ≡ cond b (residual_amount ((book_data o w).load (residual_day o D) i) o.accounts (λ b. (book_data o w).account b (residual_day o D) i) (edition_of o (residual_day o D)) a) (pos 0)
-        go true s = sym (slot-residual (residual_day o D) (s tt) i hi (edition_of o (residual_day o D)))
+            → residual_amount (option_map (then_of o w) (cond b (Some (residual_day o D)) None)) a i
+            ≡ cond b (rule.residual_amount ((book_data o w).load (residual_day o D) i) o.accounts (λ b. (book_data o w).account b (residual_day o D) i) (edition_of o (residual_day o D)) a) (pos 0)
+        go true s = sym (slot-residual (residual_day o D) (s tt) i hi)
         go false s = refl
 
-    slots-posted : slot_posted (edition_of o (then_day o D)) o.accounts (slot_words o w D) (slot_words o w (then_day o D)) (settles_residual o D) (residuals_due o w D) a ≡ posted o w D a
-    unfolding slot_posted shares_posted total_to posted posted_amount exact_amount
+    slots-posted : slot_posted o.accounts (slot_words o w D) (settled_then o w D) a ≡ posted o w D a
+    unfolding slot_posted total_to posted posted_amount exact_amount
     slots-posted = ap in_cents (sum_ℤ-cong intervals _ _ amount-same)
 
 module _ (w : List ℤ) (t : T (well_formed w)) (left : next_day w ≤ last_day) where
   pub slot-posted_same : (a : ℕ) → a < (terms_of w).accounts
-      → slot_posted (edition_of (terms_of w) (then_day (terms_of w) (next_day w))) (terms_of w).accounts (slot_words (terms_of w) w (next_day w)) (slot_words (terms_of w) w (then_day (terms_of w) (next_day w)))
-      (settles_residual (terms_of w) (next_day w)) (residuals_due (terms_of w) w (next_day w)) a
-      ≡ posted (terms_of w) w (next_day w) a
+      → slot_posted (terms_of w).accounts (slot_words (terms_of w) w (next_day w)) (settled_then (terms_of w) w (next_day w)) a ≡ posted (terms_of w) w (next_day w) a
   slot-posted_same a ha = slots-posted (terms_of w) w a ha (next_day w) (close-sized w t left).now (close-sized w t left).then

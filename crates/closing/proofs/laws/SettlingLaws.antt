@@ -1,18 +1,17 @@
 -- A book whose next close is accepted: what the code writes is what the rule book says. Assumes nothing.
-use Rattle.std.specs.Prelude.{◌≡◌, true, List, ◌++◌, ℕ, ◌+◌, ◌≤◌, ◌<◌, ◌^◌, T, ℤ, pos, neg_ℤ, ◌+ℤ◌, length, drop}
+use Rattle.std.specs.Prelude.{◌≡◌, refl, true, List, ◌∷◌, ◌++◌, ℕ, zero, suc, ◌+◌, ◌-◌, ◌≤◌, ◌<◌, ◌^◌, T, ℤ, pos, neg_ℤ, ◌+ℤ◌, length, take, drop, replicate, None}
 use Rattle.std.proofs.Common.{sym, ◌∙◌, subst, zero-add, arith}
 use Rattle.std.proofs.Math.Path.{ap}
 use Rattle.std.proofs.Math.Numerals.{add-one}
 use Rattle.std.proofs.Math.IntN.{nat_abs}
 use Rattle.std.proofs.Math.ListN.{set}
-use Rattle.integer.specs.declared.Found.TheVariants.{Nothing}
 use Rattle.integer.specs.Below.{sum_ℤ, tabulate}
 use Rattle.integer.proofs.laws.BelowLaws.{sum_ℤ-cong}
 use Rattle.integer.specs.Words.{word, filled, on_part}
 use Rattle.rulebook.specs.declared.Terms.{Terms}
 use Rattle.rulebook.specs.Units.{last_day}
 use Rattle.rulebook.specs.Terms.{InTerms}
-use Rattle.rulebook.specs.DayAmount.{settles_residual, residual_day, edition_of, posted_amount, mssl_amount}
+use Rattle.rulebook.specs.DayAmount.{settles_residual, residual_day, posted_amount, mssl_amount}
 use Rattle.rulebook.specs.Layout.{stored, size, base, mssl_word, next_day_word, balance_word, slot_length, slot_start}
 use Rattle.rulebook.specs.BookData.{book_data, terms_of, next_day}
 use Rattle.rulebook.specs.WellFormed.{well_formed, day_bound}
@@ -23,19 +22,27 @@ use Rattle.rulebook.proofs.laws.ListLaws.{tabulate-cong}
 use Rattle.rulebook.proofs.laws.CloseLaws.{grown-cong}
 use Rattle.rulebook.proofs.laws.BeyondLaws.{statement-beyond, statement-amount, statement-mssl}
 use Rattle.rulebook.proofs.laws.WordLaws.{length-stored, stored-in}
-use Rattle.amounts.specs.Day.{DaysRanged, LoadsRanged, slot_posted}
-use Rattle.closing.specs.Slots.{slot_words, then_day, residuals_due}
+use Rattle.amounts.specs.Day.{SlotRanged, slot_posted}
+use Rattle.closing.specs.Slots.{slot_words, settled_then}
 use Rattle.closing.proofs.laws.SlotsLaws.{slot-sized}
 use Rattle.closing.proofs.laws.PostedLaws.{slot-posted_same}
-use Rattle.closing.proofs.laws.SlotRangedLaws.{days-ranged, loads-ranged}
+use Rattle.closing.proofs.laws.SlotRangedLaws.{today-ranged, settled-ranged}
 use Rattle.closing.specs.Written.{Small, Settling, StatementOf, BalancesRoom, with_mssl}
 use Rattle.closing.proofs.laws.WrittenLaws.{grown-header}
 
--- r's slot, lent to be cleared
+-- what a slice filled with zeros holds
+zeros : (n : ℕ) → replicate n (pos 0) ≡ tabulate n (λ m. pos 0)
+unfolding tabulate
+zeros zero = refl
+zeros (suc n) = ap (λ (xs : List ℤ). pos 0 ∷ xs) (zeros n)
+
+-- r's slot, lent to be filled so
 pub slot-blanked : (o : Terms) (D : ℕ) (v : List ℤ) {a n : ℕ} → InTerms o → size o ≤ length v → settles_residual o D ≡ true → a ≡ slot_start o (residual_day o D) → n ≡ slot_length o.accounts
-    → on_part a (a + n) (λ p. tabulate (length p) (λ m. pos 0)) v ≡ slot_blanked o D v
+    → on_part a (a + n) (λ p. replicate (length p) (pos 0)) v ≡ slot_blanked o D v
 unfolding slot_blanked
-slot-blanked o D v {a} {n} h l due start words = rw (due, start, words) (sym (stored-part v (slot_start o (residual_day o D)) (slot_length o.accounts) (λ m. pos 0) (omega (arith, slot-sized o (residual_day o D) h))))
+slot-blanked o D v {a} {n} h l due start words =
+    rw (due, start, words, zeros (length (take (slot_start o (residual_day o D) + slot_length o.accounts - slot_start o (residual_day o D)) (drop (slot_start o (residual_day o D)) v))))
+    (sym (stored-part v (slot_start o (residual_day o D)) (slot_length o.accounts) (λ m. pos 0) (omega (arith, slot-sized o (residual_day o D) h))))
 
 module _ (w : List ℤ) (o : Terms) (D : ℕ) (s : Settling w o D) where
   formed : T (well_formed w)
@@ -48,23 +55,17 @@ module _ (w : List ℤ) (o : Terms) (D : ℕ) (s : Settling w o D) where
   left : next_day w ≤ last_day
   left = omega (arith, s.book.next, s.left)
 
-  -- the slots that it reads are in range, and R of each interval of r
-  pub settling_ranged : DaysRanged o.accounts (slot_words o w D) (slot_words o w (then_day o D)) (settles_residual o D)
-  settling_ranged =
-      days-ranged_at s.none
-    where
-      days-ranged_at : first_missing o w D ≡ Nothing → DaysRanged o.accounts (slot_words o w D) (slot_words o w (then_day o D)) (settles_residual o D)
-      days-ranged_at =
-          at (λ (o : Terms) (D : ℕ). first_missing o w D ≡ Nothing → DaysRanged o.accounts (slot_words o w D) (slot_words o w (then_day o D)) (settles_residual o D))
-          (days-ranged w formed left)
+  -- the slots that it reads are in range
+  pub today_ranged : SlotRanged o.accounts (slot_words o w D)
+  today_ranged = at (λ (o : Terms) (D : ℕ). first_missing o w D ≡ None → SlotRanged o.accounts (slot_words o w D)) (today-ranged w formed left) s.none
 
-  pub settling_loads : LoadsRanged (residuals_due o w D)
-  settling_loads = at (λ (o : Terms) (D : ℕ). LoadsRanged (residuals_due o w D)) (loads-ranged w formed left)
+  pub settled_ranged : settles_residual o D ≡ true → SlotRanged o.accounts (slot_words o w (residual_day o D))
+  settled_ranged e = at (λ (o : Terms) (D : ℕ). T (settles_residual o D) → SlotRanged o.accounts (slot_words o w (residual_day o D))) (settled-ranged w formed left) (subst T (sym e) tt)
 
   -- the amounts posted are the rule book's
-  pub settling_posted : (a : ℕ) → a < o.accounts → slot_posted (edition_of o (then_day o D)) o.accounts (slot_words o w D) (slot_words o w (then_day o D)) (settles_residual o D) (residuals_due o w D) a ≡ posted o w D a
+  settling_posted : (a : ℕ) → a < o.accounts → slot_posted o.accounts (slot_words o w D) (settled_then o w D) a ≡ posted o w D a
   settling_posted =
-      at (λ (o : Terms) (D : ℕ). (a : ℕ) → a < o.accounts → slot_posted (edition_of o (then_day o D)) o.accounts (slot_words o w D) (slot_words o w (then_day o D)) (settles_residual o D) (residuals_due o w D) a ≡ posted o w D a)
+      at (λ (o : Terms) (D : ℕ). (a : ℕ) → a < o.accounts → slot_posted o.accounts (slot_words o w D) (settled_then o w D) a ≡ posted o w D a)
       (slot-posted_same w formed left)
 
   sized : (a : ℕ) → a < o.accounts → nat_abs (posted o w D a) ≤ day_bound
@@ -76,7 +77,7 @@ module _ (w : List ℤ) (o : Terms) (D : ℕ) (s : Settling w o D) where
   module _ (st : List ℤ) (room : o.accounts + 1 ≤ length st) where
     -- the amounts written
     abbrev amounts : List ℤ
-    amounts = filled o.accounts (slot_posted (edition_of o (then_day o D)) o.accounts (slot_words o w D) (slot_words o w (then_day o D)) (settles_residual o D) (residuals_due o w D)) st
+    amounts = filled o.accounts (slot_posted o.accounts (slot_words o w D) (settled_then o w D)) st
 
     amounts-same : amounts ≡ stored st 0 o.accounts (posted o w D)
     amounts-same = ap (λ (xs : List ℤ). xs ++ drop o.accounts st) (tabulate-cong o.accounts _ _ settling_posted) ∙ sym (stored-filled st o.accounts (posted o w D) (omega arith))

@@ -1,11 +1,8 @@
 -- The slots of a well-formed book's days are in range where their meter rows are there, and so are those that a close reads. Assumes nothing.
-use Rattle.std.proofs.Math.Path.{◌≡◌, sym}
-use Rattle.std.specs.Prelude.{refl, Bool, cond, not, List, ℕ, ◌+◌, ◌-◌, ◌*◌, ◌≤◌, ◌<◌, T, ℤ, pos, length}
+use Rattle.std.proofs.Math.Path.{◌≡◌}
+use Rattle.std.specs.Prelude.{refl, not, List, ℕ, ◌+◌, ◌-◌, ◌*◌, ◌≤◌, ◌<◌, T, ℤ, pos, length, None}
 use Rattle.std.proofs.Common.{ap, ◌∙◌, subst, ⊎_elim, arith}
-use Rattle.std.proofs.Math.Bool.{true, false}
-use Rattle.std.proofs.Math.IntN.{nat_abs}
-use Rattle.std.proofs.lemmas.List.{get_or-replicate}
-use Rattle.integer.specs.declared.Found.TheVariants.{Nothing}
+use Rattle.std.proofs.Math.Bool.{true}
 use Rattle.integer.specs.Below.{all}
 use Rattle.integer.proofs.laws.BelowLaws.{lt_or_le}
 use Rattle.integer.specs.Words.{word}
@@ -14,7 +11,6 @@ use Rattle.rulebook.specs.declared.Section.TheVariants.{Meter}
 use Rattle.rulebook.specs.declared.Kind.{Kind}
 use Rattle.rulebook.specs.declared.Kind.TheVariants.{Quantity, Load}
 use Rattle.rulebook.specs.Units.{last_day, between, in_range, positive, intervals}
-use Rattle.rulebook.specs.Shares.{least_residual}
 use Rattle.rulebook.specs.Sections.{kind_of, accounts_of, Figure, BVQ, TVQ, UEGQ, MQ, NccLoad, figure_section, figure_place}
 use Rattle.rulebook.specs.DayAmount.{settles_residual, residual_day}
 use Rattle.rulebook.specs.Layout.{width, word_name, figure_index, flag_index, flag_word, cell_place, account_words, interval_length, interval_of, InWindow}
@@ -34,11 +30,8 @@ use Rattle.rulebook.proofs.laws.SizeLaws.{same_sized}
 use Rattle.rulebook.proofs.laws.IndexLaws.{tender-words}
 use Rattle.rulebook.proofs.laws.SearchLaws.{needed-there}
 use Rattle.amounts.specs.Cell.{cell_data, RangedCell}
-use Rattle.amounts.specs.declared.interval.ResidualAndSpare.{ResidualAndSpare}
-use Rattle.amounts.proofs.laws.IntervalLaws.{residual-le}
-use Rattle.amounts.specs.Day.{cell_at, SlotRanged, DaysRanged, LoadsRanged, residuals_of, no_residuals}
-use Rattle.amounts.proofs.laws.DayLaws.{residual-in}
-use Rattle.closing.specs.Slots.{slot_words, then_day, residuals_due}
+use Rattle.amounts.specs.Day.{cell_at, SlotRanged}
+use Rattle.closing.specs.Slots.{slot_words}
 use Rattle.closing.proofs.laws.SlotsLaws.{slot-length, load_word, vesting-word, residual-word}
 use Rattle.closing.proofs.laws.SlotDataLaws.{cell-alike, vesting-at}
 
@@ -110,34 +103,12 @@ module _ (w : List ℤ) (t : T (well_formed w)) (d : ℕ) (inside : InWindow (te
 
 module _ (w : List ℤ) (t : T (well_formed w)) (left : next_day w ≤ last_day) where
   -- r's
-  settled-ranged : T (settles_residual (terms_of w) (next_day w)) → SlotRanged (terms_of w).accounts (slot_words (terms_of w) w (residual_day (terms_of w) (next_day w)))
+  pub settled-ranged : T (settles_residual (terms_of w) (next_day w)) → SlotRanged (terms_of w).accounts (slot_words (terms_of w) w (residual_day (terms_of w) (next_day w)))
   settled-ranged x =
       let inside = r_inside w t left x in
       slot-ranged w t (residual_day (terms_of w) (next_day w)) inside (omega arith)
       (λ a i ha hi. (formed-fit w t).meters a (residual_day (terms_of w) (next_day w)) i inside (omega (arith, (opened_of w t).lag_from, (opened_of w t).first_from, (next_of w t).1)) ha hi)
 
-  pub days-ranged : first_missing (terms_of w) w (next_day w) ≡ Nothing
-      → DaysRanged (terms_of w).accounts (slot_words (terms_of w) w (next_day w)) (slot_words (terms_of w) w (then_day (terms_of w) (next_day w))) (settles_residual (terms_of w) (next_day w))
-  unfolding then_day
-  days-ranged none = record {
-    closing = slot-ranged w t (next_day w) (D-inside w t left) left (λ a i ha hi. needed-there (terms_of w) w (next_day w) none Meter a (next_day w) i (meter_of ha) hi);
-    long = slot-length w t (then_day (terms_of w) (next_day w)) ∙ sym (slot-length w t (next_day w));
-    settled = then (settles_residual (terms_of w) (next_day w)) settled-ranged;
-  }
-    where
-      then : (b : Bool) → (T b → SlotRanged (terms_of w).accounts (slot_words (terms_of w) w (residual_day (terms_of w) (next_day w))))
-          → b ≡ true → SlotRanged (terms_of w).accounts (slot_words (terms_of w) w (cond b (residual_day (terms_of w) (next_day w)) (next_day w)))
-      then true s e = s tt
-      then false s e = let z : ◌≡◌ {A = ℕ} 0 1 = cc in absurd (omega arith)
-
-  pub loads-ranged : LoadsRanged (residuals_due (terms_of w) w (next_day w))
-  unfolding then_day residuals_due
-  loads-ranged = loads (settles_residual (terms_of w) (next_day w)) settled-ranged
-    where
-      loads : (b : Bool) → (T b → SlotRanged (terms_of w).accounts (slot_words (terms_of w) w (residual_day (terms_of w) (next_day w)))) → (i : ℕ) → i < intervals
-          → nat_abs (word (cond b (residuals_of (terms_of w).accounts (slot_words (terms_of w) w (cond b (residual_day (terms_of w) (next_day w)) (next_day w)))) no_residuals).loads i) ≤ least_residual
-      loads true s i hi =
-          let n = (terms_of w).accounts in
-          let x = slot_words (terms_of w) w (residual_day (terms_of w) (next_day w)) in
-          rw (ap (λ (r : ResidualAndSpare). r.load) (residual-in n x i hi)) (residual-le n (interval_of n x i) ((s tt).each i hi) (opened_of w t).accounts_to)
-      loads false s i hi = rw (get_or-replicate intervals i (pos 0) (pos 0) hi) (omega arith)
+  -- D's
+  pub today-ranged : first_missing (terms_of w) w (next_day w) ≡ None → SlotRanged (terms_of w).accounts (slot_words (terms_of w) w (next_day w))
+  today-ranged none = slot-ranged w t (next_day w) (D-inside w t left) left (λ a i ha hi. needed-there (terms_of w) w (next_day w) none Meter a (next_day w) i (meter_of ha) hi)

@@ -1,7 +1,8 @@
 -- Slots lie in a well-formed book, and their words are the book's. Assumes nothing.
-use Rattle.std.specs.Prelude.{◌≡◌, refl, Bool, true, false, cond, List, ℕ, ◌+◌, ◌-◌, ◌*◌, ◌≤◌, ◌<◌, T, leb, ℤ, pos, length}
+use Rattle.std.specs.Prelude.{◌≡◌, refl, Bool, true, false, cond, List, ℕ, ◌+◌, ◌*◌, ◌≤◌, ◌<◌, T, leb, ℤ, pos, length, Some, None}
 use Rattle.std.proofs.Math.Path.{sym, ap}
-use Rattle.std.proofs.Common.{◌∙◌, arith, leb→le}
+use Rattle.std.proofs.Common.{◌∙◌, arith, leb→le, subst, option_map}
+use Rattle.std.proofs.lemmas.Option.{none-some, same_Some}
 use Rattle.std.proofs.Math.Nat.{add-mul}
 use Rattle.integer.specs.Words.{word}
 use Rattle.integer.proofs.laws.WordsLaws.{row_fits_lem, length_part, get_d_part}
@@ -9,7 +10,7 @@ use Rattle.rulebook.specs.declared.Section.{Section}
 use Rattle.rulebook.specs.declared.Section.TheVariants.{Vesting, Meter, Residual, Ncc}
 use Rattle.rulebook.specs.declared.Terms.{Terms}
 use Rattle.rulebook.specs.Terms.{InTerms}
-use Rattle.rulebook.specs.DayAmount.{settles_residual}
+use Rattle.rulebook.specs.DayAmount.{settles_residual, residual_day}
 use Rattle.rulebook.specs.Layout.{width, ring, size, slot, interval_size, interval_word, row_word, place, account_words, interval_length, slot_length, slot_start, interval_of, account_place, flag_at}
 use Rattle.rulebook.specs.Units.{intervals}
 use Rattle.rulebook.specs.BookData.{terms_of}
@@ -18,9 +19,9 @@ use Rattle.rulebook.proofs.laws.LayoutLaws.{slot-inside}
 use Rattle.rulebook.proofs.laws.FormLaws.{ring-pos}
 use Rattle.rulebook.proofs.laws.FormedLaws.{formed-holds, opened_of}
 use Rattle.rulebook.proofs.laws.IndexLaws.{place-run}
-use Rattle.amounts.specs.Day.{cell_at}
+use Rattle.amounts.specs.Day.{cell_at, Then}
 use Rattle.amounts.proofs.laws.IntervalLaws.{interval-word}
-use Rattle.closing.specs.Slots.{slot_words, then_day}
+use Rattle.closing.specs.Slots.{slot_words, settled_day, settled_start, then_of, settled_then}
 
 -- ---- The slot in the book
 
@@ -28,14 +29,51 @@ pub slot-sized : (o : Terms) (d : ℕ) → InTerms o → slot_start o d + slot_l
 unfolding slot_start interval_word interval_size size
 slot-sized o d h = omega (arith, row_fits_lem (slot o d) (ring o) (slot_length o.accounts) (slot-inside o d (ring-pos o h)))
 
--- the days of a close are not before F
-pub then_late : (o : Terms) (D : ℕ) → o.first ≤ D → o.first ≤ then_day o D
-unfolding then_day settles_residual
-then_late o D h = go (leb (o.first + o.lag) D) (leb→le (o.first + o.lag) D)
-  where
-    go : (b : Bool) → (T b → o.first + o.lag ≤ D) → o.first ≤ cond b (D - o.lag) D
-    go true x = let y = x tt in omega arith
-    go false x = h
+-- ---- The day that is settled
+
+module _ (o : Terms) (D : ℕ) where
+  -- r, if it is not before F
+  pub record Settles (r : ℕ) : Type 0 where
+    pub due : settles_residual o D ≡ true
+    pub day : residual_day o D ≡ r
+    pub late : o.first ≤ r
+
+  pub settles : {r : ℕ} → settled_day o D ≡ Some r → Settles r
+  unfolding settled_day settles_residual
+  settles {r} e = go (leb (o.first + o.lag) D) refl e
+    where
+      go : (b : Bool) → leb (o.first + o.lag) D ≡ b → cond b (Some (residual_day o D)) None ≡ Some r → Settles r
+      go true b e =
+          let k = leb→le (o.first + o.lag) D (subst T (sym b) tt) in
+          let d = same_Some (residual_day o D) r e in
+          record { due = b; day = d; late = omega (arith, d) }
+      go false b e = absurd (none-some r e)
+
+  pub settles_none : settled_day o D ≡ None → settles_residual o D ≡ false
+  unfolding settled_day
+  settles_none e = go (settles_residual o D) e
+    where
+      go : (b : Bool) → cond b (Some (residual_day o D)) None ≡ None → b ≡ false
+      go true e = absurd (none-some (residual_day o D) (sym e))
+      go false e = refl
+
+  -- its slot
+  pub start-sized : InTerms o → (n : ℕ) → settled_start o D ≡ Some n → n + slot_length o.accounts ≤ size o
+  unfolding settled_day
+  start-sized h n e = go (settles_residual o D) e
+    where
+      go : (b : Bool) → option_map (slot_start o) (cond b (Some (residual_day o D)) None) ≡ Some n → n + slot_length o.accounts ≤ size o
+      go true e = omega (arith, slot-sized o (residual_day o D) h, same_Some (slot_start o (residual_day o D)) n e)
+      go false e = absurd (none-some n e)
+
+  module _ (w : List ℤ) where
+    pub then-accounts : (t : Then) → settled_then o w D ≡ Some t → t.accounts ≡ o.accounts
+    unfolding settled_day
+    then-accounts t e = go (settles_residual o D) e
+      where
+        go : (b : Bool) → option_map (then_of o w) (cond b (Some (residual_day o D)) None) ≡ Some t → t.accounts ≡ o.accounts
+        go true e = ap (λ (t : Then). t.accounts) (sym (same_Some (then_of o w (residual_day o D)) t e))
+        go false e = absurd (none-some t e)
 
 module _ (w : List ℤ) (t : T (well_formed w)) (d : ℕ) where
   slot-fits : slot_start (terms_of w) d + slot_length (terms_of w).accounts ≤ length w

@@ -1,10 +1,10 @@
 -- Lines of document 01 and others, computed from the definitions. Assumes nothing.
-use Rattle.std.specs.Prelude.{◌≡◌, refl, List, [], ◌∷◌, ℕ, pos, negsuc}
+use Rattle.std.specs.Prelude.{◌≡◌, refl, List, [], ◌∷◌, ℕ, pos, negsuc, Ok, Err}
 use Rattle.integer.specs.Integer.{minus}
-use Rattle.rulebook.specs.declared.OpenAnswer.TheVariants.{Opened, BadTerms, TooShort}
-use Rattle.rulebook.specs.declared.SubmitAnswer.TheVariants.{Taken, IllFormed, FileRefused}
+use Rattle.rulebook.specs.declared.OpenError.TheVariants.{BadTerms, TooShort}
+use Rattle.rulebook.specs.declared.SubmitError.TheVariants.{IllFormed, FileRefused}
 use Rattle.rulebook.specs.declared.Why.TheVariants.{NotWhole, Repeated}
-use Rattle.rulebook.specs.declared.CloseAnswer.TheVariants.{Closed, Finished, DatumMissing}
+use Rattle.rulebook.specs.declared.CloseError.TheVariants.{Finished, DatumMissing}
 use Rattle.rulebook.specs.Numbers.{of_open, of_submit, of_close}
 use Rattle.console.specs.Decimal.{digits_within, decimal, signed_decimal}
 use Rattle.console.specs.Lines.{spaced, line_of, answer_line, open_line, submit_line, closed_line, close_line, bad_line}
@@ -24,22 +24,22 @@ bad' rest = 98 ∷ 97 ∷ 100 ∷ 32 ∷ rest
 
 pub record LinesTold : Type 0 where
   -- number and position: `open 0 0`, `open 1 0`, `open 2 0`
-  pub opened : open_line (of_open Opened) ≡ open' (48 ∷ 32 ∷ 48 ∷ 10 ∷ [])
-  pub bad_terms : open_line (of_open BadTerms) ≡ open' (49 ∷ 32 ∷ 48 ∷ 10 ∷ [])
-  pub too_short : open_line (of_open TooShort) ≡ open' (50 ∷ 32 ∷ 48 ∷ 10 ∷ [])
+  pub opened : open_line (of_open (Ok tt)) ≡ open' (48 ∷ 32 ∷ 48 ∷ 10 ∷ [])
+  pub bad_terms : open_line (of_open (Err BadTerms)) ≡ open' (49 ∷ 32 ∷ 48 ∷ 10 ∷ [])
+  pub too_short : open_line (of_open (Err TooShort)) ≡ open' (50 ∷ 32 ∷ 48 ∷ 10 ∷ [])
   -- `submit 0 0`, `submit 3 0`, `submit 4 6`, `submit 7 391`
-  pub taken : submit_line (of_submit Taken) ≡ submit' (48 ∷ 32 ∷ 48 ∷ 10 ∷ [])
-  pub ill_formed : submit_line (of_submit IllFormed) ≡ submit' (51 ∷ 32 ∷ 48 ∷ 10 ∷ [])
-  pub not_whole : submit_line (of_submit (FileRefused NotWhole 6)) ≡ submit' (52 ∷ 32 ∷ 54 ∷ 10 ∷ [])
-  pub repeated : submit_line (of_submit (FileRefused Repeated 391)) ≡ submit' (55 ∷ 32 ∷ 51 ∷ 57 ∷ 49 ∷ 10 ∷ [])
+  pub taken : submit_line (of_submit (Ok tt)) ≡ submit' (48 ∷ 32 ∷ 48 ∷ 10 ∷ [])
+  pub ill_formed : submit_line (of_submit (Err IllFormed)) ≡ submit' (51 ∷ 32 ∷ 48 ∷ 10 ∷ [])
+  pub not_whole : submit_line (of_submit (Err (FileRefused (record { why = NotWhole; at = 6 })))) ≡ submit' (52 ∷ 32 ∷ 54 ∷ 10 ∷ [])
+  pub repeated : submit_line (of_submit (Err (FileRefused (record { why = Repeated; at = 391 })))) ≡ submit' (55 ∷ 32 ∷ 51 ∷ 57 ∷ 49 ∷ 10 ∷ [])
   -- `close 11 76`, `close 9 0`, whatever the amounts
-  pub missing : close_line (of_close (DatumMissing 76)) [] ≡ close' (49 ∷ 49 ∷ 32 ∷ 55 ∷ 54 ∷ 10 ∷ [])
-  pub finished : close_line (of_close Finished) (pos 5 ∷ []) ≡ close' (57 ∷ 32 ∷ 48 ∷ 10 ∷ [])
+  pub missing : close_line (of_close (Err (DatumMissing 76))) [] ≡ close' (49 ∷ 49 ∷ 32 ∷ 55 ∷ 54 ∷ 10 ∷ [])
+  pub finished : close_line (of_close (Err Finished)) (pos 5 ∷ []) ≡ close' (57 ∷ 32 ∷ 48 ∷ 10 ∷ [])
   -- `close 0 9498 48 -2000 2000`: 0, day, count, amounts
-  pub closed : close_line (of_close (Closed (record { day = 9498; count = 48 }))) (negsuc 1999 ∷ pos 2000 ∷ [])
+  pub closed : close_line (of_close (Ok (record { day = 9498; count = 48 }))) (negsuc 1999 ∷ pos 2000 ∷ [])
       ≡ close' (48 ∷ 32 ∷ 57 ∷ 52 ∷ 57 ∷ 56 ∷ 32 ∷ 52 ∷ 56 ∷ 32 ∷ 45 ∷ 50 ∷ 48 ∷ 48 ∷ 48 ∷ 32 ∷ 50 ∷ 48 ∷ 48 ∷ 48 ∷ 10 ∷ [])
   -- `close 0 9497 0 0 -7 7`: two accounts, and the MSSL
-  pub closed_first : close_line (of_close (Closed (record { day = 9497; count = 0 }))) (pos 0 ∷ minus 7 ∷ pos 7 ∷ [])
+  pub closed_first : close_line (of_close (Ok (record { day = 9497; count = 0 }))) (pos 0 ∷ minus 7 ∷ pos 7 ∷ [])
       ≡ close' (48 ∷ 32 ∷ 57 ∷ 52 ∷ 57 ∷ 55 ∷ 32 ∷ 48 ∷ 32 ∷ 48 ∷ 32 ∷ 45 ∷ 55 ∷ 32 ∷ 55 ∷ 10 ∷ [])
   -- `bad 5`, `bad 16389`
   pub bad : bad_line 5 ≡ bad' (53 ∷ 10 ∷ [])

@@ -1,6 +1,7 @@
 -- Laws of numbers as text. Assumes nothing.
-use Rattle.std.specs.Prelude.{◌≡◌, refl, List, [], ◌∷◌, ◌++◌, ℕ, zero, suc, ◌+◌, ◌/◌, ◌%◌, ◌^◌, ◌≤◌, ◌<◌, ℤ, pos, negsuc, nat_abs, length}
-use Rattle.std.proofs.Common.{sym, ap, ◌∙◌, ⊎_elim, arith, length-append}
+use Rattle.std.specs.Prelude.{◌≡◌, refl, false, List, [], ◌∷◌, ◌++◌, ℕ, zero, suc, ◌+◌, ◌/◌, ◌%◌, ◌^◌, ◌≤◌, ◌<◌, ℤ, pos, negsuc, nat_abs, length}
+use Rattle.std.specs.Fmt.{digits, digits_onto, decimal as Fmt·decimal, signed_decimal as Fmt·signed_decimal}
+use Rattle.std.proofs.Common.{sym, ap, ◌∙◌, ⊎_elim, arith, length-append, append-nil, append_assoc, ne_eqb}
 use borrow.Author.Tests.{lt-ltb, le-ltb}
 use Rattle.integer.proofs.laws.BelowLaws.{lt_or_le}
 use Rattle.integer.specs.Integer.{negative}
@@ -74,3 +75,31 @@ pub length-signed : (z : ℤ) → nat_abs z ≤ 2 ^ 63 → length (signed_decima
 unfolding signed_decimal
 length-signed (pos n) h = let m = length-magnitude n h in omega arith
 length-signed (negsuc n) h = let m = length-magnitude (suc n) h in omega arith
+
+-- ---- The library's text of a number is this one
+
+module _ (k n : ℕ) (rest : List ℕ) where
+  onto-small : n < 10 → digits_onto (suc k) 10 false n rest ≡ decimal n ++ rest
+  onto-small h =
+      let q : n / 10 ≡ 0 = omega arith in
+      let r : n % 10 ≡ n = omega arith in
+      rw (q, r, lt-ltb n 10 h, decimal-small n h) refl
+
+  onto-large : 10 ≤ n → digits_onto (suc k) 10 false (n / 10) (digit (n % 10) ∷ rest) ≡ decimal (n / 10) ++ (digit (n % 10) ∷ rest)
+      → digits_onto (suc (suc k)) 10 false n rest ≡ decimal n ++ rest
+  onto-large h e =
+      rw (ne_eqb (n / 10) 0 (omega arith), lt-ltb (n % 10) 10 (omega arith), e, decimal-large n h) (sym (append_assoc (decimal (n / 10)) (digit (n % 10) ∷ []) rest))
+
+onto : (k n : ℕ) (rest : List ℕ) → n < 10 ^ suc k → digits_onto (suc k) 10 false n rest ≡ decimal n ++ rest
+onto zero n rest h = onto-small 0 n rest (omega arith)
+onto (suc k) n rest h =
+    ⊎_elim (onto-small (suc k) n rest) (λ l. onto-large k n rest l (onto k (n / 10) (digit (n % 10) ∷ rest) (omega arith))) (lt_or_le n 10)
+
+pub decimal-is : (n : ℕ) → n < 2 ^ 64 → Fmt·decimal n ≡ decimal n
+unfolding digits
+decimal-is n h = onto 63 n [] (omega arith) ∙ append-nil (decimal n)
+
+pub signed-is : (z : ℤ) → nat_abs z ≤ 2 ^ 63 → Fmt·signed_decimal z ≡ signed_decimal z
+unfolding signed_decimal
+signed-is (pos n) h = decimal-is n (omega arith)
+signed-is (negsuc n) h = ap (λ (t : List ℕ). 45 ∷ t) (decimal-is (suc n) (omega arith))

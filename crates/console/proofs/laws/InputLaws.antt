@@ -1,13 +1,13 @@
 -- Laws of the input: what each test tells of an item. Assumes nothing.
-use Rattle.std.specs.Prelude.{◌≡◌, refl, Bool, true, false, cond, ◌&&◌, List, ℕ, ◌+◌, ◌≤◌, ◌<◌, eqb, leb, length, get_or}
-use Rattle.std.proofs.Common.{sym, ap, subst, ◌∙◌, ⊎_elim, arith}
+use Rattle.std.specs.Prelude.{◌≡◌, refl, Bool, true, false, cond, ◌&&◌, List, ℕ, ◌+◌, ◌≤◌, ◌<◌, eqb, leb, length, get_or, Some, None, ◌⊎◌}
+use Rattle.std.proofs.Common.{sym, ap, subst, ◌∙◌, ⊎_elim, inl, inr, arith}
 use Rattle.std.proofs.Math.Bool.{and-false}
 use borrow.Author.Tests.{eqb-true, eqb-false, leb-true, eq-eqb, ne_eqb, le-leb, lt-leb}
 use Rattle.std.proofs.Math.ListN.{get_or-eq_default}
 use Rattle.integer.proofs.laws.BelowLaws.{lt_or_le, and-true}
 use Rattle.console.specs.declared.input.Item.{Item}
 use Rattle.console.specs.declared.input.Item.TheVariants.{Close, Submit, Bad, End}
-use Rattle.console.specs.Input.{close_command, submit_command, longest_file, file_length, file_whole, item_of, wanted}
+use Rattle.console.specs.Input.{close_command, submit_command, longest_file, file_length, allowed_length, file_whole, item_of, wanted}
 
 module _ (s : List ℕ) where
   -- ---- What an item is
@@ -69,6 +69,46 @@ module _ (s : List ℕ) where
     pub wanted-file : 3 ≤ length s → file_length s ≤ longest_file → wanted s ≡ 3 + file_length s
     unfolding wanted
     wanted-file k l = rw (eq-eqb (get_or s 0 0) submit_command h, le-leb 3 (length s) k, le-leb (file_length s) longest_file l)
+
+-- ---- A submission's length
+
+-- a length that is there and allowed
+pub record Allowed (s : List ℕ) (n : ℕ) : Type 0 where
+  pub there : 3 ≤ length s
+  pub few : file_length s ≤ longest_file
+  pub is : n ≡ file_length s
+
+pub allowed-some : (s : List ℕ) (n : ℕ) → allowed_length s ≡ Some n → Allowed s n
+allowed-some s n = by (leb 3 (length s)) (leb (file_length s) longest_file) refl refl
+  where
+    by : (a b : Bool) → leb 3 (length s) ≡ a → leb (file_length s) longest_file ≡ b → cond (a && b) (Some (file_length s)) None ≡ Some n → Allowed s n
+    by true true x y e = record { there = leb-true 3 (length s) x; few = leb-true (file_length s) longest_file y; is = cc }
+    by true false x y e = absurd (let z : ◌≡◌ {A = ℕ} 0 1 = cc in omega arith)
+    by false b x y e = absurd (let z : ◌≡◌ {A = ℕ} 0 1 = cc in omega arith)
+
+pub allowed-none : (s : List ℕ) → allowed_length s ≡ None → (length s < 3) ⊎ (longest_file < file_length s)
+allowed-none s e =
+    ⊎_elim (λ h. inl h)
+    (λ h. inr (⊎_elim (λ l. l) (λ l. absurd (let z : allowed_length s ≡ Some (file_length s) = rw (le-leb 3 (length s) h, le-leb (file_length s) longest_file l) in let y : ◌≡◌ {A = ℕ} 0 1 = cc in omega arith)) (lt_or_le longest_file (file_length s))))
+    (lt_or_le (length s) 3)
+
+-- the file is whole where so many bytes are there
+pub whole-there : (s : List ℕ) (n : ℕ) → Allowed s n → 3 + n ≤ length s → file_whole s ≡ true
+whole-there s n a h = rw (whole_is s a.there, le-leb (file_length s) longest_file a.few, le-leb (3 + file_length s) (length s) (let e = a.is in omega arith))
+
+pub whole-short : (s : List ℕ) (n : ℕ) → Allowed s n → length s < 3 + n → file_whole s ≡ false
+whole-short s n a h =
+    rw (whole_is s a.there, le-leb (file_length s) longest_file a.few, lt-leb (3 + file_length s) (length s) (let e = a.is in omega arith))
+
+pub whole-none : (s : List ℕ) → allowed_length s ≡ None → file_whole s ≡ false
+whole-none s e =
+    ⊎_elim (λ h. whole-cut s h)
+    (λ l. ⊎_elim (λ h. whole-cut s h) (λ h. rw (whole_is s h, lt-leb (file_length s) longest_file l)) (lt_or_le (length s) 3))
+    (allowed-none s e)
+
+pub wanted-none_allowed : (s : List ℕ) → get_or s 0 0 ≡ submit_command → allowed_length s ≡ None → wanted s ≡ 3
+wanted-none_allowed s h e =
+    ⊎_elim (λ k. wanted-length s h k) (λ l. wanted-long s h l) (allowed-none s e)
 
 -- ---- A submission's file is there
 

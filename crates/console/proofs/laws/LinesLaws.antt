@@ -1,8 +1,11 @@
 -- Laws of lines: a line is its word and one part after another. Assumes nothing.
-use Rattle.std.specs.Prelude.{◌≡◌, refl, List, [], ◌∷◌, ◌++◌, map, ℕ, ◌+◌, ◌<◌, ℤ, pos, length, take}
+use Rattle.std.specs.Prelude.{◌≡◌, refl, List, [], ◌∷◌, ◌++◌, map, ℕ, ◌+◌, ◌<◌, ℤ, pos, length, take, Err}
 use Rattle.std.proofs.Common.{sym, ap, ◌∙◌, append-nil, append_assoc, add-one, take-suc}
 use Rattle.integer.specs.Words.{word}
-use Rattle.console.specs.Lines.{space, line_feed, spaced, line_of}
+use Rattle.rulebook.specs.declared.CloseError.{CloseError}
+use Rattle.rulebook.specs.declared.CloseError.TheVariants.{BookIllFormed, Finished, NoRoom, DatumMissing}
+use Rattle.rulebook.specs.Numbers.{of_close}
+use Rattle.console.specs.Lines.{space, line_feed, spaced, line_of, close_word, answer_line, close_line}
 
 -- ---- Parts
 
@@ -30,16 +33,35 @@ pub spaced-map_none : (f : ℤ → List ℕ) → spaced (map f []) ≡ []
 unfolding spaced
 spaced-map_none f = refl
 
--- ---- A line's parts, one after another
+-- ---- A line's parts, put one after another
 
-pub line-one : (w a : List ℕ) → line_of w (a ∷ []) ≡ w ++ ((space ∷ a) ++ (line_feed ∷ []))
+pub put-one : (w a : List ℕ) → (([] ++ w) ++ (space ∷ a)) ++ (line_feed ∷ []) ≡ line_of w (a ∷ [])
 unfolding line_of
-line-one w a = rw (spaced-more a [], spaced-none)
+put-one w a = rw (spaced-more a [], spaced-none) (append_assoc w (space ∷ a) (line_feed ∷ []))
 
-pub line-two : (w a b : List ℕ) → line_of w (a ∷ b ∷ []) ≡ w ++ ((space ∷ a) ++ ((space ∷ b) ++ (line_feed ∷ [])))
+pub put-two : (w a b : List ℕ) → ((([] ++ w) ++ (space ∷ a)) ++ (space ∷ b)) ++ (line_feed ∷ []) ≡ line_of w (a ∷ b ∷ [])
 unfolding line_of
-line-two w a b = rw (spaced-more a (b ∷ []), spaced-more b [], spaced-none)
+put-two w a b = rw (spaced-more a (b ∷ []), spaced-more b [], spaced-none) (rw (append_assoc, append_assoc) refl)
 
-pub line-more : (w a b c : List ℕ) (ps : List (List ℕ)) → line_of w (a ∷ b ∷ c ∷ ps) ≡ w ++ ((space ∷ a) ++ ((space ∷ b) ++ ((space ∷ c) ++ (spaced ps ++ (line_feed ∷ [])))))
+-- three numbers, then some amounts
+pub put-more : (w a b c : List ℕ) (ps : List (List ℕ)) (line : List ℕ) → line ≡ ((([] ++ w) ++ (space ∷ a)) ++ (space ∷ b)) ++ (space ∷ c)
+    → (line ++ spaced ps) ++ (line_feed ∷ []) ≡ line_of w (a ∷ b ∷ c ∷ ps)
 unfolding line_of
-line-more w a b c ps = rw (spaced-more a (b ∷ c ∷ ps), spaced-more b (c ∷ ps), spaced-more c ps)
+put-more w a b c ps line e = rw (e, spaced-more a (b ∷ c ∷ ps), spaced-more b (c ∷ ps), spaced-more c ps) (rw (append_assoc, append_assoc, append_assoc, append_assoc) refl)
+
+pub put-none : (line : List ℕ) → line ≡ line ++ spaced []
+unfolding spaced
+put-none line = sym (append-nil line)
+
+-- one amount more
+pub put-next : (f : ℤ → List ℕ) (xs : List ℤ) (i : ℕ) (start line : List ℕ) → i < length xs → line ≡ start ++ spaced (map f (take i xs))
+    → line ++ (space ∷ f (word xs i)) ≡ start ++ spaced (map f (take (i + 1) xs))
+put-next f xs i start line h e = rw (e, spaced-take f xs i h) (append_assoc start (spaced (map f (take i xs))) (space ∷ f (word xs i)))
+
+-- a close that is refused has its number and position
+pub refused-line : (e : CloseError) (amounts : List ℤ) → close_line (of_close (Err e)) amounts ≡ answer_line close_word (of_close (Err e))
+unfolding close_line
+refused-line BookIllFormed amounts = refl
+refused-line Finished amounts = refl
+refused-line NoRoom amounts = refl
+refused-line (DatumMissing at) amounts = refl

@@ -1,10 +1,8 @@
 -- Laws of sums, tests, searches and tables over the numbers below n; each has one for one more turn of its loop. Assumes nothing.
-use Rattle.std.specs.Prelude.{◌≡◌, refl, Bool, true, false, ◌&&◌, ◌⊎◌, ℕ, zero, suc, ◌+◌, ◌*◌, ◌-◌, ◌≤◌, ◌<◌, ltb, ℤ, pos, nat_abs, ◌+ℤ◌, ◌-ℤ◌, ◌*ℤ◌, ◌≤ℤ◌, length, get_or}
+use Rattle.std.specs.Prelude.{◌≡◌, refl, Bool, true, false, ◌&&◌, ◌⊎◌, ℕ, zero, suc, ◌+◌, ◌*◌, ◌-◌, ◌≤◌, ◌<◌, ltb, ℤ, pos, nat_abs, ◌+ℤ◌, ◌-ℤ◌, ◌*ℤ◌, ◌≤ℤ◌, length, get_or, Option, Some, None}
 use Rattle.std.proofs.Common.{sym, ap, ◌∙◌, inl, inr, ⊎_elim, not-suc-le-zero, le_of_suc-le-suc, suc-mul, zero-mul, add-one, arith, ltb-true, ltb-false, ext_get_or}
 use Rattle.std.proofs.Math.Bool.{and-false}
 use mathlib.Core.List.{List, [], ◌∷◌, ◌++◌, flat_map}
-use Rattle.integer.specs.declared.Found.{Found}
-use Rattle.integer.specs.declared.Found.TheVariants.{At, Nothing}
 use Rattle.integer.specs.Below.{fold, sum_ℕ, sum_ℤ, all, or_else, first, turns, tabulate, Each}
 use Rattle.integer.proofs.laws.IntegerLaws.{abs-add, parts-le, le_parts, add_parts}
 use Rattle.integer.proofs.Ring.{as_diff, diffs, ring}
@@ -203,53 +201,53 @@ all_of = fold-unit ◌&&◌ true refl
 -- ---- first
 
 -- one more turn that finds nothing
-pub first_more : (n : ℕ) (f : ℕ → Found) → first n f ≡ Nothing → f n ≡ Nothing → first (n + 1) f ≡ Nothing
+pub first_more : (n : ℕ) (f : ℕ → Option ℕ) → first n f ≡ None → f n ≡ None → first (n + 1) f ≡ None
 unfolding fold or_else
 first_more n f h t = rw (add-one, h, t)
 
 -- the turn at which it is left
-pub first_stops : (n : ℕ) (f : ℕ → Found) (i : ℕ) (x : ℕ) → i < n → first i f ≡ Nothing → f i ≡ At x → first n f ≡ At x
+pub first_stops : (n : ℕ) (f : ℕ → Option ℕ) (i : ℕ) (x : ℕ) → i < n → first i f ≡ None → f i ≡ Some x → first n f ≡ Some x
 unfolding or_else
-first_stops n f i x l h t = fold-stop or_else Nothing (At x) (λ y. refl) n f i l (rw (h, t))
+first_stops n f i x l h t = fold-stop or_else None (Some x) (λ y. refl) n f i l (rw (h, t))
 
 -- what one search after another found
-pub or_else-at : (o y : Found) (x : ℕ) → or_else o y ≡ At x → (o ≡ At x) ⊎ ((o ≡ Nothing) × (y ≡ At x))
+pub or_else-at : (o y : Option ℕ) (x : ℕ) → or_else o y ≡ Some x → (o ≡ Some x) ⊎ ((o ≡ None) × (y ≡ Some x))
 unfolding or_else
-or_else-at (At i) y x e = inl e
-or_else-at Nothing y x e = inr (refl, e)
+or_else-at (Some i) y x e = inl e
+or_else-at None y x e = inr (refl, e)
 
-pub or_else-nothing : (o y : Found) → or_else o y ≡ Nothing → (o ≡ Nothing) × (y ≡ Nothing)
+pub or_else-nothing : (o y : Option ℕ) → or_else o y ≡ None → (o ≡ None) × (y ≡ None)
 unfolding or_else
-or_else-nothing (At i) y e = absurd (let z : ◌≡◌ {A = ℕ} 0 1 = cc in omega arith)
-or_else-nothing Nothing y e = (refl, e)
+or_else-nothing (Some i) y e = absurd (let z : ◌≡◌ {A = ℕ} 0 1 = cc in omega arith)
+or_else-nothing None y e = (refl, e)
 
-pub nothing-or_else : (o y : Found) → o ≡ Nothing → y ≡ Nothing → or_else o y ≡ Nothing
+pub nothing-or_else : (o y : Option ℕ) → o ≡ None → y ≡ None → or_else o y ≡ None
 unfolding or_else
 nothing-or_else o y e f = rw e f
 
-pub or_else-right : (o : Found) → or_else o Nothing ≡ o
+pub or_else-right : (o : Option ℕ) → or_else o None ≡ o
 unfolding or_else
-or_else-right (At i) = refl
-or_else-right Nothing = refl
+or_else-right (Some i) = refl
+or_else-right None = refl
 
-pub or_else-assoc : (o y z : Found) → or_else (or_else o y) z ≡ or_else o (or_else y z)
+pub or_else-assoc : (o y z : Option ℕ) → or_else (or_else o y) z ≡ or_else o (or_else y z)
 unfolding or_else
-or_else-assoc (At i) y z = refl
-or_else-assoc Nothing y z = refl
+or_else-assoc (Some i) y z = refl
+or_else-assoc None y z = refl
 
-pub first_cong : (n : ℕ) (f g : ℕ → Found) → ((i : ℕ) → i < n → f i ≡ g i) → first n f ≡ first n g
-first_cong = fold-cong or_else Nothing
+pub first_cong : (n : ℕ) (f g : ℕ → Option ℕ) → ((i : ℕ) → i < n → f i ≡ g i) → first n f ≡ first n g
+first_cong = fold-cong or_else None
 
 -- where nothing was found no turn found any, and the converse
-pub first-nothing : (n : ℕ) (f : ℕ → Found) → first n f ≡ Nothing → (i : ℕ) → i < n → f i ≡ Nothing
-first-nothing = fold-each or_else Nothing or_else-nothing
+pub first-nothing : (n : ℕ) (f : ℕ → Option ℕ) → first n f ≡ None → (i : ℕ) → i < n → f i ≡ None
+first-nothing = fold-each or_else None or_else-nothing
 
-pub nothing-first : (n : ℕ) (f : ℕ → Found) → ((i : ℕ) → i < n → f i ≡ Nothing) → first n f ≡ Nothing
+pub nothing-first : (n : ℕ) (f : ℕ → Option ℕ) → ((i : ℕ) → i < n → f i ≡ None) → first n f ≡ None
 unfolding or_else
-nothing-first = fold-unit or_else Nothing refl
+nothing-first = fold-unit or_else None refl
 
 -- what was found was found at some turn, and at none before it
-pub first-at : (n : ℕ) (f : ℕ → Found) (x : ℕ) → first n f ≡ At x → (i : ℕ) × (i < n) × (f i ≡ At x) × ((j : ℕ) → j < i → f j ≡ Nothing)
+pub first-at : (n : ℕ) (f : ℕ → Option ℕ) (x : ℕ) → first n f ≡ Some x → (i : ℕ) × (i < n) × (f i ≡ Some x) × ((j : ℕ) → j < i → f j ≡ None)
 unfolding fold
 first-at zero f x e = absurd (let z : ◌≡◌ {A = ℕ} 0 1 = cc in omega arith)
 first-at (suc n) f x e =
@@ -258,14 +256,14 @@ first-at (suc n) f x e =
     (or_else-at (first n f) (f n) x e)
 
 -- a search in which turn 0 finds something wherever any does
-pub first-front : (n : ℕ) (f : ℕ → Found) → (f 0 ≡ Nothing → (i : ℕ) → i < suc n → f i ≡ Nothing) → first (suc n) f ≡ f 0
+pub first-front : (n : ℕ) (f : ℕ → Option ℕ) → (f 0 ≡ None → (i : ℕ) → i < suc n → f i ≡ None) → first (suc n) f ≡ f 0
 unfolding fold or_else
 first-front zero f h = refl
-first-front (suc n) f h = ap (λ (x : Found). or_else x (f (suc n))) (first-front n f (λ e i l. h e i (omega arith))) ∙ go (f 0) refl
+first-front (suc n) f h = ap (λ (x : Option ℕ). or_else x (f (suc n))) (first-front n f (λ e i l. h e i (omega arith))) ∙ go (f 0) refl
   where
-    go : (x : Found) → f 0 ≡ x → or_else x (f (suc n)) ≡ x
-    go Nothing e = h e (suc n) (omega arith)
-    go (At v) e = refl
+    go : (x : Option ℕ) → f 0 ≡ x → or_else x (f (suc n)) ≡ x
+    go None e = h e (suc n) (omega arith)
+    go (Some v) e = refl
 
 -- ---- turns
 

@@ -4,7 +4,7 @@ use Rattle.std.proofs.Common.{sym, ap, ◌∙◌, inl, inr, ⊎_elim, le_refl, m
 use Rattle.std.proofs.Math.Nat.{div-add-mod, div-eq_of_lt-le}
 use Rattle.integer.specs.Integer.{positive, negative, with_sign, minus}
 use Rattle.std.specs.Int.Signed.{quot_z, rem_z}
-use Rattle.integer.proofs.laws.IntegerLaws.{parts, parts-eq, parts-le, le_parts, add_parts, sub_parts, neg_parts, abs_neg, with_sign-abs}
+use Rattle.integer.proofs.laws.IntegerLaws.{parts, parts-eq, parts-le, le_parts, add_parts, sub_parts, neg_parts, abs_neg}
 use Rattle.integer.specs.Nearest.{nearest, IsNearest}
 pub use Rattle.integer.proofs.laws.NearestAbsLaws.{nearest-abs}
 use Rattle.integer.proofs.laws.BelowLaws.{lt_or_le}

@@ -37,13 +37,13 @@ pub overflow_add-result : goal.overflow_add-result
 overflow_add-result c =
     op_fits ◌+ℤ◌ (quotient c.args.z c.args.d c.ranges.z c.requires) (one (goal.at.overflow_add-result c).After-with_sign) (sum_fits c.args.z c.args.d c.ranges.z c.requires)
 
-pub returns-then-magnitude-d : goal.returns-then-magnitude-d
-returns-then-magnitude-d c =
+pub returns-then-unsigned_abs-d : goal.returns-then-unsigned_abs-d
+returns-then-unsigned_abs-d c =
     let m = ap nat_abs (remainder c.args.z c.args.d c.ranges.z c.requires).is in
-    (quotient c.args.z c.args.d c.ranges.z c.requires).is ∙ sym (nearest-cut c.args.z c.args.d (omega (int, c.if-magnitude-d.true, c.magnitude.ensures, m)))
+    (quotient c.args.z c.args.d c.ranges.z c.requires).is ∙ sym (nearest-cut c.args.z c.args.d (omega (int, c.if-unsigned_abs-d.true, c.unsigned_abs.ensures.value, m)))
 
-pub returns-else-magnitude-d : goal.returns-else-magnitude-d
-returns-else-magnitude-d c =
+pub returns-else-unsigned_abs-d : goal.returns-else-unsigned_abs-d
+returns-else-unsigned_abs-d c =
     let m = ap nat_abs (remainder c.args.z c.args.d c.ranges.z c.requires).is in
-    (op_holds ◌+ℤ◌ (quotient c.args.z c.args.d c.ranges.z c.requires) (one (goal.at.returns-else-magnitude-d c).After-with_sign) (sum_fits c.args.z c.args.d c.ranges.z c.requires)).is
-    ∙ sym (nearest-away c.args.z c.args.d c.requires.1.0 (omega (int, c.if-magnitude-d.false, c.magnitude.ensures, m)))
+    (op_holds ◌+ℤ◌ (quotient c.args.z c.args.d c.ranges.z c.requires) (one (goal.at.returns-else-unsigned_abs-d c).After-with_sign) (sum_fits c.args.z c.args.d c.ranges.z c.requires)).is
+    ∙ sym (nearest-away c.args.z c.args.d c.requires.1.0 (omega (int, c.if-unsigned_abs-d.false, c.unsigned_abs.ensures.value, m)))

@@ -2,6 +2,6 @@
 use Rattle.interpreter.proofs.close_next.Goals as goal
 
 pub returns : goal.returns
-returns c =
+returns o c =
     let p = c.close-answer.ensures in
     (p.book_after, rw (← p.answered, ← p.statement_after) c.close_line.ensures)

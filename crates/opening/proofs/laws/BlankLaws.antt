@@ -1,6 +1,6 @@
 -- A list is blank part by part. Assumes nothing.
-use Rattle.std.specs.Prelude.{◌≡◌, Bool, ◌&&◌, List, ℕ, zero, suc, ◌+◌, ◌*◌, ◌≤◌, ℤ, length}
-use Rattle.std.proofs.Common.{sym, ap, ◌∙◌, add-zero, add-suc, suc-mul, zero-mul, arith}
+use Rattle.std.specs.Prelude.{◌≡◌, Bool, ◌&&◌, List, ℕ, zero, suc, ◌+◌, ◌*◌, ◌-◌, ◌≤◌, ℤ, pos, length, drop}
+use Rattle.std.proofs.Common.{sym, ap, ap₂, ◌∙◌, length-drop, get_or-drop, add-zero, add-suc, suc-mul, zero-mul, arith}
 use Rattle.std.proofs.Math.Bool.{and-true, and_assoc}
 use Rattle.integer.specs.Below.{fold, all}
 use Rattle.integer.specs.Words.{word, part}
@@ -26,9 +26,15 @@ pub blank_part : (xs : List ℤ) (i n : ℕ) → i + n ≤ length xs → blank (
 unfolding blank
 blank_part xs i n h = rw (length_part xs i n h) (all_same n _ _ (λ k l. ap is_zero (word-part xs i n k l)))
 
-pub blank-rows : (xs : List ℤ) (m n : ℕ) → length xs ≡ m * n → all m (λ j. blank (part xs (j * n) n)) ≡ blank xs
+-- k rows of n words, and what follows them
+pub blank-rows : (xs : List ℤ) (k n : ℕ) → k * n ≤ length xs → (all k (λ j. blank (part xs (j * n) n)) && blank (drop (k * n) xs)) ≡ blank xs
 unfolding blank
-blank-rows xs m n e =
-    all_same m _ _ (λ j l. blank_part xs (j * n) n (omega (arith, row_fits_lem j m n l)))
-    ∙ all_rows m n (λ k. is_zero (word xs k))
-    ∙ ap (λ (s : ℕ). all s (λ k. is_zero (word xs k))) (sym e)
+blank-rows xs k n h =
+    let zeros : ℕ → Bool = λ i. is_zero (word xs i) in
+    let e : k * n + (length xs - k * n) ≡ length xs = omega arith in
+    ap₂ ◌&&◌
+    (all_same k _ _ (λ j l. blank_part xs (j * n) n (omega (arith, row_fits_lem j k n l))) ∙ all_rows k n zeros)
+    (ap (λ (m : ℕ). all m (λ i. is_zero (word (drop (k * n) xs) i))) (length-drop (k * n) xs)
+    ∙ all_same (length xs - k * n) _ _ (λ i l. ap is_zero (get_or-drop (k * n) xs i (pos 0))))
+    ∙ sym (all_add (k * n) (length xs - k * n) zeros)
+    ∙ ap (λ (m : ℕ). all m zeros) e

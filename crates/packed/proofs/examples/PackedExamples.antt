@@ -1,10 +1,10 @@
 -- Document 02, P4, in figures: fields, statements written and read, each refusal. Computed. Assumes nothing.
-use Rattle.std.specs.Prelude.{◌≡◌, refl, ℕ, ◌+◌, ◌*◌, ℤ, pos, negsuc}
+use Rattle.std.specs.Prelude.{◌≡◌, refl, ℕ, ◌+◌, ◌*◌, ℤ, pos, negsuc, Ok, Err}
 use mathlib.Core.List.{List, [], ◌∷◌, ◌++◌, flat_map}
 use Rattle.integer.specs.Integer.{minus}
 use Rattle.integer.specs.Below.{fold, or_else, turns, tabulate}
-use Rattle.packed.specs.declared.PackAnswer.{PackAnswer}
-use Rattle.packed.specs.declared.UnpackAnswer.{UnpackAnswer}
+use Rattle.packed.specs.declared.PackError.{PackError}
+use Rattle.packed.specs.declared.UnpackError.{UnpackError}
 use Rattle.packed.specs.Packed.{statement_fits, digit_of, half_byte, field_byte, field, fields_of, half_at, magnitude_at, amount_at, wrong_digit, wrong_sign, negative_zero, wrong_in, cut_field, first_wrong, pack_number, pack_call, unpack_returned, unpack_call}
 
 -- a byte, by its two hex digits
@@ -77,9 +77,9 @@ Refuses amounts output number = pack_call amounts output ≡ record { number = n
 
 pub record WrittenFigures : Type 0 where
   -- what each answer returns
-  pub written : pack_number PackAnswer.Written ≡ 0
-  pub outside : pack_number PackAnswer.OutsideRange ≡ 1
-  pub too_short : pack_number PackAnswer.OutputTooShort ≡ 10
+  pub written : pack_number (Ok tt) ≡ 0
+  pub outside : pack_number (Err PackError.OutsideRange) ≡ 1
+  pub too_short : pack_number (Err PackError.OutputTooShort) ≡ 10
   -- two amounts, and a byte beyond
   pub two : pack_call (pos 1 ∷ negsuc 0 ∷ []) (bytes 17) ≡ record { number = 0; output = one ++ (minus_one ++ (7 ∷ [])) }
   pub thirty_three : pack_call (ones 33) (bytes 264) ≡ record { number = 0; output = flat_map (λ z. one) (ones 33) }
@@ -129,10 +129,10 @@ StopsLate s p = unpack_call s (words 33) ≡ record { returned = record { number
 
 pub record ReadFigures : Type 0 where
   -- what each answer returns
-  pub told : unpack_returned (UnpackAnswer.Read 3) ≡ record { number = 0; position = 0; count = 3 }
-  pub outside : unpack_returned UnpackAnswer.OutsideRange ≡ record { number = 1; position = 0; count = 0 }
-  pub too_short : unpack_returned UnpackAnswer.OutputTooShort ≡ record { number = 10; position = 0; count = 0 }
-  pub wrong : unpack_returned (UnpackAnswer.WrongAt 9) ≡ record { number = 16; position = 9; count = 0 }
+  pub told : unpack_returned (Ok 3) ≡ record { number = 0; position = 0; count = 3 }
+  pub outside : unpack_returned (Err UnpackError.OutsideRange) ≡ record { number = 1; position = 0; count = 0 }
+  pub too_short : unpack_returned (Err UnpackError.OutputTooShort) ≡ record { number = 10; position = 0; count = 0 }
+  pub wrong : unpack_returned (Err (UnpackError.WrongAt 9)) ≡ record { number = 16; position = 9; count = 0 }
   -- two fields, and a word beyond
   pub two : unpack_call (minus_one ++ nines 12) (words 3) ≡ record { returned = record { number = 0; position = 0; count = 2 }; output = negsuc 0 ∷ pos 999999999999999 ∷ pos 7 ∷ [] }
   pub least : unpack_call (nines 13 ++ small 0 12) (words 2) ≡ record { returned = record { number = 0; position = 0; count = 2 }; output = minus 999999999999999 ∷ pos 0 ∷ [] }

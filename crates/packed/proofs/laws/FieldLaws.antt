@@ -1,7 +1,7 @@
 -- A field written and read is its amount, and a right field read and written is its bytes. Assumes nothing.
 use Rattle.std.proofs.Math.Path.{◌≡◌, refl, sym, ap}
 use Rattle.std.proofs.Common.{◌∙◌, inl, inr}
-use Rattle.std.specs.Prelude.{Bool, true, false, not, ◌&&◌, ◌||◌, List, ◌⊎◌, ℕ, zero, suc, ◌+◌, ◌*◌, ◌/◌, ◌%◌, ◌≤◌, ◌<◌, leb, ltb, ℤ, pos, negsuc, nat_abs, get_or}
+use Rattle.std.specs.Prelude.{Bool, true, false, not, ◌&&◌, ◌||◌, List, ◌⊎◌, ℕ, zero, suc, ◌+◌, ◌*◌, ◌/◌, ◌%◌, ◌≤◌, ◌<◌, leb, ltb, ℤ, pos, negsuc, nat_abs, get_or, None}
 use Rattle.std.proofs.Math.Bool.{cond}
 use Rattle.std.proofs.Math.Logic.{⊎_elim}
 use native.Mathlib.Omega.{arith}
@@ -10,7 +10,6 @@ use Rattle.std.proofs.Math.Dec.{eqb}
 use Rattle.integer.specs.Integer.{minus}
 use Rattle.integer.specs.Below.{first, or_else}
 use Rattle.integer.proofs.laws.BelowLaws.{either, lt_or_le, turns-cong, first-nothing, nothing-first, or_else-nothing, nothing-or_else}
-use Rattle.integer.specs.declared.Found.TheVariants.{Nothing}
 use Rattle.packed.specs.Packed.{field_bytes, field_digits, most_amount, plus_sign, minus_sign, sign_of, digit_of, half_byte, field_byte, half_at, sign_at, magnitude_at, amount_at, unless, wrong_digit, wrong_sign, negative_zero, wrong_in}
 use Rattle.packed.proofs.laws.DigitLaws.{digit-le, digits-spell, spelled-digit, spelled-most}
 use Rattle.packed.proofs.laws.PairLaws.{half-even, half-odd}
@@ -76,33 +75,33 @@ module _ (s : List ℕ) (at : ℕ) (z : ℤ) (stands : Stands s at z) where
         by (pos n) = refl
         by (negsuc n) = refl
 
-    pub right_read : wrong_in s at ≡ Nothing
+    pub right_read : wrong_in s at ≡ None
     unfolding wrong_in wrong_digit wrong_sign negative_zero
     right_read =
         nothing-or_else (first field_digits (wrong_digit s at)) _ (nothing-first field_digits (wrong_digit s at) digits)
         (nothing-or_else (wrong_sign s at) (negative_zero s at) sign zero_or)
       where
-        digits : (k : ℕ) → k < field_digits → wrong_digit s at k ≡ Nothing
+        digits : (k : ℕ) → k < field_digits → wrong_digit s at k ≡ None
         digits k l = rw (digit-read k l, le-leb (digit_of (nat_abs z) k) 9 (digit-le (nat_abs z) k))
 
-        sign : wrong_sign s at ≡ Nothing
+        sign : wrong_sign s at ≡ None
         sign = rw sign_read (by z)
           where
-            by : (z : ℤ) → unless (eqb (sign_of z) plus_sign || eqb (sign_of z) minus_sign) (at + 7) ≡ Nothing
+            by : (z : ℤ) → unless (eqb (sign_of z) plus_sign || eqb (sign_of z) minus_sign) (at + 7) ≡ None
             by (pos n) = refl
             by (negsuc n) = refl
 
-        zero_or : negative_zero s at ≡ Nothing
+        zero_or : negative_zero s at ≡ None
         zero_or = rw (sign_read, magnitude-read) (by z)
           where
-            by : (z : ℤ) → unless (not (eqb (sign_of z) minus_sign && eqb (nat_abs z) 0)) (at + 7) ≡ Nothing
+            by : (z : ℤ) → unless (not (eqb (sign_of z) minus_sign && eqb (nat_abs z) 0)) (at + 7) ≡ None
             by (pos n) = refl
             by (negsuc n) = rw (ne_eqb (suc n) 0 (λ e. omega arith))
 
 -- ---- Read, then written
 
 -- where a test finds nothing
-unless-nothing : (t : Bool) (i : ℕ) → unless t i ≡ Nothing → t ≡ true
+unless-nothing : (t : Bool) (i : ℕ) → unless t i ≡ None → t ≡ true
 unless-nothing true i e = refl
 unless-nothing false i e = absurd (let z : ◌≡◌ {A = ℕ} 0 1 = cc in omega arith)
 
@@ -129,8 +128,8 @@ signed-sign h m (inl e) f = rw e refl
 signed-sign h zero (inr e) f = absurd (let q : ◌≡◌ {A = Bool} true false = rw e at f in let z : ◌≡◌ {A = ℕ} 0 1 = cc in omega arith)
 signed-sign h (suc m) (inr e) f = rw e refl
 
-module _ (s : List ℕ) (at : ℕ) (right : wrong_in s at ≡ Nothing) where
-  split : (first field_digits (wrong_digit s at) ≡ Nothing) × (or_else (wrong_sign s at) (negative_zero s at) ≡ Nothing)
+module _ (s : List ℕ) (at : ℕ) (right : wrong_in s at ≡ None) where
+  split : (first field_digits (wrong_digit s at) ≡ None) × (or_else (wrong_sign s at) (negative_zero s at) ≡ None)
   unfolding wrong_in
   split = or_else-nothing _ _ right
 

@@ -1,6 +1,6 @@
 -- The fields of a statement: where each byte stands, and both round trips. Rests on FieldLaws. Assumes nothing.
 use Rattle.std.proofs.Math.Path.{◌≡◌}
-use Rattle.std.specs.Prelude.{refl, true, eqb, ℤ, pos, nat_abs, get_or, drop}
+use Rattle.std.specs.Prelude.{refl, true, eqb, ℤ, pos, nat_abs, get_or, drop, Some, None}
 use Rattle.std.proofs.Common.{sym, ap, ◌∙◌, not-suc-le-zero, length-append, length-drop, ext_get_or, get_or-drop}
 use Rattle.std.proofs.Math.Bool.{cond}
 use mathlib.Core.List.{List, [], ◌∷◌, ◌++◌, flat_map}
@@ -13,7 +13,6 @@ use Rattle.integer.specs.Below.{first, tabulate}
 use Rattle.integer.specs.Words.{word, grid}
 use Rattle.integer.proofs.laws.BelowLaws.{lt_or_le, and-true, all_at, all_of, nothing-first, first-nothing, or_else-nothing, nothing-or_else, length-tabulate, get_d_tabulate, tabulate-each}
 use Rattle.integer.proofs.laws.WordsLaws.{get_d_past, inside-after, grid-hit, grid-miss, grid-words}
-use Rattle.integer.specs.declared.Found.TheVariants.{At, Nothing}
 use Rattle.packed.specs.Packed.{field_bytes, most_amount, least_amounts, most_amounts, amount_fits, statement_fits, field_byte, field, fields_of, whole_fields, amount_at, wrong_in, cut_field, first_wrong}
 use Rattle.packed.specs.PackedTable.{Statement}
 use Rattle.packed.proofs.laws.FieldLaws.{Stands, amount-read, right_read, amount-fits, stands-right}
@@ -110,7 +109,7 @@ module _ (amounts : List ℤ) (digits : (i : ℕ) → i < length amounts → nat
   pub amounts-read : (f : ℕ) → f < length amounts → amount_at (fields_of amounts) (field_bytes * f) ≡ word amounts f
   amounts-read f l = amount-read (fields_of amounts) (field_bytes * f) (word amounts f) (stands f l) (digits f l)
 
-  pub fields_right : first_wrong (fields_of amounts) ≡ Nothing
+  pub fields_right : first_wrong (fields_of amounts) ≡ None
   unfolding first_wrong cut_field
   fields_right =
       let cut : length (fields_of amounts) % field_bytes ≡ 0 = omega (arith, length_fields amounts) in
@@ -124,19 +123,19 @@ module _ (amounts : List ℤ) (digits : (i : ℕ) → i < length amounts → nat
 abbrev pub amounts_in : List ℕ → List ℤ
 amounts_in s = tabulate (whole_fields s) (λ f. amount_at s (field_bytes * f))
 
-module _ (s : List ℕ) (right : first_wrong s ≡ Nothing) where
-  split : (first (whole_fields s) (λ f. wrong_in s (field_bytes * f)) ≡ Nothing) × (cut_field s ≡ Nothing)
+module _ (s : List ℕ) (right : first_wrong s ≡ None) where
+  split : (first (whole_fields s) (λ f. wrong_in s (field_bytes * f)) ≡ None) × (cut_field s ≡ None)
   unfolding first_wrong
   split = or_else-nothing _ _ right
 
-  pub field-right : (f : ℕ) → f < whole_fields s → wrong_in s (field_bytes * f) ≡ Nothing
+  pub field-right : (f : ℕ) → f < whole_fields s → wrong_in s (field_bytes * f) ≡ None
   field-right f l = first-nothing (whole_fields s) (λ f. wrong_in s (field_bytes * f)) split.0 f l
 
   pub none_cut : length s ≡ field_bytes * whole_fields s
   unfolding cut_field
   none_cut = ⊎_elim (λ h. omega arith) (λ h. absurd (by (length s % field_bytes) h split.1)) (lt_or_le (length s % field_bytes) 1)
     where
-      by : (r : ℕ) → 1 ≤ r → cond (eqb r 0) Nothing (At (field_bytes * whole_fields s)) ≡ Nothing → ⊥
+      by : (r : ℕ) → 1 ≤ r → cond (eqb r 0) None (Some (field_bytes * whole_fields s)) ≡ None → ⊥
       by zero h e = omega arith
       by (suc r) h e = let t = ne_eqb (suc r) 0 (λ q. omega arith) in let z : ◌≡◌ {A = ℕ} 0 1 = cc in omega arith
 

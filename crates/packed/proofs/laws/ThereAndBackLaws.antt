@@ -1,10 +1,9 @@
 -- A statement written and read is the same amounts; accepted fields read and written are the same bytes. Assumes nothing.
-use Rattle.std.specs.Prelude.{◌≡◌, refl, true, List, ◌++◌, ℕ, ◌+◌, ◌*◌, ◌≤◌, ◌<◌, ℤ, pos, length, get_or, take, drop}
+use Rattle.std.specs.Prelude.{◌≡◌, refl, true, List, ◌++◌, ℕ, ◌+◌, ◌*◌, ◌≤◌, ◌<◌, ℤ, pos, length, get_or, take, drop, None}
 use Rattle.std.proofs.Common.{sym, ap, ◌∙◌, arith, le-leb, ext_get_or}
 use Rattle.std.proofs.Math.Seq.{take-append_seam}
 use Rattle.integer.specs.Below.{tabulate}
 use Rattle.integer.proofs.laws.BelowLaws.{length-tabulate, tabulate-of}
-use Rattle.integer.specs.declared.Found.TheVariants.{Nothing}
 use Rattle.packed.specs.Packed.{least_amounts, most_amounts, count_fits, field_bytes, field, field_byte, fields_of, whole_fields, amount_at, wrong_in, pack_call, unpack_accepted, unpack_call}
 use Rattle.packed.specs.PackedTable.{Statement, ReadExactly, WrittenRead, ReadWritten, OneField}
 use Rattle.packed.proofs.laws.FieldLaws.{Stands, amount-read, right_read, stands-right}
@@ -59,7 +58,7 @@ one_field = record { of_amount = of_amount; right = λ z fits. (right_read (fiel
     alone : (z : ℤ) → Stands (field z) 0 z
     alone z j l = from_zero (field z) j ∙ field_at z j l
 
-    of_amount : (s : List ℕ) (z : ℤ) → length s ≡ 8 → wrong_in s 0 ≡ Nothing → amount_at s 0 ≡ z → s ≡ field z
+    of_amount : (s : List ℕ) (z : ℤ) → length s ≡ 8 → wrong_in s 0 ≡ None → amount_at s 0 ≡ z → s ≡ field z
     of_amount s z l r e =
         ext_get_or 0 s (field z) (l ∙ sym (length-field z))
         (λ j b. let h : j < field_bytes = omega arith in sym (from_zero s j) ∙ stands-right s 0 r j h ∙ ap (λ z. field_byte z j) e ∙ sym (field_at z j h))

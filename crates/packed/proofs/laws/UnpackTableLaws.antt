@@ -1,5 +1,5 @@
 -- What reading returns: the first check that strikes, and what was read. Rests on StatementLaws. Assumes nothing.
-use Rattle.std.specs.Prelude.{◌≡◌, not, ◌&&◌, ◌||◌, leb, ltb, ℤ, pos, length, drop}
+use Rattle.std.specs.Prelude.{◌≡◌, not, ◌&&◌, ◌||◌, leb, ltb, ℤ, pos, length, drop, Option, Some, None}
 use Rattle.std.proofs.Math.Path.{refl, sym, ap}
 use Rattle.std.proofs.Common.{◌∙◌, arith, drop_at}
 use Rattle.std.proofs.Math.Bool.{Bool, true, false, cond}
@@ -11,8 +11,6 @@ use Rattle.std.proofs.Math.ListN.{get_or-append}
 use Rattle.integer.specs.Below.{fold, all, first, or_else, turns, tabulate, Each}
 use Rattle.integer.proofs.laws.BelowLaws.{and-true, get_d_tabulate, fold-front, or_else-right, or_else-assoc, length-tabulate, each_tabulate, each_append, each_flat}
 use Rattle.integer.specs.Words.{word, filled}
-use Rattle.integer.specs.declared.Found.{Found}
-use Rattle.integer.specs.declared.Found.TheVariants.{At, Nothing}
 use Rattle.rulebook.specs.Numbers.{outside_range, output_too_short, packed_field_wrong, checked}
 use Rattle.rulebook.specs.Checks.{Check}
 use Rattle.rulebook.proofs.laws.FirstCheckLaws.{first_or, first-append, first-none, first-shows, first_finds, first-clear}
@@ -22,14 +20,14 @@ use Rattle.packed.specs.Packed.{least_amounts, most_amounts, count_fits, field_b
 use Rattle.packed.specs.PackedTable.{Statement, digit_check, sign_check, zero_check, field_checks, cut_check, unpack_checks, UnpackTable}
 use Rattle.packed.proofs.laws.StatementLaws.{amounts_in, digits_in}
 
-unfoldable found_told : Found → UnpackReturned → UnpackReturned
-found_told (At p) a = unpack_refused packed_field_wrong p
-found_told Nothing a = a
+unfoldable found_told : Option ℕ → UnpackReturned → UnpackReturned
+found_told (Some p) a = unpack_refused packed_field_wrong p
+found_told None a = a
 
-told-or : (x y : Found) (a : UnpackReturned) → found_told (or_else x y) a ≡ found_told x (found_told y a)
+told-or : (x y : Option ℕ) (a : UnpackReturned) → found_told (or_else x y) a ≡ found_told x (found_told y a)
 unfolding found_told or_else
-told-or (At p) y a = refl
-told-or Nothing y a = refl
+told-or (Some p) y a = refl
+told-or None y a = refl
 
 told-unless : (t : Bool) (p : ℕ) (a : UnpackReturned) → cond (not t) (unpack_refused packed_field_wrong p) a ≡ found_told (unless t p) a
 unfolding found_told
@@ -42,7 +40,7 @@ told-where true p a = refl
 told-where false p a = refl
 
 -- lists of checks one after another
-each_told : {B : Type 0} (n : ℕ) (g : ℕ → B) (cs : B → List Check) (w : ℕ → Found) → ((i : ℕ) (a : UnpackReturned) → first_or unpack_refused (cs (g i)) a ≡ found_told (w i) a)
+each_told : {B : Type 0} (n : ℕ) (g : ℕ → B) (cs : B → List Check) (w : ℕ → Option ℕ) → ((i : ℕ) (a : UnpackReturned) → first_or unpack_refused (cs (g i)) a ≡ found_told (w i) a)
     → (a : UnpackReturned) → first_or unpack_refused (flat_map cs (tabulate n g)) a ≡ found_told (first n w) a
 unfolding flat_map tabulate
 each_told zero g cs w h a = unfold first_or found_told fold in refl
@@ -51,7 +49,7 @@ each_told (suc n) g cs w h a =
     ∙ h 0 _
     ∙ ap (found_told (w 0)) (each_told n (λ k. g (suc k)) cs (λ k. w (suc k)) (λ i. h (suc i)) a)
     ∙ sym (told-or (w 0) (first n (λ k. w (suc k))) a)
-    ∙ ap (λ o. found_told o a) (sym (unfold or_else in fold-front or_else Nothing (λ x. refl) or_else-right or_else-assoc n w))
+    ∙ ap (λ o. found_told o a) (sym (unfold or_else in fold-front or_else None (λ x. refl) or_else-right or_else-assoc n w))
 
 singles : (n : ℕ) (g : ℕ → Check) → flat_map (λ c. c ∷ []) (tabulate n g) ≡ tabulate n g
 unfolding flat_map tabulate
@@ -117,16 +115,16 @@ module _ (s : List ℕ) where
 
   module _ (output : List ℤ) where
     -- what is returned, by the count, the room and what is wrong
-    abbrev by_tests : Bool → Bool → Found → Unpacked
+    abbrev by_tests : Bool → Bool → Option ℕ → Unpacked
     by_tests t r o =
         checked t (record { returned = unpack_refused outside_range 0; output = output })
         (checked r (record { returned = unpack_refused output_too_short 0; output = output })
         (judged_fields s output o))
 
-    returned-is : (t r : Bool) (o : Found) → (by_tests t r o).returned ≡ cond t (cond r (found_told o (unpack_accepted (whole_fields s))) (unpack_refused 10 0)) (unpack_refused 1 0)
+    returned-is : (t r : Bool) (o : Option ℕ) → (by_tests t r o).returned ≡ cond t (cond r (found_told o (unpack_accepted (whole_fields s))) (unpack_refused 10 0)) (unpack_refused 1 0)
     unfolding found_told
-    returned-is true true (At p) = refl
-    returned-is true true Nothing = refl
+    returned-is true true (Some p) = refl
+    returned-is true true None = refl
     returned-is true false o = refl
     returned-is false r o = refl
 
@@ -159,9 +157,9 @@ module _ (s : List ℕ) where
     position_in r = r.position
 
     -- refused, nothing is written
-    kept-where : (t r : Bool) (o : Found) (n p : ℕ) → 0 < n → (by_tests t r o).returned ≡ unpack_refused n p → (by_tests t r o).output ≡ output
-    kept-where true true (At q) n p h e = refl
-    kept-where true true Nothing n p h e = absurd (let z : 0 ≡ n = ap number_in e in omega arith)
+    kept-where : (t r : Bool) (o : Option ℕ) (n p : ℕ) → 0 < n → (by_tests t r o).returned ≡ unpack_refused n p → (by_tests t r o).output ≡ output
+    kept-where true true (Some q) n p h e = refl
+    kept-where true true None n p h e = absurd (let z : 0 ≡ n = ap number_in e in omega arith)
     kept-where true false o n p h e = refl
     kept-where false r o n p h e = refl
 
@@ -170,11 +168,11 @@ module _ (s : List ℕ) where
     pub record Given : Type 0 where
       pub count : count_fits (whole_fields s) ≡ true
       pub room : whole_fields s ≤ length output
-      pub right : first_wrong s ≡ Nothing
+      pub right : first_wrong s ≡ None
 
-    given-where : (t r : Bool) (o : Found) → count_fits (whole_fields s) ≡ t → leb (whole_fields s) (length output) ≡ r → first_wrong s ≡ o → (by_tests t r o).returned.number ≡ 0 → Given
-    given-where true true (At q) c g f e = absurd (omega arith)
-    given-where true true Nothing c g f e = record { count = c; room = leb-true (whole_fields s) (length output) g; right = f }
+    given-where : (t r : Bool) (o : Option ℕ) → count_fits (whole_fields s) ≡ t → leb (whole_fields s) (length output) ≡ r → first_wrong s ≡ o → (by_tests t r o).returned.number ≡ 0 → Given
+    given-where true true (Some q) c g f e = absurd (omega arith)
+    given-where true true None c g f e = record { count = c; room = leb-true (whole_fields s) (length output) g; right = f }
     given-where true false o c g f e = absurd (omega arith)
     given-where false r o c g f e = absurd (omega arith)
 

@@ -1,14 +1,15 @@
--- `run` meets its contract: a frame a turn; it ends, since each turn leaves one fewer.
-use mathlib.Core.Path.{refl}
-use native.Mathlib.Omega.{arith}
+-- `run` meets its contract: a frame a turn.
 use Rattle.replay.specs.Frames.{begun, next}
 use Rattle.replay.proofs.run.Goals as goal
 
-pub loop-turns-init : goal.loop-turns-init
-loop-turns-init c = (refl, begun)
+pub loop-init : goal.loop-init
+loop-init c = begun
 
-pub loop-turns-preserved : goal.loop-turns-preserved
-loop-turns-preserved c = (omega (arith, c.step.auto, c.loop-turns.invariant.0), next c.loop-turns.invariant.1 c.step.ensures)
+pub loop-preserved : goal.loop-preserved
+loop-preserved c = next c.loop.invariant c.step.ensures
 
-pub returns-else-step : goal.returns-else-step
-returns-else-step c = next c.loop-turns.invariant.1 c.step.ensures
+pub returns-then-not-step : goal.returns-then-not-step
+returns-then-not-step c = next c.loop.invariant c.step.ensures
+
+pub returns-after-loop : goal.returns-after-loop
+returns-after-loop c = c.loop.invariant

@@ -1,14 +1,16 @@
-use mathlib.Core.Path.{◌≡◌}
-use mathlib.Core.Bool.{true}
-use Prim.Native.Nat.{◌+◌, ◌-◌, ◌≤◌}
-use lib.ListN.{length}
-use Rattle.interpreter.specs.Interpreter.{new_words}
+use Rattle.std.specs.Prelude.{◌+◌, ◌-◌, ◌≤◌, length, unwrap_or, option_map, IfSome}
+use Rattle.interpreter.specs.declared.Next.{Next}
+use Rattle.interpreter.specs.Interpreter.{new_words, most_accounts}
 use Rattle.interpreter.specs.Running.{RestOf, Stands}
 use Rattle.replay_settle.proofs.run.Given as goal
 
-abbrev pub invariant-loop-turn : goal.invariant-loop-turn
-invariant-loop-turn l =
-    (length l.book ≡ length l.initial.book) × (length l.line ≡ length l.initial.line) × (l.turn.end ≤ length l.line) × (l.turn.accounts ≤ 32) × (l.turn.more ≡ true → l.turn.position ≤ length l.s) × Stands (RestOf l.s) new_words l.s l.turn l.book l.line
+abbrev pub invariant-loop-next : goal.invariant-loop-next
+invariant-loop-next l = record {
+  few : IfSome l.next (λ (t : Next). t.accounts ≤ most_accounts);
+  within : IfSome l.next (λ (t : Next). t.position ≤ length l.s);
+  stands : Stands (RestOf l.s) new_words l.s l.next l.book l.line;
+}
 
-abbrev pub decreases-loop-turn : goal.decreases-loop-turn
-decreases-loop-turn l = length l.s + 1 - l.turn.position
+-- each turn's position is further on in the input than the last one's
+abbrev pub decreases-loop-next : goal.decreases-loop-next
+decreases-loop-next l = unwrap_or (option_map (λ (t : Next). length l.s + 1 - t.position) l.next) 0

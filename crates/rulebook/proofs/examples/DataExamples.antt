@@ -1,6 +1,5 @@
 -- Data by name, from the words of a book and from rows in force, at the first, the second and the last interval. Computed. Assumes nothing.
-use Rattle.std.specs.Prelude.{◌≡◌, refl, cond, List, [], ◌∷◌, ℕ, eqb, ℤ, pos, replicate}
-use Rattle.std.proofs.Math.Option.{none, some}
+use Rattle.std.specs.Prelude.{◌≡◌, refl, cond, List, [], ◌∷◌, ℕ, eqb, ℤ, pos, replicate, Some, None}
 use Rattle.integer.specs.Integer.{minus}
 use Rattle.integer.specs.Below.{tabulate}
 use Rattle.rulebook.specs.declared.Section.TheVariants.{Vesting, Meter, Residual, Ncc}
@@ -44,10 +43,10 @@ book-read = record { quantities_at = refl; prices_at = refl; injections_at = ref
 -- ---- Rows in force on 9,497 of account 1, and the NCC row of that day
 
 abbrev force : RowsInForce
-force Vesting a d = cond (eqb a 1) (some vesting) none
-force Meter a d = cond (eqb a 1) (some meter) none
-force Residual a d = cond (eqb a 1) (some residual) none
-force Ncc a d = cond (eqb a 0) (some ncc) none
+force Vesting a d = cond (eqb a 1) (Some vesting) None
+force Meter a d = cond (eqb a 1) (Some meter) None
+force Residual a d = cond (eqb a 1) (Some residual) None
+force Ncc a d = cond (eqb a 0) (Some ncc) None
 
 pub record RowsRead : Type 0 where
   pub quantities_first : quantities ((data_in_force force).account 1 9497 0) ≡ 1 ∷ 3 ∷ 5 ∷ 0 ∷ 1 ∷ 1 ∷ 2 ∷ []

@@ -1,11 +1,9 @@
 -- Document 01, "Numbers returned" and "Figures": the calls on no book, at the ends of their ranges. Computed. Assumes nothing.
-use Rattle.std.specs.Prelude.{◌≡◌, refl, List, [], ◌∷◌, ℕ, ℤ, pos, replicate}
+use Rattle.std.specs.Prelude.{◌≡◌, refl, List, [], ◌∷◌, ℕ, ℤ, pos, replicate, Ok, Err}
 use Rattle.integer.specs.Integer.{minus, with_sign}
 use Rattle.integer.specs.Below.{fold, tabulate}
-use Rattle.rulebook.specs.declared.PriceAnswer.TheVariants.{Priced, PriceRefused}
 use Rattle.rulebook.specs.declared.Edition.TheVariants.{First, Second}
-use Rattle.rulebook.specs.declared.ShareAnswer.TheVariants.{Shared, ShareRefused, OutputTooShort}
-use Rattle.rulebook.specs.declared.TrancheAnswer.TheVariants.{Split, TrancheRefused}
+use Rattle.rulebook.specs.declared.RuleError.TheVariants.{OutsideRange, OutputTooShort}
 use Rattle.rulebook.specs.Units.{nearest}
 use Rattle.rulebook.specs.ReferencePrice.{average, reference_price}
 use Rattle.rulebook.specs.Shares.{share, share_of, second_share, second_share_of, edition_share}
@@ -39,11 +37,11 @@ Tranches rvq bvq mq number t u = tranche_call rvq bvq mq ≡ record { number = n
 
 pub record CallsTold : Type 0 where
   -- what each answer returns
-  pub share_numbers : (share_number Shared ≡ 0) × (share_number ShareRefused ≡ 1) × (share_number OutputTooShort ≡ 10)
-  pub priced : (v : ℤ) → price_returned (Priced v) ≡ record { number = 0; price = v }
-  pub price_refused : price_returned PriceRefused ≡ record { number = 1; price = pos 0 }
-  pub split : (t u : ℤ) → tranche_returned (Split t u) ≡ record { number = 0; first = t; second = u }
-  pub tranche_refused : tranche_returned TrancheRefused ≡ record { number = 1; first = pos 0; second = pos 0 }
+  pub share_numbers : (share_number (Ok tt) ≡ 0) × (share_number (Err OutsideRange) ≡ 1) × (share_number (Err OutputTooShort) ≡ 10)
+  pub priced : (v : ℤ) → price_returned (Ok v) ≡ record { number = 0; price = v }
+  pub price_refused : price_returned (Err OutsideRange) ≡ record { number = 1; price = pos 0 }
+  pub split : (t u : ℤ) → tranche_returned (Ok (record { first = t; second = u })) ≡ record { number = 0; first = t; second = u }
+  pub tranche_refused : tranche_returned (Err OutsideRange) ≡ record { number = 1; first = pos 0; second = pos 0 }
   -- R is from −1,280,000,000 to 1,000,000,000
   pub residual_least : Shares (minus 1280000000) three 3 0 (pos 0 ∷ pos 0 ∷ pos 0 ∷ [])
   pub residual_below : Shares (minus 1280000001) three 3 1 (lent 3)

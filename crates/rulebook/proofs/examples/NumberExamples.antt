@@ -1,26 +1,26 @@
 -- Document 01, "Numbers returned": the table in figures. Its examples of files are in crate `computed`. Assumes nothing.
-use Rattle.std.specs.Prelude.{◌≡◌, refl, ℕ}
+use Rattle.std.specs.Prelude.{◌≡◌, refl, ℕ, Ok, Err}
 use Rattle.rulebook.specs.declared.Why.TheVariants.{NotWhole, OutOfRange, DayNotOpen, Repeated, Excess}
-use Rattle.rulebook.specs.declared.OpenAnswer.TheVariants.{Opened, BadTerms, TooShort}
-use Rattle.rulebook.specs.declared.SubmitAnswer.TheVariants.{Taken, IllFormed, FileRefused}
-use Rattle.rulebook.specs.declared.CloseAnswer.TheVariants.{Closed, BookIllFormed, Finished, NoRoom, DatumMissing}
+use Rattle.rulebook.specs.declared.OpenError.TheVariants.{BadTerms, TooShort}
+use Rattle.rulebook.specs.declared.SubmitError.TheVariants.{IllFormed, FileRefused}
+use Rattle.rulebook.specs.declared.CloseError.TheVariants.{BookIllFormed, Finished, NoRoom, DatumMissing}
 use Rattle.rulebook.specs.Numbers.{of_open, of_submit, of_close, numbered}
 
 pub record Returned : Type 0 where
-  pub opened : of_open Opened ≡ numbered 0 0
-  pub bad_terms : of_open BadTerms ≡ numbered 1 0
-  pub too_short : of_open TooShort ≡ numbered 2 0
-  pub ill_formed : (of_submit IllFormed ≡ numbered 3 0) × (of_close BookIllFormed ≡ numbered 3 0)
-  pub taken : of_submit Taken ≡ numbered 0 0
-  pub not_whole : (at : ℕ) → of_submit (FileRefused NotWhole at) ≡ numbered 4 at
-  pub out_of_range : (at : ℕ) → of_submit (FileRefused OutOfRange at) ≡ numbered 5 at
-  pub day_not_open : (at : ℕ) → of_submit (FileRefused DayNotOpen at) ≡ numbered 6 at
-  pub repeated : (at : ℕ) → of_submit (FileRefused Repeated at) ≡ numbered 7 at
-  pub excess : (at : ℕ) → of_submit (FileRefused Excess at) ≡ numbered 8 at
-  pub finished : of_close Finished ≡ numbered 9 0
-  pub no_room : of_close NoRoom ≡ numbered 10 0
-  pub missing : (at : ℕ) → of_close (DatumMissing at) ≡ numbered 11 at
-  pub closed : (d c : ℕ) → of_close (Closed (record { day = d; count = c })) ≡ record { number = 0; position = 0; day = d; count = c }
+  pub opened : of_open (Ok tt) ≡ numbered 0 0
+  pub bad_terms : of_open (Err BadTerms) ≡ numbered 1 0
+  pub too_short : of_open (Err TooShort) ≡ numbered 2 0
+  pub ill_formed : (of_submit (Err IllFormed) ≡ numbered 3 0) × (of_close (Err BookIllFormed) ≡ numbered 3 0)
+  pub taken : of_submit (Ok tt) ≡ numbered 0 0
+  pub not_whole : (at : ℕ) → of_submit (Err (FileRefused (record { why = NotWhole; at = at }))) ≡ numbered 4 at
+  pub out_of_range : (at : ℕ) → of_submit (Err (FileRefused (record { why = OutOfRange; at = at }))) ≡ numbered 5 at
+  pub day_not_open : (at : ℕ) → of_submit (Err (FileRefused (record { why = DayNotOpen; at = at }))) ≡ numbered 6 at
+  pub repeated : (at : ℕ) → of_submit (Err (FileRefused (record { why = Repeated; at = at }))) ≡ numbered 7 at
+  pub excess : (at : ℕ) → of_submit (Err (FileRefused (record { why = Excess; at = at }))) ≡ numbered 8 at
+  pub finished : of_close (Err Finished) ≡ numbered 9 0
+  pub no_room : of_close (Err NoRoom) ≡ numbered 10 0
+  pub missing : (at : ℕ) → of_close (Err (DatumMissing at)) ≡ numbered 11 at
+  pub closed : (d c : ℕ) → of_close (Ok (record { day = d; count = c })) ≡ record { number = 0; position = 0; day = d; count = c }
 
 pub returned : Returned
 returned = record {

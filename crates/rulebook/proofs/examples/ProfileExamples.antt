@@ -1,8 +1,8 @@
 -- Document 02, P1: profiles at and beside each limit, in figures. Computed. Assumes nothing.
-use Rattle.std.specs.Prelude.{◌≡◌, refl, true, false, cond, List, [], ◌∷◌, ◌++◌, ℕ, ◌%◌, eqb, ℤ, pos}
+use Rattle.std.specs.Prelude.{◌≡◌, refl, true, false, cond, List, [], ◌∷◌, ◌++◌, ℕ, ◌%◌, eqb, ℤ, pos, Ok, Err}
 use Rattle.integer.specs.Integer.{minus}
 use Rattle.integer.specs.Below.{fold, tabulate}
-use Rattle.rulebook.specs.declared.ProfileAnswer.TheVariants.{Judged, TotalImpossible, ProfileRefused}
+use Rattle.rulebook.specs.declared.RuleError.TheVariants.{OutsideRange, TotalImpossible}
 use Rattle.rulebook.specs.Profile.{keeps_limits, total_possible}
 use Rattle.rulebook.specs.Numbers.{profile_returned}
 use Rattle.rulebook.specs.Calls.{all_in_range, profile_input, profile_told, profile_call}
@@ -25,10 +25,10 @@ end a b c d = twos 44 (pos 40) (pos 60) ++ (a ∷ b ∷ c ∷ d ∷ [])
 
 pub record ProfilesTold : Type 0 where
   -- what each answer returns
-  pub kept : profile_returned (Judged true) ≡ record { number = 0; keeps = 1 }
-  pub not_kept : profile_returned (Judged false) ≡ record { number = 0; keeps = 0 }
-  pub none_could : profile_returned TotalImpossible ≡ record { number = 15; keeps = 0 }
-  pub refused : profile_returned ProfileRefused ≡ record { number = 1; keeps = 0 }
+  pub kept : profile_returned (Ok true) ≡ record { number = 0; keeps = 1 }
+  pub not_kept : profile_returned (Ok false) ≡ record { number = 0; keeps = 0 }
+  pub none_could : profile_returned (Err TotalImpossible) ≡ record { number = 15; keeps = 0 }
+  pub refused : profile_returned (Err OutsideRange) ≡ record { number = 1; keeps = 0 }
   -- D = 100: a pair has 80 to 125 kWh, the day 1,920 to 3,000
   pub floors : Answers (twos 48 (pos 80) (pos 0)) (pos 1920) (pos 100) 0 1
   pub caps : Answers (twos 48 (pos 0) (pos 125)) (pos 3000) (pos 100) 0 1

@@ -1,6 +1,6 @@
 -- Document 01, "A submission file": what an accepted row leaves in the book's words, by index, at intervals 0, 20 and 47, whatever stood there.
 -- N = 2, L = H = 1, F = 9,497, so that day 9,498's slot is words 2,576 to 5,071, of which account 1's first are 2,604 to 2,627. Assumes nothing.
-use Rattle.std.specs.Prelude.{◌≡◌, refl, List, [], ◌∷◌, ◌++◌, ℕ, ◌+◌, ◌-◌, ◌≤◌, ◌<◌, T, ℤ, pos, length, replicate}
+use Rattle.std.specs.Prelude.{◌≡◌, refl, List, [], ◌∷◌, ◌++◌, ℕ, ◌+◌, ◌-◌, ◌≤◌, ◌<◌, T, ℤ, pos, length, replicate, Ok}
 use Rattle.std.proofs.Common.{sym, ap, ◌∙◌, subst, arith}
 use Rattle.integer.specs.Integer.{twos_complement}
 use Rattle.integer.specs.Below.{fold, tabulate, turns}
@@ -9,7 +9,6 @@ use Rattle.integer.specs.Words.{word}
 use Rattle.rulebook.specs.declared.Section.{Section}
 use Rattle.rulebook.specs.declared.Section.TheVariants.{Vesting, Meter, Residual, Ncc}
 use Rattle.rulebook.specs.declared.Terms.{Terms}
-use Rattle.rulebook.specs.declared.Verdict.TheVariants.{Accepted}
 use Rattle.rulebook.specs.Sections.{accounts_of}
 use Rattle.rulebook.specs.Layout.{width, base, ring, interval_size, slot, interval_word, row_word, InWindow}
 use Rattle.rulebook.specs.BookData.{terms_of, next_day, entries_of}
@@ -216,7 +215,7 @@ pub record SubmittedFile : Type 0 where
   pub other_account : (w : List ℤ) → Begun w → words_from 84 9 (after w) ≡ words_from 84 9 w
   pub other_section : (w : List ℤ) → Begun w → words_from 117 9 (after w) ≡ words_from 117 9 w
 
-file-accepted : judged (limits_of two 9497) file ≡ Accepted
+file-accepted : judged (limits_of two 9497) file ≡ (Ok tt)
 unfolding judged judged_section judged_row row_after rest given key field_in value fold num row_end row_pos section_end turns value_at twos_complement
 file-accepted = refl
 
@@ -229,7 +228,7 @@ module _ (w : List ℤ) (b : Begun w) (s : Section) (a i : ℕ) (ha : a < accoun
   after_word : (j : ℕ) → j < width s → word (after w) (row_word two s a 9497 i j) ≡ entry_or (last_for (file_rows file) s a 9497) (entries_of two w s a 9497) i j
   after_word j hj =
       subst (λ (o : Terms). word (after w) (row_word o s a 9497 i j) ≡ entry_or (last_for (file_rows file) s a 9497) (entries_of o w s a 9497) i j) b.terms
-      (submitted-rows w file b.formed (begun-as b (λ o C. judged (limits_of o C) file ≡ Accepted) file-accepted) s a 9497 i j
+      (submitted-rows w file b.formed (begun-as b (λ o C. judged (limits_of o C) file ≡ (Ok tt)) file-accepted) s a 9497 i j
       (begun-as b (λ o C. InWindow o (C - o.first) 9497) (omega arith)) (begun-as b (λ o C. a < accounts_of s o.accounts) ha) hi hj)
 
   after_words : (at : ℕ) → row_word two s a 9497 i 0 ≡ at

@@ -1,5 +1,5 @@
 -- A file of bytes is accepted exactly if it is the file of proper rows. Assumes nothing.
-use Rattle.std.specs.Prelude.{◌≡◌, refl, false, ◌&&◌, List, [], ◌∷◌, ◌++◌, ◌↔◌, ℕ, zero, suc, ◌+◌, ◌*◌, ◌-◌, ◌≤◌, ◌<◌, eqb, length}
+use Rattle.std.specs.Prelude.{◌≡◌, refl, false, ◌&&◌, List, [], ◌∷◌, ◌++◌, ◌↔◌, ℕ, zero, suc, ◌+◌, ◌*◌, ◌-◌, ◌≤◌, ◌<◌, eqb, length, Ok}
 use Rattle.std.proofs.Common.{subst, arith}
 use Rattle.integer.specs.Below.{tabulate, Each}
 use Rattle.integer.proofs.laws.BelowLaws.{length-tabulate, each_tabulate, each_append}
@@ -8,7 +8,6 @@ use Rattle.integer.proofs.laws.WordsLaws.{row_fits_lem}
 use Rattle.rulebook.specs.declared.Section.{Section}
 use Rattle.rulebook.specs.declared.Section.TheVariants.{Vesting, Meter, Residual, Ncc}
 use Rattle.rulebook.specs.declared.Terms.{Terms}
-use Rattle.rulebook.specs.declared.Verdict.TheVariants.{Accepted}
 use Rattle.rulebook.specs.Terms.{InTerms}
 use Rattle.rulebook.specs.Sections.{least_count, most_count, per_interval, same_section}
 use Rattle.rulebook.specs.File.{num, account_at, day_at, count_at, row_at, row_pos, rows_in, meter_pos, residual_pos, ncc_pos, figure_of}
@@ -96,12 +95,12 @@ two_bytes s b at = let x = byte_at s b at in let y = byte_at s b (at + 1) in ome
 -- ---- The rows of an accepted file
 
 module _ (o : Terms) (terms : InTerms o) (C : ℕ) (s : List ℕ) where
-  part-proper : (sec : Section) (at : ℕ) → judged_section (limits_of o C) sec s at ≡ Accepted → Each (Proper o C) (section_of s sec at)
+  part-proper : (sec : Section) (at : ℕ) → judged_section (limits_of o C) sec s at ≡ (Ok tt) → Each (Proper o C) (section_of s sec at)
   unfolding section_of
   part-proper sec at e =
       each_tabulate _ (rows_in s at) _ (λ i l. row-proper o C sec s (row_pos sec s (at + 2) i) terms (section-row (limits_of o C) sec s at e i l).1)
 
-  part-once : (sec : Section) (at : ℕ) → judged_section (limits_of o C) sec s at ≡ Accepted → Once (section_of s sec at)
+  part-once : (sec : Section) (at : ℕ) → judged_section (limits_of o C) sec s at ≡ (Ok tt) → Once (section_of s sec at)
   unfolding section_of
   part-once sec at e =
       once-table (rows_in s at) _ (λ j i a b. rw (same_self sec) (not_given sec s (at + 2) i _ _ (section-row (limits_of o C) sec s at e i b).0 j a))
@@ -110,7 +109,7 @@ module _ (o : Terms) (terms : InTerms o) (C : ℕ) (s : List ℕ) where
   unfolding section_of Apart
   apart a b p q e = each_tabulate _ (rows_in s p) _ (λ i l. each_tabulate _ (rows_in s q) _ (λ j m. rw e))
 
-  pub rows-once : judged (limits_of o C) s ≡ Accepted → Once (named_rows s)
+  pub rows-once : judged (limits_of o C) s ≡ (Ok tt) → Once (named_rows s)
   rows-once e =
       let p = sections (limits_of o C) s e in
       rw rows_are
@@ -127,7 +126,7 @@ module _ (o : Terms) (terms : InTerms o) (C : ℕ) (s : List ℕ) where
   rows_few b Residual = rw ((of_rows s).2, length-tabulate) (two_bytes s b (residual_pos s))
   rows_few b Ncc = rw ((of_rows s).3, length-tabulate) (two_bytes s b (ncc_pos s))
 
-  pub accepted-proper : Bytes s → judged (limits_of o C) s ≡ Accepted → ProperRows o C (named_rows s)
+  pub accepted-proper : Bytes s → judged (limits_of o C) s ≡ (Ok tt) → ProperRows o C (named_rows s)
   accepted-proper b e =
       let p = sections (limits_of o C) s e in
       let w = of_rows s in
@@ -142,8 +141,8 @@ module _ (o : Terms) (terms : InTerms o) (C : ℕ) (s : List ℕ) where
         few = rows_few b;
       }
 
-  pub accepted-exactly : Bytes s → (judged (limits_of o C) s ≡ Accepted) ↔ ((rows : List NamedRow) × ProperRows o C rows × (encoded rows ≡ s))
+  pub accepted-exactly : Bytes s → (judged (limits_of o C) s ≡ (Ok tt)) ↔ ((rows : List NamedRow) × ProperRows o C rows × (encoded rows ≡ s))
   accepted-exactly b = (
     (λ e. (named_rows s, accepted-proper b e, taken-whole (limits_of o C) s b e)),
-    (λ r. subst (λ l. judged (limits_of o C) l ≡ Accepted) r.2 (encoded-accepted o terms C r.0 r.1).0),
+    (λ r. subst (λ l. judged (limits_of o C) l ≡ (Ok tt)) r.2 (encoded-accepted o terms C r.0 r.1).0),
   )

@@ -1,8 +1,6 @@
 -- A close leaves any well-formed book well formed. Assumes nothing.
-use Rattle.std.specs.Prelude.{◌≡◌, refl, ◌⊎◌, Bool, true, false, cond, not, List, ℕ, suc, ◌+◌, ◌-◌, ◌*◌, ◌≤◌, ◌<◌, ℤ, pos, ◌+ℤ◌, nat_abs, T, ltb, length}
+use Rattle.std.specs.Prelude.{◌≡◌, refl, ◌⊎◌, Bool, true, false, cond, not, List, ℕ, suc, ◌+◌, ◌-◌, ◌*◌, ◌≤◌, ◌<◌, ℤ, pos, ◌+ℤ◌, nat_abs, T, ltb, length, Option, Some, None}
 use Rattle.std.proofs.Common.{sym, ◌∙◌, subst, inl, inr, add-sub_of_le, suc-mul, mul-add, arith, lt-ltb, le-ltb, nltb→le}
-use Rattle.integer.specs.declared.Found.{Found}
-use Rattle.integer.specs.declared.Found.TheVariants.{At, Nothing}
 use Rattle.integer.proofs.laws.IntegerLaws.{abs-add, abs_neg}
 use Rattle.integer.proofs.laws.BelowLaws.{abs-sum_ℤ}
 use Rattle.integer.specs.Words.{word}
@@ -31,7 +29,7 @@ abbrev before : Terms → List ℤ → ℕ → Entries
 before o w last s a d i j = cond (ltb d last) (entries_of o w s a d i j) (pos 0)
 
 module _ (w : List ℤ) (t : T (well_formed w)) (k : ℕ) (day : (terms_of w).first + k ≡ next_day w) (closes : next_day w - (terms_of w).first ≡ k) (left : next_day w ≤ last_day)
-    (complete : first_missing (terms_of w) w (next_day w) ≡ Nothing) where
+    (complete : first_missing (terms_of w) w (next_day w) ≡ None) where
   abbrev o : Terms
   o = terms_of w
 
@@ -125,9 +123,9 @@ pub closed-formed : (w st : List ℤ) → T (well_formed w) → T (well_formed (
 unfolding closed settled
 closed-formed w st t = rw (T-path (well_formed w) t) (go (ltb last_day (next_day w)) (ltb (length st) ((terms_of w).accounts + 1)) refl)
   where
-    search : next_day w ≤ last_day → (x : Found) → first_missing (terms_of w) w (next_day w) ≡ x → T (well_formed (settled (terms_of w) w (next_day w) st x).words)
-    search left Nothing e = day-formed w t (next_day w - (terms_of w).first) (add-sub_of_le (next_of w t).1) refl left e
-    search left (At n) e = t
+    search : next_day w ≤ last_day → (x : Option ℕ) → first_missing (terms_of w) w (next_day w) ≡ x → T (well_formed (settled (terms_of w) w (next_day w) st x).words)
+    search left None e = day-formed w t (next_day w - (terms_of w).first) (add-sub_of_le (next_of w t).1) refl left e
+    search left (Some n) e = t
 
     go : (a b : Bool) → ltb last_day (next_day w) ≡ a
         → T (well_formed (closed_by (terms_of w) w (next_day w) st true a b (first_missing (terms_of w) w (next_day w))).words)

@@ -1,13 +1,11 @@
 -- A submission leaves any well-formed book well formed. Assumes nothing.
-use Rattle.std.specs.Prelude.{◌≡◌, refl, not, List, ℕ, ◌+◌, ◌-◌, ◌≤◌, ℤ, pos, T}
+use Rattle.std.specs.Prelude.{◌≡◌, refl, not, List, ℕ, ◌+◌, ◌-◌, ◌≤◌, ℤ, pos, T, Option, Some, None, Ok, Err}
 use Rattle.std.proofs.Common.{sym, ◌∙◌, subst, add-sub_of_le, arith}
-use Rattle.std.proofs.Math.Option.{Option, none, some}
 use Rattle.integer.specs.Below.{Each}
 use Rattle.rulebook.specs.declared.Section.{Section}
 use Rattle.rulebook.specs.declared.Section.TheVariants.{Vesting, Meter}
 use Rattle.rulebook.specs.declared.Terms.{Terms}
-use Rattle.rulebook.specs.declared.Verdict.{Verdict}
-use Rattle.rulebook.specs.declared.Verdict.TheVariants.{Accepted, Refused}
+use Rattle.rulebook.specs.Judging.{Verdict}
 use Rattle.rulebook.specs.Layout.{flag_index}
 use Rattle.rulebook.specs.BookData.{terms_of, next_day}
 use Rattle.rulebook.specs.WellFormed.{is_zero, row_fits, well_formed}
@@ -32,8 +30,8 @@ module _ (o : Terms) (b : Ledger) (q : Fit o b) (h : 1 ≤ o.horizon) (rs : List
   by_row P s a d i old new = go (last_for rs s a d) refl
     where
       go : (y : Option Row) → last_for rs s a d ≡ y → P (entry_or y (b.entries s a d) i)
-      go none e = old
-      go (some r) e = let z = last_one (Sound (limits_of o (o.first + b.closed))) rs s a d r x e in new r z.0 z.1
+      go None e = old
+      go (Some r) e = let z = last_one (Sound (limits_of o (o.first + b.closed))) rs s a d r x e in new r z.0 z.1
 
   there : (s : Section) (a d i : ℕ) → T (not (is_zero (b.entries s a d i (flag_index s)))) → T (not (is_zero (overlaid rs b.entries s a d i (flag_index s))))
   there s a d i old = rw (overlaid-last rs b.entries s a d i (flag_index s)) (by_row (λ f. T (not (is_zero (f (flag_index s))))) s a d i old
@@ -60,11 +58,11 @@ submitted-formed w file t = rw (T-path (well_formed w) t) (go (judged (limits_of
     day = add-sub_of_le (next_of w t).1
 
     go : (v : Verdict) → judged (limits_of (terms_of w) (next_day w)) file ≡ v → T (well_formed (taken w file v).words)
-    go Accepted e =
+    go (Ok tt) e =
         let q = opened_of w t in
         let x : Each (Sound (limits_of (terms_of w) ((terms_of w).first + (next_day w - (terms_of w).first)))) (file_rows file)
         = subst (λ (C : ℕ). Each (Sound (limits_of (terms_of w) C)) (file_rows file)) (sym day) (file-sound (limits_of (terms_of w) (next_day w)) q.accounts_from file e) in
         well_formed_lem (terms_of w) q (submitted_to (file_rows file) (ledger_of w)) (rows_stored (terms_of w) (file_rows file) w)
         (rows-held (terms_of w) (ring-pos (terms_of w) q) (file_rows file) (ledger_of w) w (storable (terms_of w) (next_day w - (terms_of w).first) q.horizon_from (file_rows file) x) (formed-holds w t))
         (file-fit (terms_of w) (ledger_of w) (formed-fit w t) q.horizon_from (file_rows file) x)
-    go (Refused why at) e = t
+    go (Err r) e = t

@@ -1,21 +1,18 @@
 -- Each close keeps what is true of a book after a history. Assumes nothing.
-use Rattle.std.specs.Prelude.{◌≡◌, ◌⊎◌, Bool, not, List, ◌∷◌, ℤ, ◌+ℤ◌, nat_abs, ltb, length}
+use Rattle.std.specs.Prelude.{◌≡◌, ◌⊎◌, Bool, not, List, ◌∷◌, ℤ, ◌+ℤ◌, nat_abs, ltb, length, Option, Some, None, Err}
 use Rattle.std.proofs.Math.Path.{refl, sym, ap}
 use Rattle.std.proofs.Common.{◌∙◌, subst, inl, inr, mul-suc, add-zero, ltb→lt, nltb→le}
 use Rattle.std.proofs.Math.Bool.{true, false, cond}
-use Rattle.std.proofs.Math.Option.{Option, none, some}
 use Prim.Native.Nat.{ℕ, suc, ◌+◌, ◌-◌, ◌*◌, ◌≤◌, ◌<◌}
 use native.Mathlib.Omega.{arith}
 use Rattle.std.proofs.Math.IntN.{neg_ℤ, neg_ℤ-+ℤ}
 use Rattle.std.proofs.Math.Dec.{T, leb, leb→le, nleb→lt}
-use Rattle.integer.specs.declared.Found.{Found}
-use Rattle.integer.specs.declared.Found.TheVariants.{At, Nothing}
 use Rattle.integer.specs.Below.{sum_ℤ}
 use Rattle.integer.proofs.laws.BelowLaws.{sum_ℤ-cong, sum_ℤ-add}
 use Rattle.rulebook.specs.declared.Section.{Section}
 use Rattle.rulebook.specs.declared.Section.TheVariants.{Vesting, Meter}
 use Rattle.rulebook.specs.declared.Terms.{Terms}
-use Rattle.rulebook.specs.declared.CloseAnswer.TheVariants.{Finished, NoRoom, DatumMissing}
+use Rattle.rulebook.specs.declared.CloseError.TheVariants.{Finished, NoRoom, DatumMissing}
 use Rattle.rulebook.specs.Units.{last_day, positive}
 use Rattle.rulebook.specs.DayAmount.{settles_residual, residual_day, posted_amount, mssl_amount}
 use Rattle.rulebook.specs.Terms.{InTerms}
@@ -43,16 +40,16 @@ use Rattle.rulebook.proofs.laws.StateLaws.{unchanged, formed, terms, next}
 
 module _ (o : Terms) (t : InTerms o) (past : List Event) (w : List ℤ) (h : State o past w) where
   -- refused with 9, 10 or 11: nothing changes
-  finished : (st : List ℤ) → last_day < closing_day o past → State o (record { call = close st; answer = of_close Finished } ∷ past) w
+  finished : (st : List ℤ) → last_day < closing_day o past → State o (record { call = close st; answer = of_close (Err Finished) } ∷ past) w
   unfolding closes in_force accepted_rows formula_balance residual_counts latest last_for
   finished st x = unchanged o past w h _ refl refl refl (add-zero (residual_counts past)) (λ y. absurd (omega arith), λ m. absurd (omega (arith, m.day_left)))
 
-  cramped : (st : List ℤ) → length st < o.accounts + 1 → State o (record { call = close st; answer = of_close NoRoom } ∷ past) w
+  cramped : (st : List ℤ) → length st < o.accounts + 1 → State o (record { call = close st; answer = of_close (Err NoRoom) } ∷ past) w
   unfolding closes in_force accepted_rows formula_balance residual_counts latest last_for
   cramped st x = unchanged o past w h _ refl refl refl (add-zero (residual_counts past)) (λ y. absurd (omega arith), λ m. absurd (omega (arith, m.room)))
 
-  missed : (st : List ℤ) (n : ℕ) → closing_day o past ≤ last_day → o.accounts + 1 ≤ length st → first_missing o w (closing_day o past) ≡ At n
-      → State o (record { call = close st; answer = of_close (DatumMissing n) } ∷ past) w
+  missed : (st : List ℤ) (n : ℕ) → closing_day o past ≤ last_day → o.accounts + 1 ≤ length st → first_missing o w (closing_day o past) ≡ Some n
+      → State o (record { call = close st; answer = of_close (Err (DatumMissing n)) } ∷ past) w
   unfolding closes in_force accepted_rows formula_balance residual_counts latest last_for
   missed st n left room e =
       let m = some_missing o t (closes past) (in_force past) (formula_balance o past) (neg_ℤ (sum_ℤ o.accounts (formula_balance o past))) w h.holds h.kept n e in
@@ -107,11 +104,11 @@ module _ (o : Terms) (t : InTerms o) (past : List Event) (w : List ℤ) (h : Sta
           let z : closes past - o.lag ≡ 0 = omega arith in
           rw (y, z) (add-zero (48 * o.accounts * 0))
 
-  unsent : (s : Section) (a : ℕ) → in_force past s a (o.first + closes past + o.horizon) ≡ none
+  unsent : (s : Section) (a : ℕ) → in_force past s a (o.first + closes past + o.horizon) ≡ None
   unsent s a = go (none_or (in_force past s a (o.first + closes past + o.horizon)))
     where
-      go : (in_force past s a (o.first + closes past + o.horizon) ≡ none) ⊎ ((r : Row) × (in_force past s a (o.first + closes past + o.horizon) ≡ some r))
-          → in_force past s a (o.first + closes past + o.horizon) ≡ none
+      go : (in_force past s a (o.first + closes past + o.horizon) ≡ None) ⊎ ((r : Row) × (in_force past s a (o.first + closes past + o.horizon) ≡ Some r))
+          → in_force past s a (o.first + closes past + o.horizon) ≡ None
       go (inl x) = x
       go (inr x) = absurd (omega (arith, h.kept.ahead s a (o.first + closes past + o.horizon) x.0 x.1))
 
@@ -122,8 +119,8 @@ module _ (o : Terms) (t : InTerms o) (past : List Event) (w : List ℤ) (h : Sta
       ∙ sym (neg_ℤ-+ℤ (sum_ℤ o.accounts (formula_balance o past)) (sum_ℤ o.accounts (formula_amount o past)))
       ∙ ap neg_ℤ (sum_ℤ-add o.accounts (formula_balance o past) (formula_amount o past))
 
-  accepted-close : (st : List ℤ) → closing_day o past ≤ last_day → first_missing o w (closing_day o past) ≡ Nothing
-      → State o (record { call = close st; answer = of_close (settled o w (closing_day o past) st Nothing).answer } ∷ past) (day_closed o w (closing_day o past))
+  accepted-close : (st : List ℤ) → closing_day o past ≤ last_day → first_missing o w (closing_day o past) ≡ None
+      → State o (record { call = close st; answer = of_close (settled o w (closing_day o past) st None).answer } ∷ past) (day_closed o w (closing_day o past))
   unfolding closes in_force accepted_rows formula_balance residual_counts latest last_for settled
   accepted-close st left e =
       let all = all_there_lem o t (closes past) (in_force past) (formula_balance o past) (neg_ℤ (sum_ℤ o.accounts (formula_balance o past))) w h.holds h.kept e in
@@ -137,11 +134,11 @@ module _ (o : Terms) (t : InTerms o) (past : List Event) (w : List ℤ) (h : Sta
         reported = ((λ y. absurd (omega arith), λ m. absurd (all m.missing.section m.missing.account m.missing.day m.missing.needed m.missing.absent)), h.reported);
       }
 
-  close-done : (st : List ℤ) → (x : Found) → first_missing o w (closing_day o past) ≡ x → closing_day o past ≤ last_day → o.accounts + 1 ≤ length st
+  close-done : (st : List ℤ) → (x : Option ℕ) → first_missing o w (closing_day o past) ≡ x → closing_day o past ≤ last_day → o.accounts + 1 ≤ length st
       → State o (record { call = close st; answer = of_close (settled o w (closing_day o past) st x).answer } ∷ past) (settled o w (closing_day o past) st x).words
   unfolding settled
-  close-done st Nothing e left room = accepted-close st left e
-  close-done st (At n) e left room = missed st n left room e
+  close-done st None e left room = accepted-close st left e
+  close-done st (Some n) e left room = missed st n left room e
 
   -- what a close answers and leaves
   pub close-is : (st : List ℤ) → closed w st ≡ closed_by o w (closing_day o past) st true (ltb last_day (closing_day o past)) (ltb (length st) (o.accounts + 1)) (first_missing o w (closing_day o past))

@@ -1,22 +1,18 @@
 -- The companion of demand 3, by induction on the run. Assumes nothing.
-use Rattle.std.specs.Prelude.{◌≡◌, refl, ◌≢◌, Bool, not, List, [], ℕ, ◌+◌, ◌≤◌, ℤ, ltb, length}
+use Rattle.std.specs.Prelude.{◌≡◌, refl, ◌≢◌, Bool, not, List, [], ℕ, ◌+◌, ◌≤◌, ℤ, ltb, length, Option, Some, None, Ok, Err}
 use Rattle.std.proofs.Math.Path.{sym, ap}
 use Rattle.std.proofs.Common.{◌∙◌, subst, arith, nltb→le}
 use Rattle.std.proofs.Math.Bool.{true, false}
 use Rattle.std.proofs.Math.IntN.{neg_ℤ}
 use Rattle.std.proofs.Math.Dec.{T}
-use Rattle.integer.specs.declared.Found.{Found}
-use Rattle.integer.specs.declared.Found.TheVariants.{At, Nothing}
 use Rattle.integer.specs.Below.{sum_ℤ}
 use Rattle.integer.proofs.laws.BelowLaws.{sum_ℤ-cong}
+use Rattle.rulebook.specs.Answers.{SubmitAnswer, CloseAnswer}
 use Rattle.rulebook.specs.declared.Terms.{Terms}
 use Rattle.rulebook.specs.declared.Why.{Why}
 use Rattle.rulebook.specs.declared.Why.TheVariants.{NotWhole, OutOfRange, DayNotOpen, Repeated, Excess}
-use Rattle.rulebook.specs.declared.Verdict.{Verdict}
-use Rattle.rulebook.specs.declared.Verdict.TheVariants.{Accepted, Refused}
-use Rattle.rulebook.specs.declared.SubmitAnswer.{SubmitAnswer}
-use Rattle.rulebook.specs.declared.CloseAnswer.{CloseAnswer}
-use Rattle.rulebook.specs.declared.CloseAnswer.TheVariants.{Finished, NoRoom, DatumMissing}
+use Rattle.rulebook.specs.Judging.{Verdict, refused}
+use Rattle.rulebook.specs.declared.CloseError.TheVariants.{Finished, NoRoom, DatumMissing}
 use Rattle.rulebook.specs.Units.{last_day}
 use Rattle.rulebook.specs.DayAmount.{mssl_amount}
 use Rattle.rulebook.specs.Terms.{InTerms}
@@ -49,16 +45,16 @@ not_3 Excess e = omega arith
 module _ (o : Terms) (t : InTerms o) (past : List Event) (w : List ℤ) (h : State o past w) where
   -- ---- submit
   submit-by : (file : List ℕ) (v : Verdict) → judged (limits_of o (closing_day o past)) file ≡ v → SubmitTells o past w file (of_submit (taken w file v).answer) (taken w file v).words
-  submit-by file Accepted e = record {
+  submit-by file (Ok tt) e = record {
     answered = ap of_verdict (sym e);
     well_formed = λ x. omega arith;
     refused = λ x. absurd (x refl);
     beyond = rw (terms o t past w h) (rows-beyond o (ring-pos o t) (closes past) (file_rows file) w
         (storable o (closes past) t.horizon_from (file_rows file) (file-sound (limits_of o (closing_day o past)) t.accounts_from file e)));
   }
-  submit-by file (Refused why at) e = record {
+  submit-by file (Err r) e = record {
     answered = ap of_verdict (sym e);
-    well_formed = not_3 why;
+    well_formed = not_3 r.why;
     refused = λ x. refl;
     beyond = kept-all (size o) w;
   }
@@ -88,9 +84,9 @@ module _ (o : Terms) (t : InTerms o) (past : List Event) (w : List ℤ) (h : Sta
     statement_beyond = kept-all (o.accounts + 1) st;
   }
 
-  settled-by : (st : List ℤ) → o.accounts + 1 ≤ length st → (x : Found) → close_told o past st ≡ search_answered o past x → Tells st (settled o w (closing_day o past) st x)
+  settled-by : (st : List ℤ) → o.accounts + 1 ≤ length st → (x : Option ℕ) → close_told o past st ≡ search_answered o past x → Tells st (settled o w (closing_day o past) st x)
   unfolding settled
-  settled-by st room Nothing e = record {
+  settled-by st room None e = record {
     answered = sym e;
     well_formed = λ x. omega arith;
     refused = λ x. absurd (x refl);
@@ -102,13 +98,13 @@ module _ (o : Terms) (t : InTerms o) (past : List Event) (w : List ℤ) (h : Sta
     where
       mssl-is : posted_to_mssl o w (closing_day o past) ≡ neg_ℤ (sum_ℤ o.accounts (formula_amount o past))
       mssl-is = unfold posted_to_mssl posted mssl_amount in ap neg_ℤ (sum_ℤ-cong o.accounts (posted o w (closing_day o past)) (formula_amount o past) (amount-same o t past w h))
-  settled-by st room (At n) e = refused-tells st (DatumMissing n) (sym e) (λ x. omega arith) (λ x. omega arith)
+  settled-by st room (Some n) e = refused-tells st (Err (DatumMissing n)) (sym e) (λ x. omega arith) (λ x. omega arith)
 
   close-by : (st : List ℤ) (a b : Bool) → ltb last_day (closing_day o past) ≡ a → ltb (length st) (o.accounts + 1) ≡ b
       → Tells st (closed_by o w (closing_day o past) st true a b (first_missing o w (closing_day o past)))
   unfolding close_told
-  close-by st true b x y = refused-tells st Finished (rw x refl) (λ z. omega arith) (λ z. omega arith)
-  close-by st false true x y = refused-tells st NoRoom (rw (x, y) refl) (λ z. omega arith) (λ z. omega arith)
+  close-by st true b x y = refused-tells st (Err Finished) (rw x refl) (λ z. omega arith) (λ z. omega arith)
+  close-by st false true x y = refused-tells st (Err NoRoom) (rw (x, y) refl) (λ z. omega arith) (λ z. omega arith)
   close-by st false false x y =
       settled-by st (nltb→le (length st) (o.accounts + 1) (subst (λ (b : Bool). T (not b)) (sym y) tt)) (first_missing o w (closing_day o past)) (rw (x, y, lacking-is) refl)
 

@@ -5,10 +5,8 @@ use Rattle.std.proofs.Math.IntN.{+ℤ_invr}
 use Rattle.integer.specs.Below.{sum_ℤ}
 use Rattle.integer.proofs.laws.BelowLaws.{sum_ℤ-cong}
 use Rattle.integer.specs.Words.{word}
+use Rattle.rulebook.specs.Answers.{OpenAnswer, SubmitAnswer, CloseAnswer}
 use Rattle.rulebook.specs.declared.Terms.{Terms}
-use Rattle.rulebook.specs.declared.OpenAnswer.{OpenAnswer}
-use Rattle.rulebook.specs.declared.SubmitAnswer.{SubmitAnswer}
-use Rattle.rulebook.specs.declared.CloseAnswer.{CloseAnswer}
 use Rattle.rulebook.specs.Terms.{InTerms}
 use Rattle.rulebook.specs.Layout.{balance_word}
 use Rattle.rulebook.specs.Opening.{opened}

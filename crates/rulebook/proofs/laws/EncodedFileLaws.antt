@@ -1,5 +1,5 @@
 -- The file of proper rows is accepted, and says those rows. Rests on EncodedLaws, row after row. Assumes nothing.
-use Rattle.std.specs.Prelude.{◌≡◌, refl, false, ◌&&◌, eqb, pos, get_or, drop}
+use Rattle.std.specs.Prelude.{◌≡◌, refl, false, ◌&&◌, eqb, pos, get_or, drop, Ok}
 use Rattle.std.proofs.Math.Path.{sym, ap, subst}
 use Rattle.std.proofs.Common.{◌∙◌, not-suc-le-zero, length-drop, drop-cons}
 use mathlib.Core.List.{List, [], ◌∷◌, ◌++◌, flat_map, append_assoc, append-nil}
@@ -13,7 +13,6 @@ use Rattle.integer.proofs.laws.CountLaws.{any_none}
 use Rattle.rulebook.specs.declared.Section.{Section}
 use Rattle.rulebook.specs.declared.Section.TheVariants.{Vesting, Meter, Residual, Ncc}
 use Rattle.rulebook.specs.declared.Terms.{Terms}
-use Rattle.rulebook.specs.declared.Verdict.TheVariants.{Accepted}
 use Rattle.rulebook.specs.Terms.{InTerms}
 use Rattle.rulebook.specs.File.{account_at, day_at, row_pos, section_end, meter_pos, residual_pos, ncc_pos, end_pos}
 use Rattle.rulebook.specs.Judging.{limits_of, given, row_after, judged_row, judged_section, judged}
@@ -94,12 +93,12 @@ module _ (o : Terms) (terms : InTerms o) (C : ℕ) (s : List ℕ) (sec : Section
           let d = each_at (λ r. r.section ≡ sec) rs absent own j m in
           rw (a.account, a.day, b.account, b.day) (rw (c, d, same_self sec) at k))
 
-      row-accepted : (i : ℕ) → i < length rs → judged_row (limits_of o C) sec s first i ≡ Accepted
+      row-accepted : (i : ℕ) → i < length rs → judged_row (limits_of o C) sec s first i ≡ (Ok tt)
       unfolding judged_row row_after
       row-accepted i l = let r = row_at i l in rw (row_new i l, r.keyed, r.rested)
 
   section-read : (at : ℕ) → length rs ≤ 65535 → From s at (section_bytes rs ++ xs)
-      → (judged_section (limits_of o C) sec s at ≡ Accepted) × AllAlike (section_of s sec at) rs × From s (section_end sec s at) xs
+      → (judged_section (limits_of o C) sec s at ≡ (Ok tt)) × AllAlike (section_of s sec at) rs × From s (section_end sec s at) xs
   unfolding section_bytes judged_section section_end section_of flat_map
   section-read at few f =
       let c = from_two s (length rs) at (flat_map row_bytes rs ++ xs) (omega arith) (from_is (append_assoc (bytes 2 (length rs)) _ xs) f) in (
@@ -112,12 +111,12 @@ module _ (o : Terms) (terms : InTerms o) (C : ℕ) (s : List ℕ) (sec : Section
 
 module _ (o : Terms) (terms : InTerms o) (C : ℕ) (rows : List NamedRow) (p : ProperRows o C rows) where
   part-read : (sec : Section) (at : ℕ) (xs : List ℕ) → From (encoded rows) at (section_bytes (rows_of sec rows) ++ xs)
-      → (judged_section (limits_of o C) sec (encoded rows) at ≡ Accepted) × AllAlike (section_of (encoded rows) sec at) (rows_of sec rows)
+      → (judged_section (limits_of o C) sec (encoded rows) at ≡ (Ok tt)) × AllAlike (section_of (encoded rows) sec at) (rows_of sec rows)
       × From (encoded rows) (section_end sec (encoded rows) at) xs
   part-read sec at xs f =
       section-read o terms C (encoded rows) sec (rows_of sec rows) (of_each (Proper o C) sec rows p.each) (of_own sec rows) (of_once sec rows p.once) xs at (p.few sec) f
 
-  pub encoded-accepted : (judged (limits_of o C) (encoded rows) ≡ Accepted) × AllAlike (named_rows (encoded rows)) rows
+  pub encoded-accepted : (judged (limits_of o C) (encoded rows) ≡ (Ok tt)) × AllAlike (named_rows (encoded rows)) rows
   unfolding judged
   encoded-accepted =
       let s : List ℕ = encoded rows in

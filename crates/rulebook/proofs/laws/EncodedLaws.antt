@@ -1,5 +1,5 @@
 -- The bytes of a proper row: the judge accepts them, and they say that row. Rests on FromLaws, and on the figures by number (IntervalLaws). Assumes nothing.
-use Rattle.std.specs.Prelude.{◌≡◌, refl, length}
+use Rattle.std.specs.Prelude.{◌≡◌, refl, length, Ok}
 use Rattle.std.proofs.Common.{sym, ◌∙◌, suc-mul, arith, le-leb}
 use Rattle.std.proofs.Math.Path.{ap}
 use mathlib.Core.List.{List, ◌++◌, flat_map, append_assoc}
@@ -11,7 +11,6 @@ use Rattle.rulebook.specs.declared.Section.{Section}
 use Rattle.rulebook.specs.declared.Section.TheVariants.{Vesting, Meter, Residual, Ncc}
 use Rattle.rulebook.specs.declared.Terms.{Terms}
 use Rattle.rulebook.specs.declared.Why.TheVariants.{OutOfRange, DayNotOpen}
-use Rattle.rulebook.specs.declared.Verdict.TheVariants.{Accepted}
 use Rattle.rulebook.specs.Terms.{InTerms}
 use Rattle.rulebook.specs.Sections.{least_count, most_count, per_interval}
 use Rattle.rulebook.specs.File.{num, account_bytes, count_bytes, day_pos, count_pos, values_pos, account_at, day_at, count_at, value_at, row_at, row_end, figure_of}
@@ -74,8 +73,8 @@ count-within Ncc n h = (omega arith, omega arith)
 
 -- what the bytes of row r at `at`, with xs after them, make of the judge and of the form
 pub record RowRead (o : Terms) (C : ℕ) (s : List ℕ) (at : ℕ) (sec : Section) (r : NamedRow) (xs : List ℕ) : Type 0 where
-  pub keyed : key (limits_of o C) sec s at ≡ Accepted
-  pub rested : rest sec s at ≡ Accepted
+  pub keyed : key (limits_of o C) sec s at ≡ (Ok tt)
+  pub rested : rest sec s at ≡ (Ok tt)
   pub alike : Alike (named (row_at sec s at)) r
   pub next : From s (row_end sec s at) xs
 
@@ -112,7 +111,7 @@ module _ (o : Terms) (terms : InTerms o) (C : ℕ) (s : List ℕ) (at : ℕ) (r 
       (b.0, from_to (rw (suc-mul h many) (omega arith)) b.1))
       (from_to (omega arith) headed.3)
 
-  accepted-value : (k : ℕ) → k < 48 * many → value r.section s values k ≡ Accepted
+  accepted-value : (k : ℕ) → k < 48 * many → value r.section s values k ≡ (Ok tt)
   unfolding value
   accepted-value n l =
       let q = row_of n 48 many l in

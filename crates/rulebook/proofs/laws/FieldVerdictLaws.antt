@@ -1,5 +1,5 @@
 -- At each field the judge says what the first of the table's conditions says. Assumes nothing.
-use Rattle.std.specs.Prelude.{◌≡◌, Bool, true, false, cond, not, ◌||◌, ℕ, ◌+◌, ◌-◌, ◌≤◌, ltb, leb, ℤ, length}
+use Rattle.std.specs.Prelude.{◌≡◌, Bool, true, false, cond, not, ◌||◌, ℕ, ◌+◌, ◌-◌, ◌≤◌, ltb, leb, ℤ, length, Ok, Err}
 use Rattle.std.proofs.Math.Path.{refl, sym, ap}
 use Rattle.std.proofs.Common.{◌∙◌, ⊎_elim, arith}
 use mathlib.Core.List.{List, [], ◌∷◌, flat_map}
@@ -12,8 +12,7 @@ use Rattle.rulebook.specs.declared.Section.TheVariants.{Vesting, Meter, Residual
 use Rattle.rulebook.specs.declared.Terms.{Terms}
 use Rattle.rulebook.specs.declared.Why.{Why}
 use Rattle.rulebook.specs.declared.Why.TheVariants.{OutOfRange, DayNotOpen, Repeated, Excess}
-use Rattle.rulebook.specs.declared.Verdict.{Verdict}
-use Rattle.rulebook.specs.declared.Verdict.TheVariants.{Accepted, Refused}
+use Rattle.rulebook.specs.Judging.{Verdict}
 use Rattle.rulebook.specs.Terms.{InTerms}
 use Rattle.rulebook.specs.Units.{in_range}
 use Rattle.rulebook.specs.File.{Figure, num, value_at}
@@ -30,13 +29,13 @@ use Rattle.rulebook.proofs.laws.FigureRangeLaws.{kind-range}
 
 -- the answer of a verdict, and a where it is accepted
 unfoldable pub told_or : Verdict → Answer → Answer
-told_or Accepted a = a
-told_or (Refused w p) a = numbered (why_number w) p
+told_or (Ok tt) a = a
+told_or (Err r) a = numbered (why_number r.why) r.at
 
 pub told-then : (x y : Verdict) (a : Answer) → told_or (x and_then y) a ≡ told_or x (told_or y a)
 unfolding told_or
-told-then Accepted y a = refl
-told-then (Refused w p) y a = refl
+told-then (Ok tt) y a = refl
+told-then (Err r) y a = refl
 
 told-require : (b : Bool) (w : Why) (p : ℕ) (a : Answer) → told_or (require b w p) a ≡ cond (not b) (numbered (why_number w) p) a
 unfolding told_or
@@ -108,7 +107,7 @@ module _ (o : Terms) (C : ℕ) (s : List ℕ) where
 
   -- and at fields in order
   unfoldable pub verdicts : List Field → Verdict
-  verdicts [] = Accepted
+  verdicts [] = (Ok tt)
   verdicts (f ∷ fs) = verdict_at f and_then verdicts fs
 
   pub fields_told : InTerms o → (fs : List Field) (a : Answer) → first_or numbered (flat_map (checks_of o C s) fs) a ≡ told_or (verdicts fs) a

@@ -1,7 +1,6 @@
 -- Data by name: of words that agree, and of the rows in force. Assumes nothing.
-use Rattle.std.specs.Prelude.{◌≡◌, refl, ℕ, zero, ◌≤◌, ◌<◌, ℤ, pos, T}
+use Rattle.std.specs.Prelude.{◌≡◌, refl, ℕ, zero, ◌≤◌, ◌<◌, ℤ, pos, T, Option, Some, None}
 use Rattle.std.proofs.Common.{ap, subst, arith}
-use Rattle.std.proofs.Math.Option.{Option, none, some}
 use Rattle.rulebook.specs.declared.Section.{Section}
 use Rattle.rulebook.specs.declared.Section.TheVariants.{Meter}
 use Rattle.rulebook.specs.declared.Terms.{Terms}
@@ -47,16 +46,16 @@ module _ (o : Terms) (k : ℕ) (rows : RowsInForce) (balance : ℕ → ℤ) (q :
   figure-entry : (g : Figure) (a i : ℕ) → Usable g → entry_named (entries_in rows) a d i g ≡ figure_in (rows (figure_section g) a d) i g
   figure-entry g a i u = go (rows (figure_section g) a d) (q.section (figure_section g) a d)
     where
-      go : (x : Option Row) → ((r : Row) → x ≡ some r → r.section ≡ figure_section g) → entry_of x i (figure_index g) ≡ figure_in x i g
-      go none f = refl
-      go (some r) f = entry-figure r i g u (f r refl)
+      go : (x : Option Row) → ((r : Row) → x ≡ Some r → r.section ≡ figure_section g) → entry_of x i (figure_index g) ≡ figure_in x i g
+      go None f = refl
+      go (Some r) f = entry-figure r i g u (f r refl)
 
   count-entry : (a i : ℕ) → positive (entries_in rows Meter a d i (flag_index Meter)) ≡ count_in (rows Meter a d)
   count-entry a i = go (rows Meter a d) (q.section Meter a d)
     where
-      go : (x : Option Row) → ((r : Row) → x ≡ some r → r.section ≡ Meter) → positive (entry_of x i (flag_index Meter)) ≡ count_in x
-      go none f = refl
-      go (some r) f = ap as_quantity (subst (λ (y : Section). entry r i (flag_index y) ≡ pos (present y r.count)) (f r refl) (entry-flag r i))
+      go : (x : Option Row) → ((r : Row) → x ≡ Some r → r.section ≡ Meter) → positive (entry_of x i (flag_index Meter)) ≡ count_in x
+      go None f = refl
+      go (Some r) f = ap as_quantity (subst (λ (y : Section). entry r i (flag_index y) ≡ pos (present y r.count)) (f r refl) (entry-flag r i))
 
   -- the words of the rows in force are in range
   pub rows-ranged : RangedEntries o.accounts (entries_in rows) d
@@ -65,16 +64,16 @@ module _ (o : Terms) (k : ℕ) (rows : RowsInForce) (balance : ℕ → ℤ) (q :
     few = λ a i ha hi. rw (count-entry a i) (few (rows Meter a d) (q.section Meter a d) (q.ranged Meter a d));
   }
     where
-      ranged : (g : Figure) (i : ℕ) → i < 48 → (x : Option Row) → ((r : Row) → x ≡ some r → r.section ≡ figure_section g) → ((r : Row) → x ≡ some r → RowRanged r)
+      ranged : (g : Figure) (i : ℕ) → i < 48 → (x : Option Row) → ((r : Row) → x ≡ Some r → r.section ≡ figure_section g) → ((r : Row) → x ≡ Some r → RowRanged r)
           → T (value_in_range (figure_section g) (figure_place g) (figure_in x i g))
-      ranged g i hi none f h = zero-ranged (figure_section g) (figure_place g)
-      ranged g i hi (some r) f h =
+      ranged g i hi None f h = zero-ranged (figure_section g) (figure_place g)
+      ranged g i hi (Some r) f h =
           let e = f r refl in
           rw (own-figure r i g e) (subst (λ (y : Section). T (value_in_range y (figure_place g) (number_of r i (figure_place g)))) e (number-ranged r (h r refl) i (figure_place g) hi))
 
-      few : (x : Option Row) → ((r : Row) → x ≡ some r → r.section ≡ Meter) → ((r : Row) → x ≡ some r → RowRanged r) → count_in x ≤ 4
-      few none f g = omega arith
-      few (some r) f g = subst (λ (y : Section). r.count ≤ most_count y) (f r refl) (g r refl).most
+      few : (x : Option Row) → ((r : Row) → x ≡ Some r → r.section ≡ Meter) → ((r : Row) → x ≡ Some r → RowRanged r) → count_in x ≤ 4
+      few None f g = omega arith
+      few (Some r) f g = subst (λ (y : Section). r.count ≤ most_count y) (f r refl) (g r refl).most
 
   -- the rows' words by name are the rows' data
   pub rows_agree : Agree o.accounts (data_of (entries_in rows)) (data_in_force rows) d

@@ -1,5 +1,5 @@
 -- What an accepted field, row, section and file say. Assumes nothing.
-use Rattle.std.specs.Prelude.{◌≡◌, refl, Bool, true, false, not, List, ℕ, ◌+◌, ◌*◌, ◌-◌, ◌≤◌, ◌<◌, leb, length}
+use Rattle.std.specs.Prelude.{◌≡◌, refl, Bool, true, false, not, List, ℕ, ◌+◌, ◌*◌, ◌-◌, ◌≤◌, ◌<◌, leb, length, Ok, Err}
 use Rattle.std.proofs.Common.{arith}
 use borrow.Author.Tests.{leb-true, not-true}
 use Rattle.integer.proofs.laws.BelowLaws.{fold-each}
@@ -8,8 +8,7 @@ use Rattle.rulebook.specs.declared.Section.TheVariants.{Vesting, Meter, Residual
 use Rattle.rulebook.specs.declared.Limits.{Limits}
 use Rattle.rulebook.specs.declared.Why.{Why}
 use Rattle.rulebook.specs.declared.Why.TheVariants.{NotWhole, OutOfRange, DayNotOpen, Repeated, Excess}
-use Rattle.rulebook.specs.declared.Verdict.{Verdict}
-use Rattle.rulebook.specs.declared.Verdict.TheVariants.{Accepted, Refused}
+use Rattle.rulebook.specs.Judging.{Verdict}
 use Rattle.rulebook.specs.Units.{in_range}
 use Rattle.rulebook.specs.Sections.{least_count, most_count, kind_of}
 use Rattle.rulebook.specs.File.{num, account_bytes, count_bytes, day_pos, count_pos, values_pos, account_at, day_at, values_in, value_at, row_pos, rows_in, meter_pos, residual_pos, ncc_pos, end_pos}
@@ -17,22 +16,22 @@ use Rattle.rulebook.specs.Judging.{open_from, require, ◌and_then◌, up_to, fi
 
 -- ---- Checks
 
-pub then_both : (x y : Verdict) → x and_then y ≡ Accepted → (x ≡ Accepted) × (y ≡ Accepted)
-then_both Accepted y e = (refl, e)
-then_both (Refused w p) y e = absurd (let z : ◌≡◌ {A = ℕ} 0 1 = cc in omega arith)
+pub then_both : (x y : Verdict) → x and_then y ≡ (Ok tt) → (x ≡ (Ok tt)) × (y ≡ (Ok tt))
+then_both (Ok tt) y e = (refl, e)
+then_both (Err r) y e = absurd (let z : ◌≡◌ {A = ℕ} 0 1 = cc in omega arith)
 
-pub require-true : (b : Bool) (w : Why) (p : ℕ) → require b w p ≡ Accepted → b ≡ true
+pub require-true : (b : Bool) (w : Why) (p : ℕ) → require b w p ≡ (Ok tt) → b ≡ true
 require-true true w p e = refl
 require-true false w p e = absurd (let z : ◌≡◌ {A = ℕ} 0 1 = cc in omega arith)
 
 -- an accepted check, and the checks after it
-pub checked : (b : Bool) (w : Why) (p : ℕ) (y : Verdict) → require b w p and_then y ≡ Accepted → (b ≡ true) × (y ≡ Accepted)
+pub checked : (b : Bool) (w : Why) (p : ℕ) (y : Verdict) → require b w p and_then y ≡ (Ok tt) → (b ≡ true) × (y ≡ (Ok tt))
 checked true w p y e = (refl, e)
 checked false w p y e = absurd (let z : ◌≡◌ {A = ℕ} 0 1 = cc in omega arith)
 
 -- where all were accepted, each was
-pub up_each : (n : ℕ) (f : ℕ → Verdict) → up_to n f ≡ Accepted → (i : ℕ) → i < n → f i ≡ Accepted
-up_each = fold-each ◌and_then◌ Accepted then_both
+pub up_each : (n : ℕ) (f : ℕ → Verdict) → up_to n f ≡ (Ok tt) → (i : ℕ) → i < n → f i ≡ (Ok tt)
+up_each = fold-each ◌and_then◌ (Ok tt) then_both
 
 -- ---- Fields
 
@@ -42,7 +41,7 @@ module _ (n low high : ℕ) (why : Why) (s : List ℕ) (at : ℕ) where
     pub from : low ≤ num n s at
     pub to : num n s at ≤ high
 
-  pub field-says : field_in n low high why s at ≡ Accepted → FieldFine
+  pub field-says : field_in n low high why s at ≡ (Ok tt) → FieldFine
   unfolding field_in
   field-says e =
       let p = checked (leb (at + n) (length s)) NotWhole at _ e in
@@ -57,7 +56,7 @@ pub record Value (sec : Section) (s : List ℕ) (from k : ℕ) : Type 0 where
   pub whole : from + 4 * k + 4 ≤ length s
   pub ranged : in_range (kind_of sec k) (value_at s (from + 4 * k)) ≡ true
 
-pub value-says : (sec : Section) (s : List ℕ) (from k : ℕ) → value sec s from k ≡ Accepted → Value sec s from k
+pub value-says : (sec : Section) (s : List ℕ) (from k : ℕ) → value sec s from k ≡ (Ok tt) → Value sec s from k
 unfolding value
 value-says sec s from k e =
     let p = checked (leb (from + 4 * k + 4) (length s)) NotWhole (from + 4 * k) _ e in
@@ -69,7 +68,7 @@ pub record Keyed (l : Limits) (sec : Section) (s : List ℕ) (at : ℕ) : Type 0
   pub account : FieldFine (account_bytes sec) 0 (l.accounts - 1) OutOfRange s at
   pub day : FieldFine 2 (open_from l sec) l.last DayNotOpen s (day_pos sec at)
 
-pub keyed : (l : Limits) (sec : Section) (s : List ℕ) (at : ℕ) → key l sec s at ≡ Accepted → Keyed l sec s at
+pub keyed : (l : Limits) (sec : Section) (s : List ℕ) (at : ℕ) → key l sec s at ≡ (Ok tt) → Keyed l sec s at
 unfolding key
 keyed l sec s at e =
     let p = then_both (field_in (account_bytes sec) 0 (l.accounts - 1) OutOfRange s at) _ e in
@@ -81,7 +80,7 @@ pub record Fine (l : Limits) (sec : Section) (s : List ℕ) (at : ℕ) : Type 0 
   pub count : FieldFine (count_bytes sec) (least_count sec) (most_count sec) OutOfRange s (count_pos sec at)
   pub each : (k : ℕ) → k < values_in sec s at → Value sec s (values_pos sec at) k
 
-pub row_fine : (l : Limits) (sec : Section) (s : List ℕ) (at : ℕ) (again : Bool) → row_after l sec s at again ≡ Accepted → (again ≡ false) × Fine l sec s at
+pub row_fine : (l : Limits) (sec : Section) (s : List ℕ) (at : ℕ) (again : Bool) → row_after l sec s at again ≡ (Ok tt) → (again ≡ false) × Fine l sec s at
 unfolding row_after rest
 row_fine l sec s at again e =
     let p = then_both (key l sec s at) _ e in
@@ -98,7 +97,7 @@ row_fine l sec s at again e =
 -- ---- Sections and file
 
 -- row i of an accepted section is fine, and no row before it has its account and day
-module _ (l : Limits) (sec : Section) (s : List ℕ) (at : ℕ) (e : judged_section l sec s at ≡ Accepted) where
+module _ (l : Limits) (sec : Section) (s : List ℕ) (at : ℕ) (e : judged_section l sec s at ≡ (Ok tt)) where
   pub section-start : at + 2 ≤ length s
   unfolding judged_section
   section-start = leb-true _ _ (checked (leb (at + 2) (length s)) NotWhole at _ e).0
@@ -111,13 +110,13 @@ module _ (l : Limits) (sec : Section) (s : List ℕ) (at : ℕ) (e : judged_sect
 
 -- the four sections of an accepted file, and its end
 pub record Sections (l : Limits) (s : List ℕ) : Type 0 where
-  pub vesting : judged_section l Vesting s 0 ≡ Accepted
-  pub meter : judged_section l Meter s (meter_pos s) ≡ Accepted
-  pub residual : judged_section l Residual s (residual_pos s) ≡ Accepted
-  pub ncc : judged_section l Ncc s (ncc_pos s) ≡ Accepted
+  pub vesting : judged_section l Vesting s 0 ≡ (Ok tt)
+  pub meter : judged_section l Meter s (meter_pos s) ≡ (Ok tt)
+  pub residual : judged_section l Residual s (residual_pos s) ≡ (Ok tt)
+  pub ncc : judged_section l Ncc s (ncc_pos s) ≡ (Ok tt)
   pub ends : length s ≤ end_pos s
 
-pub sections : (l : Limits) (s : List ℕ) → judged l s ≡ Accepted → Sections l s
+pub sections : (l : Limits) (s : List ℕ) → judged l s ≡ (Ok tt) → Sections l s
 unfolding judged
 sections l s e =
     let p = then_both (judged_section l Vesting s 0) _ e in

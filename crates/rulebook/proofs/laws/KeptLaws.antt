@@ -1,7 +1,6 @@
 -- The rows in force are in range, of days not past the window, and complete for closed days; a book that holds such rows is well formed. Assumes nothing.
-use Rattle.std.specs.Prelude.{◌≡◌, refl, ◌⊎◌, Bool, true, false, cond, not, ℕ, zero, suc, ◌+◌, ◌*◌, ◌≤◌, ◌<◌, ℤ, pos, T, leb, ltb}
+use Rattle.std.specs.Prelude.{◌≡◌, refl, ◌⊎◌, Bool, true, false, cond, not, ℕ, zero, suc, ◌+◌, ◌*◌, ◌≤◌, ◌<◌, ℤ, pos, T, leb, ltb, Option, Some, None}
 use Rattle.std.proofs.Common.{sym, ap, ◌∙◌, subst, inl, inr, arith, leb→le, le→leb, ltb→lt}
-use Rattle.std.proofs.Math.Option.{Option, none, some}
 use Rattle.std.proofs.Math.Dec.{not_T}
 use Rattle.integer.specs.Below.{all, any}
 use Rattle.integer.specs.Words.{word}
@@ -96,10 +95,10 @@ there-fits r h f i hi e =
     (and_both (leb (least_count s) c) (all (width s) (λ j. word_fits s c (word_name s j) (f j))) (le→leb _ _ h.least)
     (all_yes (width s) (λ j. word_fits s c (word_name s j) (f j)) (λ j hj. rw (e j hj) (word_fits_lem r h i hi (word_name s j))))))
 
-pub row_fits_lem : (s : Section) (x : Option Row) → ((r : Row) → x ≡ some r → (r.section ≡ s) × RowRanged r) → (f : ℕ → ℤ) (i : ℕ) → i < 48
+pub row_fits_lem : (s : Section) (x : Option Row) → ((r : Row) → x ≡ Some r → (r.section ≡ s) × RowRanged r) → (f : ℕ → ℤ) (i : ℕ) → i < 48
     → ((j : ℕ) → j < width s → f j ≡ entry_of x i j) → T (row_fits s f)
-row_fits_lem s none h f i hi e = absent-fits s f e
-row_fits_lem s (some r) h f i hi e =
+row_fits_lem s None h f i hi e = absent-fits s f e
+row_fits_lem s (Some r) h f i hi e =
     let q = h r refl in
     subst (λ (t : Section). T (row_fits t f)) q.0 (there-fits r q.1 f i hi (subst (λ (t : Section). (j : ℕ) → j < width t → f j ≡ entry r i j) (sym q.0) e))
 
@@ -110,9 +109,9 @@ present-more Meter (suc c) h = (c, refl)
 present-more Residual c h = (0, refl)
 present-more Ncc c h = (0, refl)
 
-pub none_or : {A : Type 0} (x : Option A) → (x ≡ none) ⊎ ((r : A) × (x ≡ some r))
-none_or none = inl refl
-none_or (some r) = inr (r, refl)
+pub none_or : {A : Type 0} (x : Option A) → (x ≡ None) ⊎ ((r : A) × (x ≡ Some r))
+none_or None = inl refl
+none_or (Some r) = inr (r, refl)
 
 pub flag-more : (s : Section) (i : ℕ) (r : Row) → r.section ≡ s → RowRanged r → (n : ℕ) × (entry r i (flag_index s) ≡ pos (suc n))
 flag-more s i r e h =

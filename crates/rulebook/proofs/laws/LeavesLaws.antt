@@ -1,23 +1,18 @@
 -- An accepted close, and an accepted file, leave every word of any lent book as Leaves says. Assumes nothing.
-use Rattle.std.specs.Prelude.{◌≡◌, refl, Bool, true, false, cond, List, [], ◌∷◌, map, ℕ, zero, suc, ◌+◌, ◌-◌, ◌*◌, ◌≤◌, ◌<◌, ℤ, ◌+ℤ◌, T, eqb, ltb, length, get_or}
+use Rattle.std.specs.Prelude.{◌≡◌, refl, Bool, true, false, cond, List, [], ◌∷◌, map, ℕ, zero, suc, ◌+◌, ◌-◌, ◌*◌, ◌≤◌, ◌<◌, ℤ, ◌+ℤ◌, T, eqb, ltb, length, get_or, Option, Some, None, Ok, Err}
 use Rattle.std.proofs.Math.Path.{sym, ap}
 use Rattle.std.proofs.Common.{◌∙◌, subst, arith, le-leb, ltb-false, leb→le, le→leb, nltb→le}
-use Rattle.std.proofs.Math.Option.{none, some}
 use Rattle.std.proofs.lemmas.Bool.{lt-leb}
 use Rattle.std.proofs.Math.IntN.{pos, neg_ℤ}
 use Rattle.std.proofs.Math.Dec.{eqb_refl}
-use Rattle.integer.specs.declared.Found.{Found}
-use Rattle.integer.specs.declared.Found.TheVariants.{At, Nothing}
 use Rattle.integer.specs.Below.{Each}
 use Rattle.integer.proofs.laws.BelowLaws.{sum_ℤ-cong}
 use Rattle.integer.specs.Words.{word}
 use Rattle.rulebook.specs.declared.Section.{Section}
 use Rattle.rulebook.specs.declared.Section.TheVariants.{Vesting, Meter, Residual, Ncc}
 use Rattle.rulebook.specs.declared.Terms.{Terms}
-use Rattle.rulebook.specs.declared.CloseAnswer.TheVariants.{Closed}
-use Rattle.rulebook.specs.declared.SubmitAnswer.TheVariants.{IllFormed}
-use Rattle.rulebook.specs.declared.Verdict.{Verdict}
-use Rattle.rulebook.specs.declared.Verdict.TheVariants.{Accepted, Refused}
+use Rattle.rulebook.specs.declared.SubmitError.TheVariants.{IllFormed}
+use Rattle.rulebook.specs.Judging.{Verdict}
 use Rattle.rulebook.specs.Units.{last_day}
 use Rattle.rulebook.specs.DayAmount.{settles_residual, mssl_amount}
 use Rattle.rulebook.specs.Layout.{base, ring, interval_size, slot, interval_word, row_word, width, place, row_table, padding}
@@ -53,22 +48,22 @@ pub record Settled (w st : List ℤ) : Type 0 where
   pub formed : T (well_formed w)
   pub left : next_day w ≤ last_day
   pub room : (terms_of w).accounts + 1 ≤ length st
-  pub settles : closed w st ≡ settled (terms_of w) w (next_day w) st Nothing
+  pub settles : closed w st ≡ settled (terms_of w) w (next_day w) st None
 
 pub accepted-settled : (w st : List ℤ) → (of_close (closed w st).answer).number ≡ accepted → Settled w st
 unfolding closed settled
 accepted-settled w st n = go (well_formed w) (ltb last_day (next_day w)) (ltb (length st) ((terms_of w).accounts + 1)) (first_missing (terms_of w) w (next_day w)) refl refl refl refl n
   where
-    answers : Bool → Bool → Bool → Found → Closing
+    answers : Bool → Bool → Bool → Option ℕ → Closing
     answers = closed_by (terms_of w) w (next_day w) st
 
-    go : (a b c : Bool) (x : Found) → well_formed w ≡ a → ltb last_day (next_day w) ≡ b → ltb (length st) ((terms_of w).accounts + 1) ≡ c → first_missing (terms_of w) w (next_day w) ≡ x
+    go : (a b c : Bool) (x : Option ℕ) → well_formed w ≡ a → ltb last_day (next_day w) ≡ b → ltb (length st) ((terms_of w).accounts + 1) ≡ c → first_missing (terms_of w) w (next_day w) ≡ x
         → (of_close (answers a b c x).answer).number ≡ accepted → Settled w st
     go false b c x e f g h y = absurd (omega arith)
     go true true c x e f g h y = absurd (omega arith)
     go true false true x e f g h y = absurd (omega arith)
-    go true false false (At n) e f g h y = absurd (omega arith)
-    go true false false Nothing e f g h y = record {
+    go true false false (Some n) e f g h y = absurd (omega arith)
+    go true false false None e f g h y = record {
       formed = subst T (sym e) tt;
       left = ltb-false last_day (next_day w) f;
       room = nltb→le (length st) ((terms_of w).accounts + 1) (rw g tt);
@@ -92,7 +87,7 @@ module _ (w st : List ℤ) (t : T (well_formed w)) (room : (terms_of w).accounts
   unfolding base
   front n h = closed-front o w D n h
 
-  close-leaves : CloseLeaves o D w st (of_close (Closed (close_figures o D))) (day_closed o w D) (statement_written o w D st)
+  close-leaves : CloseLeaves o D w st (of_close (Ok (close_figures o D))) (day_closed o w D) (statement_written o w D st)
   unfolding posted posted_to_mssl mssl_amount residual_count settles_residual interval_word base interval_size slot ring
   close-leaves = record {
     number = refl;
@@ -121,35 +116,35 @@ closed-leaves w st n =
 -- ---- A file
 
 -- a submission that returned 0 was to a well-formed book, and the judge accepted its file
-accepted-taken : (w : List ℤ) (file : List ℕ) → (of_submit (submitted w file).answer).number ≡ accepted → T (well_formed w) × (judged (limits_of (terms_of w) (next_day w)) file ≡ Accepted)
+accepted-taken : (w : List ℤ) (file : List ℕ) → (of_submit (submitted w file).answer).number ≡ accepted → T (well_formed w) × (judged (limits_of (terms_of w) (next_day w)) file ≡ (Ok tt))
 unfolding submitted
 accepted-taken w file n = go (well_formed w) (judged (limits_of (terms_of w) (next_day w)) file) refl refl n
   where
     go : (b : Bool) (v : Verdict) → well_formed w ≡ b → judged (limits_of (terms_of w) (next_day w)) file ≡ v
-        → (of_submit (cond b (taken w file v) (record { answer = IllFormed; words = w })).answer).number ≡ accepted
-        → T (well_formed w) × (judged (limits_of (terms_of w) (next_day w)) file ≡ Accepted)
-    go true Accepted e f y = (subst T (sym e) tt, f)
-    go true (Refused why at) e f y = absurd (subst T (never-accepted why) (subst (λ (m : ℕ). T (eqb m accepted)) (sym y) tt))
+        → (of_submit (cond b (taken w file v) (record { answer = (Err IllFormed); words = w })).answer).number ≡ accepted
+        → T (well_formed w) × (judged (limits_of (terms_of w) (next_day w)) file ≡ (Ok tt))
+    go true (Ok tt) e f y = (subst T (sym e) tt, f)
+    go true (Err r) e f y = absurd (subst T (never-accepted r.why) (subst (λ (m : ℕ). T (eqb m accepted)) (sym y) tt))
     go false v e f y = absurd (omega arith)
 
 -- where no key comes twice, each row is the last for its key
-none_for : (r : Row) (rs : List Row) → Each (λ q. same_key (named r) q ≡ false) (map named rs) → last_for rs r.section r.account r.day ≡ none
+none_for : (r : Row) (rs : List Row) → Each (λ q. same_key (named r) q ≡ false) (map named rs) → last_for rs r.section r.account r.day ≡ None
 unfolding last_for latest
 none_for r [] e = refl
 none_for r (q ∷ rs) e = rw (none_for r rs e.1) (go (is_for r.section r.account r.day q) refl)
   where
-    go : (b : Bool) → is_for r.section r.account r.day q ≡ b → cond b (some q) none ≡ none
+    go : (b : Bool) → is_for r.section r.account r.day q ≡ b → cond b (Some q) None ≡ None
     go true f =
         let k = is_for_lem r.section r.account r.day q (subst T (sym f) tt) in
         absurd (subst T e.0 (rw (k.section, k.account, k.day) (search (and_both, section-self, eqb_refl))))
     go false f = refl
 
-each_last : (rs : List Row) → Once (map named rs) → Each (λ r. last_for rs r.section r.account r.day ≡ some r) rs
+each_last : (rs : List Row) → Once (map named rs) → Each (λ r. last_for rs r.section r.account r.day ≡ Some r) rs
 unfolding last_for latest Once
 each_last [] o = tt
 each_last (r ∷ rs) o = (
   rw (none_for r rs o.0, T-path (is_for r.section r.account r.day r) (for_itself r (record { section = refl; account = refl; day = refl }))) refl,
-  each_map (λ q. last_for rs q.section q.account q.day ≡ some q) (λ q. last_for (r ∷ rs) q.section q.account q.day ≡ some q) rs (λ q e. rw e refl) (each_last rs o.1),
+  each_map (λ q. last_for rs q.section q.account q.day ≡ Some q) (λ q. last_for (r ∷ rs) q.section q.account q.day ≡ Some q) rs (λ q e. rw e refl) (each_last rs o.1),
 )
 
 each_named : (P : NamedRow → Type 0) (rs : List Row) → Each (λ r. P (named r)) rs → Each P (map named rs)
@@ -198,8 +193,8 @@ rows_out o [] w n f = refl
 rows_out o (r ∷ rs) w n f = rows_out o rs (row_stored o r 48 w) n f.1
     ∙ row_out o r 48 w n (λ i j hi hj e. f.0 i j hi (rw (widths r.section) hj) (e ∙ row-index o r i j hj))
 
-module _ (w : List ℤ) (file : List ℕ) (t : T (well_formed w)) (e : judged (limits_of (terms_of w) (next_day w)) file ≡ Accepted) where
-  row-replaced : (r : Row) → Storable (terms_of w) (next_day w - (terms_of w).first) r → last_for (file_rows file) r.section r.account r.day ≡ some r
+module _ (w : List ℤ) (file : List ℕ) (t : T (well_formed w)) (e : judged (limits_of (terms_of w) (next_day w)) file ≡ (Ok tt)) where
+  row-replaced : (r : Row) → Storable (terms_of w) (next_day w - (terms_of w).first) r → last_for (file_rows file) r.section r.account r.day ≡ Some r
       → Replaced (terms_of w) (submitted w file).words (named r)
   row-replaced r x y i j hi hj =
       let l : j < width r.section = rw (← widths r.section) hj in
@@ -210,7 +205,7 @@ module _ (w : List ℤ) (file : List ℕ) (t : T (well_formed w)) (e : judged (l
   unfolding named_rows
   submit-leaves = record {
     replaced = each_named (Replaced (terms_of w) (submitted w file).words) (file_rows file)
-        (each_both (Storable (terms_of w) (next_day w - (terms_of w).first)) (λ r. last_for (file_rows file) r.section r.account r.day ≡ some r)
+        (each_both (Storable (terms_of w) (next_day w - (terms_of w).first)) (λ r. last_for (file_rows file) r.section r.account r.day ≡ Some r)
         (λ r. Replaced (terms_of w) (submitted w file).words (named r)) (file_rows file) row-replaced
         (rows-storable w file t e) (each_last (file_rows file) (rows-once (terms_of w) (opened_of w t) (next_day w) file e)));
     others = λ n f. rw (stored-words w file t e) (rows_out (terms_of w) (file_rows file) w n (named-each (NotNamed (terms_of w) n) (file_rows file) f));

@@ -1,15 +1,12 @@
 -- Submissions and closes of any lent book: an accepted row replaces all it names, a refusal keeps every word, words beyond are kept. Assumes nothing.
-use Rattle.std.specs.Prelude.{◌≡◌, ◌≢◌, Bool, true, false, cond, List, ℕ, ◌+◌, ◌-◌, ◌<◌, T, ltb, ℤ, length}
+use Rattle.std.specs.Prelude.{◌≡◌, ◌≢◌, Bool, true, false, cond, List, ℕ, ◌+◌, ◌-◌, ◌<◌, T, ltb, ℤ, length, Option, Some, None, Ok, Err}
 use Rattle.std.proofs.Math.Path.{refl}
 use Rattle.std.proofs.Common.{sym, ◌∙◌, subst, add-sub_of_le}
-use Rattle.integer.specs.declared.Found.{Found}
-use Rattle.integer.specs.declared.Found.TheVariants.{At, Nothing}
 use Rattle.integer.specs.Below.{Each}
 use Rattle.integer.specs.Words.{word}
-use Rattle.rulebook.specs.declared.Verdict.{Verdict}
-use Rattle.rulebook.specs.declared.Verdict.TheVariants.{Accepted, Refused}
+use Rattle.rulebook.specs.Judging.{Verdict}
 use Rattle.rulebook.specs.declared.Section.{Section}
-use Rattle.rulebook.specs.declared.SubmitAnswer.TheVariants.{IllFormed}
+use Rattle.rulebook.specs.declared.SubmitError.TheVariants.{IllFormed}
 use Rattle.rulebook.specs.Units.{last_day}
 use Rattle.rulebook.specs.Sections.{accounts_of}
 use Rattle.rulebook.specs.Layout.{width, row_word, size, InWindow}
@@ -34,7 +31,7 @@ use Rattle.rulebook.proofs.laws.BeyondLaws.{kept-all, rows-beyond, closed-beyond
 
 -- ---- Submissions
 
-module _ (w : List ℤ) (file : List ℕ) (t : T (well_formed w)) (e : judged (limits_of (terms_of w) (next_day w)) file ≡ Accepted) where
+module _ (w : List ℤ) (file : List ℕ) (t : T (well_formed w)) (e : judged (limits_of (terms_of w) (next_day w)) file ≡ (Ok tt)) where
   rows-sound : Each (Sound (limits_of (terms_of w) ((terms_of w).first + (next_day w - (terms_of w).first)))) (file_rows file)
   rows-sound = subst (λ (C : ℕ). Each (Sound (limits_of (terms_of w) C)) (file_rows file)) (sym (add-sub_of_le (next_of w t).1))
       (file-sound (limits_of (terms_of w) (next_day w)) (opened_of w t).accounts_from file e)
@@ -57,10 +54,10 @@ pub refused-submit : (w : List ℤ) (file : List ℕ) → (of_submit (submitted 
 unfolding submitted
 refused-submit w file n = go (well_formed w) (judged (limits_of (terms_of w) (next_day w)) file) n
   where
-    go : (b : Bool) (v : Verdict) → (of_submit (cond b (taken w file v) (record { answer = IllFormed; words = w })).answer).number ≢ accepted
-        → (cond b (taken w file v) (record { answer = IllFormed; words = w })).words ≡ w
-    go true Accepted x = absurd (x refl)
-    go true (Refused why at) x = refl
+    go : (b : Bool) (v : Verdict) → (of_submit (cond b (taken w file v) (record { answer = (Err IllFormed); words = w })).answer).number ≢ accepted
+        → (cond b (taken w file v) (record { answer = (Err IllFormed); words = w })).words ≡ w
+    go true (Ok tt) x = absurd (x refl)
+    go true (Err r) x = refl
     go false v x = refl
 
 pub submitted-beyond : (w : List ℤ) (file : List ℕ) → T (well_formed w) → KeptFrom (size (terms_of w)) w (submitted w file).words
@@ -68,8 +65,8 @@ unfolding submitted
 submitted-beyond w file t = rw (T-path (well_formed w) t) (go (judged (limits_of (terms_of w) (next_day w)) file) refl)
   where
     go : (v : Verdict) → judged (limits_of (terms_of w) (next_day w)) file ≡ v → KeptFrom (size (terms_of w)) w (taken w file v).words
-    go Accepted e = rows-beyond (terms_of w) (ring-pos (terms_of w) (opened_of w t)) (next_day w - (terms_of w).first) (file_rows file) w (rows-storable w file t e)
-    go (Refused why at) e = kept-all (size (terms_of w)) w
+    go (Ok tt) e = rows-beyond (terms_of w) (ring-pos (terms_of w) (opened_of w t)) (next_day w - (terms_of w).first) (file_rows file) w (rows-storable w file t e)
+    go (Err r) e = kept-all (size (terms_of w)) w
 
 -- ---- Closes
 
@@ -77,15 +74,15 @@ pub refused-close : (w statement : List ℤ) → (of_close (closed w statement).
 unfolding closed settled
 refused-close w statement n = go (well_formed w) (ltb last_day (next_day w)) (ltb (length statement) ((terms_of w).accounts + 1)) (first_missing (terms_of w) w (next_day w)) n
   where
-    answers : Bool → Bool → Bool → Found → Closing
+    answers : Bool → Bool → Bool → Option ℕ → Closing
     answers = closed_by (terms_of w) w (next_day w) statement
 
-    go : (a b c : Bool) (x : Found) → (of_close (answers a b c x).answer).number ≢ accepted → ((answers a b c x).words ≡ w) × ((answers a b c x).statement ≡ statement)
+    go : (a b c : Bool) (x : Option ℕ) → (of_close (answers a b c x).answer).number ≢ accepted → ((answers a b c x).words ≡ w) × ((answers a b c x).statement ≡ statement)
     go false b c x y = (refl, refl)
     go true true c x y = (refl, refl)
     go true false true x y = (refl, refl)
-    go true false false (At n) y = (refl, refl)
-    go true false false Nothing y = absurd (y refl)
+    go true false false (Some n) y = (refl, refl)
+    go true false false None y = absurd (y refl)
 
 pub closed-words_beyond : (w statement : List ℤ) → T (well_formed w) → CloseKeeps w statement
 unfolding closed settled
@@ -94,15 +91,15 @@ closed-words_beyond w statement t = record {
   written = rw (T-path (well_formed w) t) (statement-kept (ltb last_day (next_day w)) (ltb (length statement) ((terms_of w).accounts + 1)) (first_missing (terms_of w) w (next_day w)));
 }
   where
-    book-kept : (a b : Bool) (x : Found) → KeptFrom (size (terms_of w)) w (closed_by (terms_of w) w (next_day w) statement true a b x).words
+    book-kept : (a b : Bool) (x : Option ℕ) → KeptFrom (size (terms_of w)) w (closed_by (terms_of w) w (next_day w) statement true a b x).words
     book-kept true b x = kept-all (size (terms_of w)) w
     book-kept false true x = kept-all (size (terms_of w)) w
-    book-kept false false (At n) = kept-all (size (terms_of w)) w
-    book-kept false false Nothing = closed-beyond (terms_of w) (ring-pos (terms_of w) (opened_of w t)) w (next_day w)
+    book-kept false false (Some n) = kept-all (size (terms_of w)) w
+    book-kept false false None = closed-beyond (terms_of w) (ring-pos (terms_of w) (opened_of w t)) w (next_day w)
 
-    statement-kept : (a b : Bool) (x : Found)
+    statement-kept : (a b : Bool) (x : Option ℕ)
         → KeptFrom ((terms_of w).accounts + 1) statement (closed_by (terms_of w) w (next_day w) statement true a b x).statement
     statement-kept true b x = kept-all ((terms_of w).accounts + 1) statement
     statement-kept false true x = kept-all ((terms_of w).accounts + 1) statement
-    statement-kept false false (At n) = kept-all ((terms_of w).accounts + 1) statement
-    statement-kept false false Nothing = statement-beyond (terms_of w) w (next_day w) statement
+    statement-kept false false (Some n) = kept-all ((terms_of w).accounts + 1) statement
+    statement-kept false false None = statement-beyond (terms_of w) w (next_day w) statement

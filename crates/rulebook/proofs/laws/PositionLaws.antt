@@ -1,11 +1,10 @@
 -- Where rows stand, and that those of an accepted section lie within the file. Assumes nothing.
-use Rattle.std.specs.Prelude.{◌≡◌, refl, List, ℕ, zero, suc, ◌+◌, ◌-◌, ◌≤◌, length}
+use Rattle.std.specs.Prelude.{◌≡◌, refl, List, ℕ, zero, suc, ◌+◌, ◌-◌, ◌≤◌, length, Ok}
 use Rattle.std.proofs.Common.{⊎_elim, arith}
 use Rattle.integer.specs.Below.{turns}
 use Rattle.integer.proofs.laws.BelowLaws.{lt_or_le}
 use Rattle.rulebook.specs.declared.Section.{Section}
 use Rattle.rulebook.specs.declared.Limits.{Limits}
-use Rattle.rulebook.specs.declared.Verdict.TheVariants.{Accepted}
 use Rattle.rulebook.specs.File.{row_end, row_pos, rows_in, section_end, values_in}
 use Rattle.rulebook.specs.Judging.{judged_section}
 use Rattle.rulebook.proofs.laws.JudgingLaws.{Fine, section-start, section-row}
@@ -26,7 +25,7 @@ row-end l sec s at f =
     (λ h. let c = f.count.whole in omega arith)
     (lt_or_le 0 (values_in sec s at))
 
-module _ (l : Limits) (sec : Section) (s : List ℕ) (at : ℕ) (e : judged_section l sec s at ≡ Accepted) where
+module _ (l : Limits) (sec : Section) (s : List ℕ) (at : ℕ) (e : judged_section l sec s at ≡ (Ok tt)) where
   row_in-file : (i : ℕ) → i ≤ rows_in s at → row_pos sec s (at + 2) i ≤ length s
   row_in-file zero h = rw pos-zero (section-start l sec s at e)
   row_in-file (suc i) h = rw pos-suc (row-end l sec s (row_pos sec s (at + 2) i) (section-row l sec s at e i h).1)

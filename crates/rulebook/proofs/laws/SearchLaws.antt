@@ -1,14 +1,11 @@
 -- A close's search finds an absent flag exactly when a row that it needs is not there. Assumes nothing.
-use Rattle.std.specs.Prelude.{◌≡◌, ◌≢◌, ◌⊎◌, Bool, not, List, ℕ, ◌+◌, ◌-◌, ◌<◌, ℤ}
+use Rattle.std.specs.Prelude.{◌≡◌, ◌≢◌, ◌⊎◌, Bool, not, List, ℕ, ◌+◌, ◌-◌, ◌<◌, ℤ, Option, Some, None}
 use Rattle.std.proofs.Math.Path.{refl}
 use Rattle.std.proofs.Common.{sym, ap, ◌∙◌, subst, inl, inr}
 use Rattle.std.proofs.Math.Logic.{⊎_elim}
 use Rattle.std.proofs.Math.Bool.{true, false, cond}
-use Rattle.std.proofs.Math.Option.{Option, none, some}
 use native.Mathlib.Omega.{arith}
 use Rattle.std.proofs.Math.Dec.{T, leb→le}
-use Rattle.integer.specs.declared.Found.{Found}
-use Rattle.integer.specs.declared.Found.TheVariants.{At, Nothing}
 use Rattle.integer.specs.Below.{first, or_else}
 use Rattle.integer.proofs.laws.BelowLaws.{or_else-at, or_else-nothing, nothing-or_else, nothing-first, first_cong, first-front, first-nothing, first-at}
 use Rattle.integer.specs.Words.{word}
@@ -31,30 +28,30 @@ use Rattle.rulebook.proofs.laws.RowWordLaws.{flag-inside}
 use Rattle.rulebook.proofs.laws.KeptLaws.{none_or, flag-more, nonzero}
 use Rattle.rulebook.proofs.laws.TestLaws.{zero-yes}
 
-pub nothing-at : {X : Type 0} {v : ℕ} {x : Found} → x ≡ Nothing → x ≡ At v → X
+pub nothing-at : {X : Type 0} {v : ℕ} {x : Option ℕ} → x ≡ None → x ≡ Some v → X
 nothing-at e f = let z : ◌≡◌ {A = ℕ} 0 1 = cc in absurd (omega arith)
 
-either-at : (v : ℕ) {x y : Found} → or_else x y ≡ At v → (x ≡ At v) ⊎ (y ≡ At v)
+either-at : (v : ℕ) {x y : Option ℕ} → or_else x y ≡ Some v → (x ≡ Some v) ⊎ (y ≡ Some v)
 either-at v {x} {y} e = ⊎_elim inl (λ h. inr h.1) (or_else-at x y v e)
 
-or_else-cong : {x x' y y' : Found} → x ≡ x' → y ≡ y' → or_else x y ≡ or_else x' y'
+or_else-cong : {x x' y y' : Option ℕ} → x ≡ x' → y ≡ y' → or_else x y ≡ or_else x' y'
 or_else-cong e f = cc
 
 -- ---- One word
 
 module _ (w : List ℤ) (n : ℕ) where
-  pub absent-here : is_zero (word w n) ≡ true → absent_at w n ≡ At n
+  pub absent-here : is_zero (word w n) ≡ true → absent_at w n ≡ Some n
   unfolding absent_at
   absent-here e = rw e
 
-  pub absent-not : is_zero (word w n) ≡ false → absent_at w n ≡ Nothing
+  pub absent-not : is_zero (word w n) ≡ false → absent_at w n ≡ None
   unfolding absent_at
   absent-not e = rw e
 
-  pub there : absent_at w n ≡ Nothing → T (not (is_zero (word w n)))
+  pub there : absent_at w n ≡ None → T (not (is_zero (word w n)))
   there e = go (is_zero (word w n)) absent-here
     where
-      go : (b : Bool) → (b ≡ true → absent_at w n ≡ At n) → T (not b)
+      go : (b : Bool) → (b ≡ true → absent_at w n ≡ Some n) → T (not b)
       go true h = nothing-at e (h refl)
       go false h = tt
 
@@ -67,43 +64,43 @@ module _ (o : Terms) (D : ℕ) where
   needed-day (ncc_of t) = refl
   needed-day (residual_of t h) = refl
 
-  module _ (x : Section → ℕ → Found) where
-    pub searched-nothing : searched o.accounts (settles_residual o D) x ≡ Nothing → (s : Section) (a d : ℕ) → Needed o D s a d → x s a ≡ Nothing
+  module _ (x : Section → ℕ → Option ℕ) where
+    pub searched-nothing : searched o.accounts (settles_residual o D) x ≡ None → (s : Section) (a d : ℕ) → Needed o D s a d → x s a ≡ None
     unfolding searched
     searched-nothing e s a d n = go n
       where
-        late : (b : Bool) → T b → cond b (residuals_searched o.accounts x) Nothing ≡ Nothing → residuals_searched o.accounts x ≡ Nothing
+        late : (b : Bool) → T b → cond b (residuals_searched o.accounts x) None ≡ None → residuals_searched o.accounts x ≡ None
         late true t y = y
         late false t y = absurd t
 
-        residuals : T (settles_residual o D) → (x Ncc 0 ≡ Nothing) × (first o.accounts (x Residual) ≡ Nothing)
+        residuals : T (settles_residual o D) → (x Ncc 0 ≡ None) × (first o.accounts (x Residual) ≡ None)
         residuals t = or_else-nothing _ _ (late (settles_residual o D) t (or_else-nothing _ _ e).1)
 
-        account : (a : ℕ) → a < o.accounts → (x Vesting a ≡ Nothing) × (x Meter a ≡ Nothing)
+        account : (a : ℕ) → a < o.accounts → (x Vesting a ≡ None) × (x Meter a ≡ None)
         account a h = or_else-nothing _ _ (first-nothing o.accounts _ (or_else-nothing _ _ e).0 a h)
 
-        go : {s : Section} {a d : ℕ} → Needed o D s a d → x s a ≡ Nothing
+        go : {s : Section} {a d : ℕ} → Needed o D s a d → x s a ≡ None
         go (vesting_of {a = b} h) = (account b h).0
         go (meter_of {a = b} h) = (account b h).1
         go (ncc_of t) = (residuals t).0
         go (residual_of {a = b} t h) = first-nothing o.accounts (x Residual) (residuals t).1 b h
 
-    pub nothing-searched : ((s : Section) (a : ℕ) → Needed o D s a (needed_day o D s) → x s a ≡ Nothing) → searched o.accounts (settles_residual o D) x ≡ Nothing
+    pub nothing-searched : ((s : Section) (a : ℕ) → Needed o D s a (needed_day o D s) → x s a ≡ None) → searched o.accounts (settles_residual o D) x ≡ None
     unfolding searched
     nothing-searched h =
         nothing-or_else _ _ (nothing-first o.accounts _ (λ a l. nothing-or_else _ _ (h Vesting a (vesting_of l)) (h Meter a (meter_of l)))) (late (settles_residual o D) (λ t. t))
       where
-        late : (b : Bool) → (T b → T (settles_residual o D)) → cond b (residuals_searched o.accounts x) Nothing ≡ Nothing
+        late : (b : Bool) → (T b → T (settles_residual o D)) → cond b (residuals_searched o.accounts x) None ≡ None
         late true t = nothing-or_else _ _ (h Ncc 0 (ncc_of (t tt))) (nothing-first o.accounts _ (λ a l. h Residual a (residual_of (t tt) l)))
         late false t = refl
 
-    pub searched-cong : (y : Section → ℕ → Found) → ((s : Section) (a : ℕ) → Needed o D s a (needed_day o D s) → x s a ≡ y s a)
+    pub searched-cong : (y : Section → ℕ → Option ℕ) → ((s : Section) (a : ℕ) → Needed o D s a (needed_day o D s) → x s a ≡ y s a)
         → searched o.accounts (settles_residual o D) x ≡ searched o.accounts (settles_residual o D) y
     unfolding searched
     searched-cong y h =
         or_else-cong (first_cong o.accounts _ _ (λ a l. or_else-cong (h Vesting a (vesting_of l)) (h Meter a (meter_of l)))) (late (settles_residual o D) (λ t. t))
       where
-        late : (b : Bool) → (T b → T (settles_residual o D)) → cond b (residuals_searched o.accounts x) Nothing ≡ cond b (residuals_searched o.accounts y) Nothing
+        late : (b : Bool) → (T b → T (settles_residual o D)) → cond b (residuals_searched o.accounts x) None ≡ cond b (residuals_searched o.accounts y) None
         late true t = or_else-cong (h Ncc 0 (ncc_of (t tt))) (first_cong o.accounts _ _ (λ a l. h Residual a (residual_of (t tt) l)))
         late false t = refl
 
@@ -112,13 +109,13 @@ module _ (o : Terms) (D : ℕ) where
       section : Section
       account : ℕ
       needed : Needed o D section account (needed_day o D section)
-      found : x section account ≡ At v
+      found : x section account ≡ Some v
 
-    searched-at : (v : ℕ) → searched o.accounts (settles_residual o D) x ≡ At v → Finding v
+    searched-at : (v : ℕ) → searched o.accounts (settles_residual o D) x ≡ Some v → Finding v
     unfolding searched
     searched-at v e = ⊎_elim accounts (late (settles_residual o D) (λ t. t)) (either-at v e)
       where
-        accounts : first o.accounts (λ a. or_else (x Vesting a) (x Meter a)) ≡ At v → Finding v
+        accounts : first o.accounts (λ a. or_else (x Vesting a) (x Meter a)) ≡ Some v → Finding v
         accounts y =
             let r = first-at o.accounts _ v y in
             ⊎_elim
@@ -126,7 +123,7 @@ module _ (o : Terms) (D : ℕ) where
             (λ z. record { section = Meter; account = r.0; needed = meter_of r.1; found = z })
             (either-at v r.2)
 
-        late : (b : Bool) → (T b → T (settles_residual o D)) → cond b (residuals_searched o.accounts x) Nothing ≡ At v → Finding v
+        late : (b : Bool) → (T b → T (settles_residual o D)) → cond b (residuals_searched o.accounts x) None ≡ Some v → Finding v
         late true t y =
             ⊎_elim
             (λ z. record { section = Ncc; account = 0; needed = ncc_of (t tt); found = z })
@@ -135,23 +132,23 @@ module _ (o : Terms) (D : ℕ) where
         late false t y = nothing-at refl y
 
 -- nothing missing: each flag of a row that is needed is there
-pub needed-there : (o : Terms) (w : List ℤ) (D : ℕ) → first_missing o w D ≡ Nothing → (s : Section) (a d i : ℕ) → Needed o D s a d → i < 48 → T (not (is_zero (word w (flag_word o s a d i))))
+pub needed-there : (o : Terms) (w : List ℤ) (D : ℕ) → first_missing o w D ≡ None → (s : Section) (a d i : ℕ) → Needed o D s a d → i < 48 → T (not (is_zero (word w (flag_word o s a d i))))
 unfolding first_missing missing_at
-needed-there o w D e s a d i n h = there w (flag_word o s a d i) (subst (λ (d : ℕ). absent_at w (flag_word o s a d i) ≡ Nothing) (needed-day o D n)
+needed-there o w D e s a d i n h = there w (flag_word o s a d i) (subst (λ (d : ℕ). absent_at w (flag_word o s a d i) ≡ None) (needed-day o D n)
     (searched-nothing o D (absent_flag o w D i) (first-nothing 48 (missing_at o w D) e i h) s a d n))
 
 -- ---- A row that is not in force lacks its flags
 
-lack_any : (x : Option Row) (n m : ℕ) → flag_lacking x n ≡ Nothing → flag_lacking x m ≡ Nothing
-lack_any none n m e = nothing-at e refl
-lack_any (some r) n m e = refl
+lack_any : (x : Option Row) (n m : ℕ) → flag_lacking x n ≡ None → flag_lacking x m ≡ None
+lack_any None n m e = nothing-at e refl
+lack_any (Some r) n m e = refl
 
-lack_not : (x : Option Row) (n : ℕ) → flag_lacking x n ≡ Nothing → x ≢ none
+lack_not : (x : Option Row) (n : ℕ) → flag_lacking x n ≡ None → x ≢ None
 lack_not x n e f = nothing-at e (ap (λ (y : Option Row). flag_lacking y n) f)
 
-lack_none : (x : Option Row) (n v : ℕ) → flag_lacking x n ≡ At v → x ≡ none
-lack_none none n v e = refl
-lack_none (some r) n v e = nothing-at refl e
+lack_none : (x : Option Row) (n v : ℕ) → flag_lacking x n ≡ Some v → x ≡ None
+lack_none None n v e = refl
+lack_none (Some r) n v e = nothing-at refl e
 
 module _ (o : Terms) (t : InTerms o) (k : ℕ) (rows : RowsInForce) (balance : ℕ → ℤ) (m₀ : ℤ) (w : List ℤ) (h : HoldsLedger o (record { closed = k; entries = entries_in rows; balance = balance; mssl = m₀ }) w) (q : Kept o k rows balance) where
   pub today : InWindow o k (o.first + k)
@@ -175,7 +172,7 @@ module _ (o : Terms) (t : InTerms o) (k : ℕ) (rows : RowsInForce) (balance : �
       held : word w (flag_word o s a d i) ≡ entry_of (rows s a d) i (flag_index s)
       held = h.held s a d i (flag_index s) (needed-open n).0 (needed-open n).1 hi (flag-inside s)
 
-      go : (rows s a d ≡ none) ⊎ ((r : Row) × (rows s a d ≡ some r)) → absent_at w (flag_word o s a d i) ≡ flag_lacking (rows s a d) (flag_word o s a d i)
+      go : (rows s a d ≡ None) ⊎ ((r : Row) × (rows s a d ≡ Some r)) → absent_at w (flag_word o s a d i) ≡ flag_lacking (rows s a d) (flag_word o s a d i)
       go (inl x) = absent-here w (flag_word o s a d i) (T-path _ (zero-yes (held ∙ ap (λ (y : Option Row). entry_of y i (flag_index s)) x)))
           ∙ ap (λ (y : Option Row). flag_lacking y (flag_word o s a d i)) (sym x)
       go (inr x) = absent-not w (flag_word o s a d i)
@@ -183,10 +180,10 @@ module _ (o : Terms) (t : InTerms o) (k : ℕ) (rows : RowsInForce) (balance : �
           ∙ ap (λ (y : Option Row). flag_lacking y (flag_word o s a d i)) (sym x.1)
 
   -- what is found at a row in interval i, and by the search
-  abbrev lacking_in : ℕ → Section → ℕ → Found
+  abbrev lacking_in : ℕ → Section → ℕ → Option ℕ
   lacking_in i s a = flag_lacking (rows s a (needed_day o (o.first + k) s)) (flag_word o s a (needed_day o (o.first + k) s) i)
 
-  abbrev lacking_at : ℕ → Found
+  abbrev lacking_at : ℕ → Option ℕ
   lacking_at i = searched o.accounts (settles_residual o (o.first + k)) (lacking_in i)
 
   missing-is : (i : ℕ) → i < 48 → missing_at o w (o.first + k) i ≡ lacking_at i
@@ -194,7 +191,7 @@ module _ (o : Terms) (t : InTerms o) (k : ℕ) (rows : RowsInForce) (balance : �
   missing-is i hi = searched-cong o (o.first + k) (absent_flag o w (o.first + k) i) (lacking_in i) (λ s a n. flag_is s a (needed_day o (o.first + k) s) i n hi)
 
   -- a row has all its intervals, so nothing is missing where interval 0 misses nothing
-  lacking-any : lacking_at 0 ≡ Nothing → (i : ℕ) → lacking_at i ≡ Nothing
+  lacking-any : lacking_at 0 ≡ None → (i : ℕ) → lacking_at i ≡ None
   lacking-any e i = nothing-searched o (o.first + k) (lacking_in i)
       (λ s a n. lack_any (rows s a (needed_day o (o.first + k) s)) _ _ (searched-nothing o (o.first + k) (lacking_in 0) e s a (needed_day o (o.first + k) s) n))
 
@@ -204,8 +201,8 @@ module _ (o : Terms) (t : InTerms o) (k : ℕ) (rows : RowsInForce) (balance : �
   search_is = first_cong 48 (missing_at o w (o.first + k)) lacking_at missing-is ∙ first-front 47 lacking_at (λ e i l. lacking-any e i)
 
   -- nothing missing: each row that is needed is there
-  pub all_there_lem : first_missing o w (o.first + k) ≡ Nothing → (s : Section) (a d : ℕ) → Needed o (o.first + k) s a d → rows s a d ≢ none
-  all_there_lem e s a d n = subst (λ (d : ℕ). rows s a d ≢ none) (needed-day o (o.first + k) n)
+  pub all_there_lem : first_missing o w (o.first + k) ≡ None → (s : Section) (a d : ℕ) → Needed o (o.first + k) s a d → rows s a d ≢ None
+  all_there_lem e s a d n = subst (λ (d : ℕ). rows s a d ≢ None) (needed-day o (o.first + k) n)
       (lack_not (rows s a (needed_day o (o.first + k) s)) _ (searched-nothing o (o.first + k) (lacking_in 0) (sym search_is ∙ e) s a d n))
 
   -- a row that is needed and not there
@@ -214,9 +211,9 @@ module _ (o : Terms) (t : InTerms o) (k : ℕ) (rows : RowsInForce) (balance : �
     pub account : ℕ
     pub day : ℕ
     pub needed : Needed o (o.first + k) section account day
-    pub absent : rows section account day ≡ none
+    pub absent : rows section account day ≡ None
 
-  pub some_missing : (v : ℕ) → first_missing o w (o.first + k) ≡ At v → Lacking
+  pub some_missing : (v : ℕ) → first_missing o w (o.first + k) ≡ Some v → Lacking
   some_missing v e =
       let f = searched-at o (o.first + k) (lacking_in 0) v (sym search_is ∙ e) in
       let d = needed_day o (o.first + k) f.section in

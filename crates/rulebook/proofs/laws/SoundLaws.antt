@@ -1,5 +1,5 @@
 -- What is true of the rows of an accepted file. Assumes nothing.
-use Rattle.std.specs.Prelude.{◌≡◌, refl, true, cond, List, ℕ, ◌+◌, ◌-◌, ◌*◌, ◌%◌, ◌≤◌, ◌<◌, pos, T, eqb, ltb}
+use Rattle.std.specs.Prelude.{◌≡◌, refl, true, cond, List, ℕ, ◌+◌, ◌-◌, ◌*◌, ◌%◌, ◌≤◌, ◌<◌, pos, T, eqb, ltb, Ok}
 use Rattle.std.proofs.Common.{sym, ap, ◌∙◌, subst, mul_assoc, mul_comm, arith}
 use Rattle.std.proofs.Math.Arith.{digits_lt}
 use Rattle.integer.specs.Below.{tabulate, Each}
@@ -10,7 +10,6 @@ use Rattle.rulebook.specs.declared.Section.TheVariants.{Vesting, Meter, Residual
 use Rattle.rulebook.specs.declared.Kind.{Kind}
 use Rattle.rulebook.specs.declared.Kind.TheVariants.{Quantity, Price, Injection}
 use Rattle.rulebook.specs.declared.Limits.{Limits}
-use Rattle.rulebook.specs.declared.Verdict.TheVariants.{Accepted}
 use Rattle.rulebook.specs.Units.{in_range}
 use Rattle.rulebook.specs.Sections.{accounts_of, per_interval, kind_of}
 use Rattle.rulebook.specs.File.{Row, row_at, section_rows, file_rows, num, values_pos, values_in, count_at, account_at, value_at, row_pos, rows_in, meter_pos, residual_pos, ncc_pos}
@@ -68,13 +67,13 @@ module _ (l : Limits) (some : 1 ≤ l.accounts) where
     };
   }
 
-  section-sound : (sec : Section) (s : List ℕ) (at : ℕ) → judged_section l sec s at ≡ Accepted → Each (Sound l) (section_rows sec s at)
+  section-sound : (sec : Section) (s : List ℕ) (at : ℕ) → judged_section l sec s at ≡ (Ok tt) → Each (Sound l) (section_rows sec s at)
   unfolding section_rows
   section-sound sec s at e = each_tabulate (Sound l) (rows_in s at) _
       (λ i h. row-sound sec s (row_pos sec s (at + 2) i) (section-row l sec s at e i h).1)
 
   -- every row of an accepted file is one that the book can take
-  pub file-sound : (s : List ℕ) → judged l s ≡ Accepted → Each (Sound l) (file_rows s)
+  pub file-sound : (s : List ℕ) → judged l s ≡ (Ok tt) → Each (Sound l) (file_rows s)
   unfolding file_rows
   file-sound s e =
       let a = sections l s e in

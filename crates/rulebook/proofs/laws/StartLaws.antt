@@ -1,11 +1,11 @@
 -- An accepted opening leaves a book in the state of the empty history. Assumes nothing.
-use Rattle.std.specs.Prelude.{◌≡◌, Bool, true, false, cond, not, List, [], ℕ, ◌*◌, ◌≤◌, ℤ, T, ltb, length}
+use Rattle.std.specs.Prelude.{◌≡◌, Bool, true, false, cond, not, List, [], ℕ, ◌*◌, ◌≤◌, ℤ, T, ltb, length, Ok, Err}
 use Rattle.std.proofs.Math.Path.{refl, sym}
 use Rattle.std.proofs.Common.{ap, ◌∙◌, subst, arith, ltb→lt, nltb→le}
 use Rattle.std.proofs.Math.Nat.{mul-zero, zero-sub}
 use Rattle.std.proofs.Math.IntN.{neg_ℤ}
 use Rattle.rulebook.specs.declared.Terms.{Terms}
-use Rattle.rulebook.specs.declared.OpenAnswer.TheVariants.{Opened, BadTerms, TooShort}
+use Rattle.rulebook.specs.declared.OpenError.TheVariants.{BadTerms, TooShort}
 use Rattle.rulebook.specs.Terms.{terms_fit, InTerms}
 use Rattle.rulebook.specs.Layout.{size}
 use Rattle.rulebook.specs.WellFormed.{well_formed}
@@ -51,7 +51,7 @@ unfolding opened
 accepted-opening o lent e = go (terms_fit o) (ltb (length lent) (size o)) refl refl e
   where
     inner : Bool → Bool → Opening
-    inner a b = cond (not a) (record { answer = BadTerms; words = lent }) (cond b (record { answer = TooShort; words = lent }) (record { answer = Opened; words = new_book o lent }))
+    inner a b = cond (not a) (record { answer = (Err BadTerms); words = lent }) (cond b (record { answer = (Err TooShort); words = lent }) (record { answer = (Ok tt); words = new_book o lent }))
 
     go : (a b : Bool) → terms_fit o ≡ a → ltb (length lent) (size o) ≡ b → (of_open (inner a b).answer).number ≡ accepted
         → T (terms_fit o) × (size o ≤ length lent) × ((inner a b).words ≡ new_book o lent)
@@ -69,7 +69,7 @@ unfolding opened
 opening-told o lent start answer p = rw (p.answered, p.book_after) (go (terms_fit o) (ltb (length lent) (size o)) refl refl)
   where
     inner : Bool → Bool → Opening
-    inner a b = cond (not a) (record { answer = BadTerms; words = lent }) (cond b (record { answer = TooShort; words = lent }) (record { answer = Opened; words = new_book o lent }))
+    inner a b = cond (not a) (record { answer = (Err BadTerms); words = lent }) (cond b (record { answer = (Err TooShort); words = lent }) (record { answer = (Ok tt); words = new_book o lent }))
 
     not_terms : terms_fit o ≡ false → InTerms o → ⊥
     not_terms x t = subst T x (terms-fit o t)

@@ -1,14 +1,13 @@
 -- Each submission keeps what is true of a book after a history. Assumes nothing.
-use Rattle.std.specs.Prelude.{◌≡◌, Bool, true, false, cond, List, [], ◌∷◌, ℕ, ℤ, eqb}
+use Rattle.std.specs.Prelude.{◌≡◌, Bool, true, false, cond, List, [], ◌∷◌, ℕ, ℤ, eqb, Ok, Err}
 use Rattle.std.proofs.Math.Path.{refl, ap, fun_ext}
 use Rattle.std.proofs.Common.{sym, ◌∙◌, subst}
 use Rattle.rulebook.specs.declared.Terms.{Terms}
 use Rattle.rulebook.specs.declared.Limits.{Limits}
 use Rattle.rulebook.specs.declared.Why.{Why}
 use Rattle.rulebook.specs.declared.Why.TheVariants.{NotWhole, OutOfRange, DayNotOpen, Repeated, Excess}
-use Rattle.rulebook.specs.declared.Verdict.{Verdict}
-use Rattle.rulebook.specs.declared.Verdict.TheVariants.{Accepted, Refused}
-use Rattle.rulebook.specs.declared.SubmitAnswer.TheVariants.{FileRefused}
+use Rattle.rulebook.specs.Judging.{Verdict}
+use Rattle.rulebook.specs.declared.SubmitError.TheVariants.{FileRefused}
 use Rattle.rulebook.specs.Terms.{InTerms}
 use Rattle.rulebook.specs.BookData.{terms_of, next_day}
 use Rattle.rulebook.specs.WellFormed.{well_formed}
@@ -64,7 +63,7 @@ module _ (o : Terms) (t : InTerms o) (past : List Event) (w : List ℤ) (h : Sta
   submit-done : (file : List ℕ) (v : Verdict) → judged (limits_of o (closing_day o past)) file ≡ v
       → State o (record { call = submit file; answer = of_submit (taken w file v).answer } ∷ past) (taken w file v).words
   unfolding closes in_force accepted_rows formula_balance residual_counts latest last_for
-  submit-done file Accepted e =
+  submit-done file (Ok tt) e =
       let s = file-sound (limits_of o (closing_day o past)) t.accounts_from file e in
       record {
         holds = held_same refl (λ s a d i j. newer-entries (file_rows file) (in_force past) s a d i j) (λ a ha. refl) refl
@@ -73,10 +72,10 @@ module _ (o : Terms) (t : InTerms o) (past : List Event) (w : List ℤ) (h : Sta
         counted = h.counted;
         reported = (tt, h.reported);
       }
-  submit-done file (Refused why at) e = unchanged o past w h _ refl same refl refl tt
+  submit-done file (Err r) e = unchanged o past w h _ refl same refl refl tt
     where
-      same : in_force (record { call = submit file; answer = of_submit (FileRefused why at) } ∷ past) ≡ in_force past
-      same = fun_ext (λ s. fun_ext (λ a. fun_ext (λ d. ap (λ (b : Bool). latest (last_for (cond b (file_rows file) []) s a d) (in_force past s a d)) (never-accepted why))))
+      same : in_force (record { call = submit file; answer = of_submit (Err (FileRefused r)) } ∷ past) ≡ in_force past
+      same = fun_ext (λ s. fun_ext (λ a. fun_ext (λ d. ap (λ (b : Bool). latest (last_for (cond b (file_rows file) []) s a d) (in_force past s a d)) (never-accepted r.why))))
 
   pub submit-step : (file : List ℕ) → State o (record { call = submit file; answer = of_submit (submitted w file).answer } ∷ past) (submitted w file).words
   submit-step file = subst (λ (r : Submission). State o (record { call = submit file; answer = of_submit r.answer } ∷ past) r.words) (sym (submit-is file))

@@ -1,9 +1,8 @@
 -- What each call does to the rows that are kept. Assumes nothing.
-use Rattle.std.specs.Prelude.{◌≡◌, ◌≢◌, ◌⊎◌, Bool, true, cond, not, List, [], ◌∷◌, ℕ, suc, ◌+◌, ◌*◌, ◌≤◌, ◌<◌, ℤ, pos, ◌+ℤ◌, nat_abs, T}
+use Rattle.std.specs.Prelude.{◌≡◌, ◌≢◌, ◌⊎◌, Bool, true, cond, not, List, [], ◌∷◌, ℕ, suc, ◌+◌, ◌*◌, ◌≤◌, ◌<◌, ℤ, pos, ◌+ℤ◌, nat_abs, T, Option, Some, None}
 use Rattle.std.proofs.Math.Path.{refl, fun_ext}
 use Rattle.std.proofs.Common.{sym, ap, ◌∙◌, subst, inl, inr, suc-mul, arith}
 use Rattle.std.proofs.Math.Bool.{false}
-use Rattle.std.proofs.Math.Option.{Option, none, some}
 use Rattle.integer.proofs.laws.IntegerLaws.{abs-add, abs_neg}
 use Rattle.integer.specs.Below.{Each}
 use Rattle.integer.proofs.laws.BelowLaws.{abs-sum_ℤ}
@@ -25,33 +24,33 @@ use Rattle.rulebook.proofs.laws.SoundLaws.{Sound}
 use Rattle.rulebook.proofs.laws.KeptLaws.{row_fits_lem, none_or, flag-more, nonzero}
 use Rattle.rulebook.proofs.laws.FormLaws.{Fit}
 
-some_same : {A : Type 0} {a b : A} → some a ≡ some b → a ≡ b
+some_same : {A : Type 0} {a b : A} → Some a ≡ Some b → a ≡ b
 some_same e = cc
 
-pub some_none : {A X : Type 0} {a : A} → some a ≡ none → X
+pub some_none : {A X : Type 0} {a : A} → Some a ≡ None → X
 some_none e = let z : ◌≡◌ {A = ℕ} 0 1 = cc in absurd (omega arith)
 
-latest-some : {A : Type 0} (x y : Option A) (v : A) → latest x y ≡ some v → (x ≡ some v) ⊎ (y ≡ some v)
+latest-some : {A : Type 0} (x y : Option A) (v : A) → latest x y ≡ Some v → (x ≡ Some v) ⊎ (y ≡ Some v)
 unfolding latest
-latest-some none y v e = inr e
-latest-some (some a) y v e = inl e
+latest-some None y v e = inr e
+latest-some (Some a) y v e = inl e
 
-latest-none : {A : Type 0} (x y : Option A) → latest x y ≡ none → (x ≡ none) × (y ≡ none)
+latest-none : {A : Type 0} (x y : Option A) → latest x y ≡ None → (x ≡ None) × (y ≡ None)
 unfolding latest
-latest-none none y e = (refl, e)
-latest-none (some a) y e = some_none e
+latest-none None y e = (refl, e)
+latest-none (Some a) y e = some_none e
 
 -- the last row of a list for a section, account and day is one of the list, and for them
-pub last_one : (P : Row → Type 0) (rs : List Row) (s : Section) (a d : ℕ) (r : Row) → Each P rs → last_for rs s a d ≡ some r → P r × IsFor s a d r
+pub last_one : (P : Row → Type 0) (rs : List Row) (s : Section) (a d : ℕ) (r : Row) → Each P rs → last_for rs s a d ≡ Some r → P r × IsFor s a d r
 unfolding last_for
 last_one P [] s a d r x e = some_none (sym e)
 last_one P (q ∷ rs) s a d r x e = go (λ y. last_one P rs s a d r x.1 y) (latest-some _ _ r e)
   where
-    here : (b : Bool) → is_for s a d q ≡ b → cond b (some q) none ≡ some r → P r × IsFor s a d r
+    here : (b : Bool) → is_for s a d q ≡ b → cond b (Some q) None ≡ Some r → P r × IsFor s a d r
     here true f y = let z = some_same y in (subst P z x.0, subst (IsFor s a d) z (is_for_lem s a d q (subst T (sym f) tt)))
     here false f y = some_none (sym y)
 
-    go : (last_for rs s a d ≡ some r → P r × IsFor s a d r) → (last_for rs s a d ≡ some r) ⊎ (cond (is_for s a d q) (some q) none ≡ some r) → P r × IsFor s a d r
+    go : (last_for rs s a d ≡ Some r → P r × IsFor s a d r) → (last_for rs s a d ≡ Some r) ⊎ (cond (is_for s a d q) (Some q) None ≡ Some r) → P r × IsFor s a d r
     go ih (inl y) = ih y
     go ih (inr y) = here (is_for s a d q) refl y
 
@@ -87,25 +86,25 @@ unfolding overlaid last_for
 overlaid-last [] g s a d i j = refl
 overlaid-last (r ∷ rs) g s a d i j = overlaid-last rs (replaced r g) s a d i j ∙ step (last_for rs s a d) (is_for s a d r)
   where
-    step : (x : Option Row) (b : Bool) → entry_or x (λ i j. cond b (entry r i j) (g s a d i j)) i j ≡ entry_or (latest x (cond b (some r) none)) (g s a d) i j
-    step none true = unfold latest in refl
-    step none false = unfold latest in refl
-    step (some q) b = unfold latest in refl
+    step : (x : Option Row) (b : Bool) → entry_or x (λ i j. cond b (entry r i j) (g s a d i j)) i j ≡ entry_or (latest x (cond b (Some r) None)) (g s a d) i j
+    step None true = unfold latest in refl
+    step None false = unfold latest in refl
+    step (Some q) b = unfold latest in refl
 
 pub newer-entries : (rs : List Row) (rows : RowsInForce) (s : Section) (a d i j : ℕ) → overlaid rs (entries_in rows) s a d i j ≡ entries_in (newer rs rows) s a d i j
 newer-entries rs rows s a d i j = overlaid-last rs (entries_in rows) s a d i j ∙ step (last_for rs s a d)
   where
     step : (x : Option Row) → entry_or x (entries_in rows s a d) i j ≡ entry_of (latest x (rows s a d)) i j
-    step none = unfold latest in refl
-    step (some q) = unfold latest in refl
+    step None = unfold latest in refl
+    step (Some q) = unfold latest in refl
 
 -- the rows kept
 module _ (o : Terms) (k : ℕ) (rows : RowsInForce) (balance : ℕ → ℤ) (q : Kept o k rows balance) (z : 1 ≤ o.horizon) (rs : List Row) (x : Each (Sound (limits_of o (o.first + k))) rs) where
   by_file : (P : Section → ℕ → ℕ → Row → Type 0) → ((s : Section) (a d : ℕ) (r : Row) → Sound (limits_of o (o.first + k)) r → IsFor s a d r → P s a d r)
-      → ((s : Section) (a d : ℕ) (r : Row) → rows s a d ≡ some r → P s a d r) → (s : Section) (a d : ℕ) (r : Row) → newer rs rows s a d ≡ some r → P s a d r
+      → ((s : Section) (a d : ℕ) (r : Row) → rows s a d ≡ Some r → P s a d r) → (s : Section) (a d : ℕ) (r : Row) → newer rs rows s a d ≡ Some r → P s a d r
   by_file P f g s a d r e = go (latest-some (last_for rs s a d) (rows s a d) r e)
     where
-      go : (last_for rs s a d ≡ some r) ⊎ (rows s a d ≡ some r) → P s a d r
+      go : (last_for rs s a d ≡ Some r) ⊎ (rows s a d ≡ Some r) → P s a d r
       go (inl y) = let z = last_one (Sound (limits_of o (o.first + k))) rs s a d r x y in f s a d r z.0 z.1
       go (inr y) = g s a d r y
 
@@ -123,7 +122,7 @@ module _ (o : Terms) (k : ℕ) (rows : RowsInForce) (balance : ℕ → ℤ) (q :
 
 -- one day more closed
 module _ (o : Terms) (k : ℕ) (rows : RowsInForce) (balance more : ℕ → ℤ) (q : Kept o k rows balance)
-    (left : o.first + k ≤ last_day) (vestings : (a : ℕ) → a < o.accounts → rows Vesting a (o.first + k) ≢ none) (meters : (a : ℕ) → a < o.accounts → rows Meter a (o.first + k) ≢ none)
+    (left : o.first + k ≤ last_day) (vestings : (a : ℕ) → a < o.accounts → rows Vesting a (o.first + k) ≢ None) (meters : (a : ℕ) → a < o.accounts → rows Meter a (o.first + k) ≢ None)
     (amounts : (a : ℕ) → a < o.accounts → nat_abs (more a) ≤ day_bound) where
   older-or : (P : ℕ → Type 0) (d : ℕ) → d < o.first + suc k → (d < o.first + k → P d) → P (o.first + k) → P d
   older-or P d h f g = go (below_suc {i = d} {n = o.first + k} (omega arith))
@@ -138,24 +137,24 @@ module _ (o : Terms) (k : ℕ) (rows : RowsInForce) (balance more : ℕ → ℤ)
     ranged = q.ranged;
     ahead = λ s a d r e. omega (arith, q.ahead s a d r e);
     dated = q.dated;
-    vestings = λ a d ha hd hk. older-or (λ x. rows Vesting a x ≢ none) d hk (q.vestings a d ha hd) (vestings a ha);
-    meters = λ a d ha hd hk. older-or (λ x. rows Meter a x ≢ none) d hk (q.meters a d ha hd) (meters a ha);
+    vestings = λ a d ha hd hk. older-or (λ x. rows Vesting a x ≢ None) d hk (q.vestings a d ha hd) (vestings a ha);
+    meters = λ a d ha hd hk. older-or (λ x. rows Meter a x ≢ None) d hk (q.meters a d ha hd) (meters a ha);
     bounded = λ a ha. omega (arith, abs-add (balance a) (more a), q.bounded a ha, amounts a ha, suc-mul k day_bound);
     begun = omega arith;
   }
 
 module _ (o : Terms) (k : ℕ) (rows : RowsInForce) (balance : ℕ → ℤ) (q : Kept o k rows balance) where
-  there : (s : Section) (a d i : ℕ) → rows s a d ≢ none → T (not (is_zero (entry_of (rows s a d) i (flag_index s))))
+  there : (s : Section) (a d i : ℕ) → rows s a d ≢ None → T (not (is_zero (entry_of (rows s a d) i (flag_index s))))
   there s a d i f = go (none_or (rows s a d))
     where
-      go : (rows s a d ≡ none) ⊎ ((r : Row) × (rows s a d ≡ some r)) → T (not (is_zero (entry_of (rows s a d) i (flag_index s))))
+      go : (rows s a d ≡ None) ⊎ ((r : Row) × (rows s a d ≡ Some r)) → T (not (is_zero (entry_of (rows s a d) i (flag_index s))))
       go (inl e) = absurd (f e)
       go (inr e) = nonzero (ap (λ (x : Option Row). entry_of x i (flag_index s)) e.1 ∙ (flag-more s i e.0 (q.section s a d e.0 e.1) (q.ranged s a d e.0 e.1)).1)
 
   undated : (s : Section) (a d i j : ℕ) → last_day < d → entry_of (rows s a d) i j ≡ pos 0
   undated s a d i j x = go (none_or (rows s a d))
     where
-      go : (rows s a d ≡ none) ⊎ ((r : Row) × (rows s a d ≡ some r)) → entry_of (rows s a d) i j ≡ pos 0
+      go : (rows s a d ≡ None) ⊎ ((r : Row) × (rows s a d ≡ Some r)) → entry_of (rows s a d) i j ≡ pos 0
       go (inl e) = ap (λ (y : Option Row). entry_of y i j) e
       go (inr e) = absurd (omega (arith, q.dated s a d e.0 e.1))
 

@@ -1,13 +1,12 @@
 -- The judge's number is that of the first check that strikes. Rests on TableLaws and FieldVerdictLaws. Assumes nothing.
-use Rattle.std.specs.Prelude.{◌≡◌, refl, List, ◌↔◌, ℕ, ◌<◌}
+use Rattle.std.specs.Prelude.{◌≡◌, refl, List, ◌↔◌, ℕ, ◌<◌, Ok, Err}
 use Rattle.std.proofs.Common.{sym, ap, ◌∙◌, arith}
 use Rattle.integer.specs.Below.{Each}
 use Rattle.integer.proofs.laws.BelowLaws.{each_flat}
 use Rattle.rulebook.specs.declared.Terms.{Terms}
 use Rattle.rulebook.specs.declared.Why.{Why}
 use Rattle.rulebook.specs.declared.Why.TheVariants.{NotWhole, OutOfRange, DayNotOpen, Repeated, Excess}
-use Rattle.rulebook.specs.declared.Verdict.{Verdict}
-use Rattle.rulebook.specs.declared.Verdict.TheVariants.{Accepted, Refused}
+use Rattle.rulebook.specs.Judging.{Verdict}
 use Rattle.rulebook.specs.Terms.{InTerms}
 use Rattle.rulebook.specs.Judging.{limits_of, judged}
 use Rattle.rulebook.specs.Numbers.{Answer, accepted, numbered, why_number, of_verdict}
@@ -25,12 +24,12 @@ position-of a = a.position
 
 told_is : (v : Verdict) → told_or v (numbered accepted 0) ≡ of_verdict v
 unfolding told_or
-told_is Accepted = refl
-told_is (Refused w p) = refl
+told_is (Ok tt) = refl
+told_is (Err r) = refl
 
-pub told-accepted : (v : Verdict) → of_verdict v ≡ numbered accepted 0 → v ≡ Accepted
-told-accepted Accepted e = refl
-told-accepted (Refused w p) e = absurd (refusing w (ap (λ (a : Answer). a.number) e))
+pub told-accepted : (v : Verdict) → of_verdict v ≡ numbered accepted 0 → v ≡ (Ok tt)
+told-accepted (Ok tt) e = refl
+told-accepted (Err r) e = absurd (refusing r.why (ap (λ (a : Answer). a.number) e))
   where
     refusing : (w : Why) → why_number w ≡ 0 → ⊥
     refusing NotWhole z = omega arith
@@ -61,7 +60,7 @@ module _ (o : Terms) (terms : InTerms o) (C : ℕ) (s : List ℕ) where
     (λ f. sym first-told ∙ first-shows numbered (checks o C s) (numbered accepted 0) n p f),
   )
 
-  pub accepted-clear : (judged (limits_of o C) s ≡ Accepted) ↔ NoneStrikes (checks o C s)
+  pub accepted-clear : (judged (limits_of o C) s ≡ (Ok tt)) ↔ NoneStrikes (checks o C s)
   accepted-clear = (
     (λ e. first-clear numbered number_of position-of (λ n p. refl) (λ n p. refl) (numbered accepted 0) refl (checks o C s) (each_flat (λ c. 0 < c.number) (checks_of o C s) field-numbered (fields_of s)) (ap number_of (first-told ∙ ap of_verdict e))),
     (λ f. told-accepted (judged (limits_of o C) s) (sym first-told ∙ first-none numbered (checks o C s) (numbered accepted 0) f)),

@@ -1,12 +1,11 @@
 -- What a submission to a lent book returns: 3 exactly where the book is not well formed, else the judge's number by the table. Assumes nothing.
-use Rattle.std.specs.Prelude.{◌≡◌, refl, Bool, true, false, cond, List, ◌≢◌, ◌↔◌, ℕ, ◌<◌, T, ℤ}
+use Rattle.std.specs.Prelude.{◌≡◌, refl, Bool, true, false, cond, List, ◌≢◌, ◌↔◌, ℕ, ◌<◌, T, ℤ, Ok, Err}
 use Rattle.std.proofs.Common.{sym, ap, ◌∙◌}
 use native.Mathlib.Omega.{arith}
-use Rattle.rulebook.specs.declared.Verdict.{Verdict}
-use Rattle.rulebook.specs.declared.Verdict.TheVariants.{Accepted, Refused}
+use Rattle.rulebook.specs.Judging.{Verdict}
 use Rattle.rulebook.specs.declared.Why.{Why}
 use Rattle.rulebook.specs.declared.Why.TheVariants.{NotWhole, OutOfRange, DayNotOpen, Repeated, Excess}
-use Rattle.rulebook.specs.declared.SubmitAnswer.TheVariants.{IllFormed}
+use Rattle.rulebook.specs.declared.SubmitError.TheVariants.{IllFormed}
 use Rattle.rulebook.specs.BookData.{terms_of, next_day}
 use Rattle.rulebook.specs.WellFormed.{well_formed}
 use Rattle.rulebook.specs.Judging.{limits_of, judged}
@@ -30,15 +29,15 @@ module _ (w : List ℤ) (file : List ℕ) where
       other Repeated e = omega arith
       other Excess e = omega arith
 
-      go : (b : Bool) (v : Verdict) → of_submit (cond b (taken w file v) (record { answer = IllFormed; words = w })).answer ≡ numbered not_well_formed 0 → b ≡ false
+      go : (b : Bool) (v : Verdict) → of_submit (cond b (taken w file v) (record { answer = (Err IllFormed); words = w })).answer ≡ numbered not_well_formed 0 → b ≡ false
       go false v e = refl
-      go true Accepted e = absurd (let z : ◌≡◌ {A = ℕ} 0 3 = ap (λ (y : Answer). y.number) e in omega arith)
-      go true (Refused why at) e = absurd (other why (ap (λ (y : Answer). y.number) e))
+      go true (Ok tt) e = absurd (let z : ◌≡◌ {A = ℕ} 0 3 = ap (λ (y : Answer). y.number) e in omega arith)
+      go true (Err r) e = absurd (other r.why (ap (λ (y : Answer). y.number) e))
 
   module _ (t : T (well_formed w)) where
     told : (v : Verdict) → of_submit (taken w file v).answer ≡ of_verdict v
-    told Accepted = refl
-    told (Refused why at) = refl
+    told (Ok tt) = refl
+    told (Err r) = refl
 
     judged-told : of_submit (submitted w file).answer ≡ of_verdict (judged (limits_of (terms_of w) (next_day w)) file)
     unfolding submitted

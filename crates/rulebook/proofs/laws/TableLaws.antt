@@ -1,5 +1,5 @@
 -- The judge says of a file what it says at the file's fields in order. Assumes nothing.
-use Rattle.std.specs.Prelude.{◌≡◌, not, leb, length}
+use Rattle.std.specs.Prelude.{◌≡◌, not, leb, length, Ok}
 use Rattle.std.proofs.Math.Path.{refl, sym, ap}
 use Rattle.std.proofs.Common.{◌∙◌}
 use mathlib.Core.List.{List, [], ◌∷◌, ◌++◌, flat_map}
@@ -14,8 +14,7 @@ use Rattle.rulebook.specs.declared.Section.TheVariants.{Vesting, Meter, Residual
 use Rattle.rulebook.specs.declared.Terms.{Terms}
 use Rattle.rulebook.specs.declared.Why.{Why}
 use Rattle.rulebook.specs.declared.Why.TheVariants.{NotWhole, OutOfRange, DayNotOpen, Repeated, Excess}
-use Rattle.rulebook.specs.declared.Verdict.{Verdict}
-use Rattle.rulebook.specs.declared.Verdict.TheVariants.{Accepted, Refused}
+use Rattle.rulebook.specs.Judging.{Verdict, refused}
 use Rattle.rulebook.specs.Sections.{per_interval}
 use Rattle.rulebook.specs.File.{num, values_pos, values_in, account_at, day_at, count_at, row_pos, rows_in, ncc_pos, end_pos}
 use Rattle.rulebook.specs.Judging.{require, ◌and_then◌, up_to, open_from, limits_of, whole, field_in, value, key, given, rest, row_after, judged_row, judged_section, judged}
@@ -76,17 +75,17 @@ module _ (o : Terms) (C : ℕ) (s : List ℕ) where
   given-any sec at i k = any_same i _ _ (λ j l. rw (same_self sec))
 
   -- a field of no bytes adds nothing
-  no_field : (high : ℕ) (why : Why) (p : ℕ) (y : Verdict) → (length s < p → y ≡ Refused NotWhole p) → field_in 0 0 high why s p and_then y ≡ y
+  no_field : (high : ℕ) (why : Why) (p : ℕ) (y : Verdict) → (length s < p → y ≡ refused NotWhole p) → field_in 0 0 high why s p and_then y ≡ y
   unfolding field_in num
   no_field high why p y h =
       ⊎_elim (λ l. rw (lt-leb (p + 0) (length s) (omega arith)) (sym (h l)))
       (λ l. rw (le-leb (p + 0) (length s) (omega arith), le-leb 0 high (omega arith)))
       (lt_or_le (length s) p)
 
-  day-cut : (low high p q : ℕ) → q ≡ p → length s < p → field_in 2 low high DayNotOpen s q ≡ Refused NotWhole p
+  day-cut : (low high p q : ℕ) → q ≡ p → length s < p → field_in 2 low high DayNotOpen s q ≡ refused NotWhole p
   day-cut low high p q e h = rw e (field_cut 2 low high DayNotOpen s p (omega arith))
 
-  values-cut : (sec : Section) (n p q : ℕ) → q ≡ p → length s < p → up_to (suc n) (value sec s q) ≡ Refused NotWhole p
+  values-cut : (sec : Section) (n p q : ℕ) → q ≡ p → length s < p → up_to (suc n) (value sec s q) ≡ refused NotWhole p
   unfolding value
   values-cut sec n p q e h =
       let z : q + 4 * 0 ≡ p = omega arith in
@@ -101,19 +100,19 @@ module _ (o : Terms) (C : ℕ) (s : List ℕ) where
     day_there sec q =
         field_in 2 (open_from (limits_of o C) sec) (limits_of o C).last DayNotOpen s q and_then require (not (any i (λ j. same_key (rows j) (rows i)))) Repeated q
 
-    vesting-heading : verdicts o C s (heading_fields Vesting rows i p) ≡ account_there and_then (day_there Vesting (p + 1) and_then (field_in 1 0 3 OutOfRange s (p + 1 + 2) and_then Accepted))
+    vesting-heading : verdicts o C s (heading_fields Vesting rows i p) ≡ account_there and_then (day_there Vesting (p + 1) and_then (field_in 1 0 3 OutOfRange s (p + 1 + 2) and_then (Ok tt)))
     unfolding verdicts verdict_at heading_fields
     vesting-heading = let z : p + 3 ≡ p + 1 + 2 = omega arith in rw z
 
-    meter-heading : verdicts o C s (heading_fields Meter rows i p) ≡ account_there and_then (day_there Meter (p + 1) and_then (field_in 1 1 4 OutOfRange s (p + 1 + 2) and_then Accepted))
+    meter-heading : verdicts o C s (heading_fields Meter rows i p) ≡ account_there and_then (day_there Meter (p + 1) and_then (field_in 1 1 4 OutOfRange s (p + 1 + 2) and_then (Ok tt)))
     unfolding verdicts verdict_at heading_fields
     meter-heading = let z : p + 3 ≡ p + 1 + 2 = omega arith in rw z
 
-    residual-heading : verdicts o C s (heading_fields Residual rows i p) ≡ account_there and_then (day_there Residual (p + 1) and_then Accepted)
+    residual-heading : verdicts o C s (heading_fields Residual rows i p) ≡ account_there and_then (day_there Residual (p + 1) and_then (Ok tt))
     unfolding verdicts verdict_at heading_fields
     residual-heading = refl
 
-    ncc-heading : verdicts o C s (heading_fields Ncc rows i p) ≡ day_there Ncc (p + 0) and_then Accepted
+    ncc-heading : verdicts o C s (heading_fields Ncc rows i p) ≡ day_there Ncc (p + 0) and_then (Ok tt)
     unfolding verdicts verdict_at heading_fields
     ncc-heading = let z : p + 0 ≡ p = omega arith in rw z
 

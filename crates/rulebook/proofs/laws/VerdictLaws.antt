@@ -1,38 +1,37 @@
 -- Verdicts in order: the first refusal of several checks. Assumes nothing.
-use Rattle.std.specs.Prelude.{◌≡◌, refl, List, ℕ, zero, suc, ◌+◌, ◌*◌, ◌≤◌, ◌<◌, length}
+use Rattle.std.specs.Prelude.{◌≡◌, refl, List, ℕ, zero, suc, ◌+◌, ◌*◌, ◌≤◌, ◌<◌, length, Ok, Err}
 use Rattle.std.proofs.Common.{sym, ap, ◌∙◌, suc-mul, arith}
 use borrow.Author.Tests.{le-leb, lt-leb}
 use Rattle.integer.specs.Below.{fold}
 use Rattle.integer.proofs.laws.BelowLaws.{fold-cong, fold-unit}
 use Rattle.rulebook.specs.declared.Why.{Why}
 use Rattle.rulebook.specs.declared.Why.TheVariants.{NotWhole}
-use Rattle.rulebook.specs.declared.Verdict.{Verdict}
-use Rattle.rulebook.specs.declared.Verdict.TheVariants.{Accepted, Refused}
+use Rattle.rulebook.specs.Judging.{Verdict, refused}
 use Rattle.rulebook.specs.File.{num}
 use Rattle.rulebook.specs.Judging.{◌and_then◌, up_to, field_in}
 
 -- ---- One after another
 
 pub then_assoc : (x y z : Verdict) → (x and_then y) and_then z ≡ x and_then (y and_then z)
-then_assoc Accepted y z = refl
-then_assoc (Refused w p) y z = refl
+then_assoc (Ok tt) y z = refl
+then_assoc (Err r) y z = refl
 
-pub then_accepted : (x : Verdict) → x and_then Accepted ≡ x
-then_accepted Accepted = refl
-then_accepted (Refused w p) = refl
+pub then_accepted : (x : Verdict) → x and_then (Ok tt) ≡ x
+then_accepted (Ok tt) = refl
+then_accepted (Err r) = refl
 
 -- what comes after matters only where all before was accepted
-pub then_same : (x y z : Verdict) → (x ≡ Accepted → y ≡ z) → x and_then y ≡ x and_then z
-then_same Accepted y z h = h refl
-then_same (Refused w p) y z h = refl
+pub then_same : (x y z : Verdict) → (x ≡ (Ok tt) → y ≡ z) → x and_then y ≡ x and_then z
+then_same (Ok tt) y z h = h refl
+then_same (Err r) y z h = refl
 
 -- ---- up_to
 
-pub up_all : (n : ℕ) (f : ℕ → Verdict) → ((i : ℕ) → i < n → f i ≡ Accepted) → up_to n f ≡ Accepted
-up_all = fold-unit ◌and_then◌ Accepted refl
+pub up_all : (n : ℕ) (f : ℕ → Verdict) → ((i : ℕ) → i < n → f i ≡ (Ok tt)) → up_to n f ≡ (Ok tt)
+up_all = fold-unit ◌and_then◌ (Ok tt) refl
 
 pub up_cong : (n : ℕ) (f g : ℕ → Verdict) → ((i : ℕ) → i < n → f i ≡ g i) → up_to n f ≡ up_to n g
-up_cong = fold-cong ◌and_then◌ Accepted
+up_cong = fold-cong ◌and_then◌ (Ok tt)
 
 -- the first of n checks first
 pub up_front : (n : ℕ) (f : ℕ → Verdict) → up_to (suc n) f ≡ f 0 and_then up_to n (λ i. f (suc i))
@@ -54,10 +53,10 @@ up_rows (suc m) w f = rw (suc-mul m w, up_add (m * w) w f, up_rows m w f)
 -- ---- Fields
 
 module _ (n low high : ℕ) (why : Why) (s : List ℕ) (at : ℕ) where
-  pub field_cut : length s < at + n → field_in n low high why s at ≡ Refused NotWhole at
+  pub field_cut : length s < at + n → field_in n low high why s at ≡ refused NotWhole at
   unfolding field_in
   field_cut h = rw (lt-leb (at + n) (length s) h)
 
-  pub field-fine : at + n ≤ length s → low ≤ num n s at → num n s at ≤ high → field_in n low high why s at ≡ Accepted
+  pub field-fine : at + n ≤ length s → low ≤ num n s at → num n s at ≤ high → field_in n low high why s at ≡ (Ok tt)
   unfolding field_in
   field-fine w l h = rw (le-leb (at + n) (length s) w, le-leb low (num n s at) l, le-leb (num n s at) high h)

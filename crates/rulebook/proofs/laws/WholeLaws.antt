@@ -1,5 +1,5 @@
 -- Taken whole: the rows of an accepted file, written out, are the file. Rests on what an accepted section says of its rows (JudgingLaws). Assumes nothing.
-use Rattle.std.specs.Prelude.{◌≡◌, refl, length, drop}
+use Rattle.std.specs.Prelude.{◌≡◌, refl, length, drop, Ok}
 use Rattle.std.proofs.Common.{sym, ap, ◌∙◌, ⊎_elim, suc-mul, lt-ltb, le-ltb, drop_of_length-le}
 use mathlib.Core.List.{List, [], ◌∷◌, ◌++◌, flat_map, append_assoc, append-nil}
 use Prim.Native.Nat.{ℕ, zero, suc, ◌+◌, ◌*◌, ◌/◌, ◌%◌, ◌≤◌, ◌<◌}
@@ -14,7 +14,6 @@ use Rattle.integer.proofs.laws.WordsLaws.{row_fits_lem}
 use Rattle.rulebook.specs.declared.Section.{Section}
 use Rattle.rulebook.specs.declared.Section.TheVariants.{Vesting, Meter, Residual, Ncc}
 use Rattle.rulebook.specs.declared.Limits.{Limits}
-use Rattle.rulebook.specs.declared.Verdict.TheVariants.{Accepted}
 use Rattle.rulebook.specs.Sections.{per_interval}
 use Rattle.rulebook.specs.File.{num, signed32, value_at, values_pos, account_at, day_at, count_at, row_at, row_end, row_pos, rows_in, section_end, meter_pos, residual_pos, ncc_pos, figure_of}
 use Rattle.rulebook.specs.Judging.{judged_section, judged}
@@ -137,7 +136,7 @@ module _ (s : List ℕ) (small : Bytes s) where
 
   -- ---- A section
 
-  reads_section : (l : Limits) (sec : Section) (at : ℕ) → judged_section l sec s at ≡ Accepted → Reads s at (section_bytes (section_of s sec at)) (section_end sec s at)
+  reads_section : (l : Limits) (sec : Section) (at : ℕ) → judged_section l sec s at ≡ (Ok tt) → Reads s at (section_bytes (section_of s sec at)) (section_end sec s at)
   unfolding section_bytes section_end section_of
   reads_section l sec at e =
       rw length-tabulate
@@ -148,7 +147,7 @@ module _ (s : List ℕ) (small : Bytes s) where
 
 -- ---- The file
 
-pub taken-whole : (l : Limits) (file : List ℕ) → Bytes file → judged l file ≡ Accepted → encoded (named_rows file) ≡ file
+pub taken-whole : (l : Limits) (file : List ℕ) → Bytes file → judged l file ≡ (Ok tt) → encoded (named_rows file) ≡ file
 unfolding encoded
 taken-whole l s small e =
     let p = sections l s e in

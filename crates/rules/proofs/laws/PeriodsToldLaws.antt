@@ -1,16 +1,16 @@
--- What a pass over a profile's periods, told where a test passes, says of the test and of the limits. Assumes nothing.
-use Rattle.std.specs.Prelude.{◌≡◌, refl, Bool, true, false, ◌&&◌, List, ℕ, ◌+◌, ◌*◌, ◌≤◌, min, max, leb, ℤ}
-use Rattle.std.proofs.Common.{arith, le-leb, le→leb, leb→le}
+-- What a pass over a profile's periods says of the limits. Assumes nothing.
+use Rattle.std.specs.Prelude.{◌≡◌, refl, ◌&&◌, List, ℕ, ◌+◌, ◌*◌, ◌≤◌, ◌<◌, min, max, leb, ℤ, pos, get_or, drop, []}
+use Rattle.std.proofs.Common.{arith, ap, ◌∙◌, le-leb, le→leb, leb→le, get_or-take, get_or-drop}
+use Rattle.std.specs.Simd.{first_chunks}
+use Rattle.integer.specs.Words.{word}
 use Rattle.integer.specs.Below.{fold}
 use Rattle.integer.proofs.laws.BelowLaws.{fold-suc, fold-test}
 use Rattle.rulebook.specs.Units.{most_quantity}
 use Rattle.rulebook.specs.Profile.{most_contracted, balancing_periods, period_kwh, least_kwh, most_kwh, keeps_limits}
 use Rattle.rulebook.proofs.laws.ProfileLaws.{total-by_periods}
 use Rattle.rulebook.proofs.laws.TestLaws.{and_left, and_right, and_both, tests_same, all_and}
-use Rattle.rulebook.specs.Calls.{quantities_in}
-use Rattle.rules.specs.declared.profile.Span.{Span}
-use Rattle.rules.specs.declared.profile.Periods.TheVariants.{Told, OutOfRange}
-use Rattle.rules.specs.PeriodsTold.{span_of, extended, span_keeps, periods_where}
+use Rattle.integer.proofs.laws.ChunkLaws.{chunk-at}
+use Rattle.rules.specs.PeriodsTold.{span_of, extended, span_keeps}
 
 -- ---- Spans
 
@@ -49,12 +49,18 @@ span_keeps_lem t d q h =
       ← total-by_periods q,
     )
 
--- ---- What is told
+-- ---- Pairs of words
 
-pub periods_told : (t : Bool) (profile : List ℤ) (span : Span) → periods_where t profile ≡ Told span → (t ≡ true) × (span ≡ span_of balancing_periods (period_kwh (quantities_in profile)))
-periods_told true profile span e = (refl, cc)
-periods_told false profile span e = let z : ◌≡◌ {A = ℕ} 0 1 = cc in absurd (omega arith)
+-- those of period b
+pub period-words : (xs : List ℤ) (b : ℕ) (pair : List ℤ) → b < balancing_periods → pair ≡ get_or (first_chunks 2 balancing_periods xs) b []
+    → (word pair 0 ≡ word xs (2 * b)) × (word pair 1 ≡ word xs (2 * b + 1))
+period-words xs b pair h e = (at 0 (omega arith) ∙ ap (word xs) even, at 1 (omega arith) ∙ ap (word xs) odd)
+  where
+    at : (j : ℕ) → j < 2 → word pair j ≡ word xs (b * 2 + j)
+    at j l = rw (e, chunk-at 2 balancing_periods b xs [] h) (get_or-take 2 (drop (b * 2) xs) j (pos 0) l ∙ get_or-drop (b * 2) xs j (pos 0))
 
-pub out-of_range_told : (t : Bool) (profile : List ℤ) → periods_where t profile ≡ OutOfRange → t ≡ false
-out-of_range_told true profile e = let z : ◌≡◌ {A = ℕ} 0 1 = cc in absurd (omega arith)
-out-of_range_told false profile e = refl
+    even : b * 2 + 0 ≡ 2 * b
+    even = omega arith
+
+    odd : b * 2 + 1 ≡ 2 * b + 1
+    odd = omega arith

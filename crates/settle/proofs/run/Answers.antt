@@ -1,28 +1,31 @@
 -- `run` meets its contract: it stands at a turn that it reached, and leaves the loop where nothing more is to be read.
-use mathlib.Core.Path.{sym, ◌∙◌}
-use mathlib.Core.Logic.{inl, inr}
-use borrow.Author.Tests.{not-true, not-false}
-use native.Mathlib.Omega.{arith}
+use Rattle.std.proofs.Common.{refl, sym, ◌∙◌, inl, inr, arith, rules}
+use Rattle.interpreter.specs.Interpreter.{beginning, turn}
 use Rattle.interpreter.specs.Running.{SomeItem}
-use Rattle.interpreter.proofs.laws.RunningLaws.{stands-begun, stands-next}
-use borrow.Author.Rules.{rules}
+use Rattle.interpreter.proofs.laws.RunningLaws.{handed-few, handed-none, handed-at, stands-begun, stands-next}
 use Rattle.settle.proofs.run.Goals as goal
 
-pub loop-turn-init : goal.loop-turn-init
-loop-turn-init c =
-    (search rules, search rules, search rules, search rules, search rules, stands-begun SomeItem (rw c.requires.0 at c.begin-turn.ensures))
+pub loop-next-init : goal.loop-next-init
+loop-next-init c =
+    let b = c.begin-next.ensures in
+    record { bytes = refl; few = handed-few (beginning c.args.book.now c.args.opening.now) _ b.goes_on b.few; stands = stands-begun SomeItem (rw c.requires.0 at b) }
 
-pub returns-then-not-turn : goal.returns-then-not-turn
-returns-then-not-turn c =
-    let h = c.loop-turn.invariant.5 in
-    record { left = h.left; whole = λ w. inl (sym h.goes_on ∙ not-true _ c.if-not-turn.true) }
+pub returns-in_default : goal.returns-in_default
+returns-in_default c =
+    let h = c.loop-next.invariant.stands in
+    record { left = h.left; whole = λ w. inl (handed-none h.left.last (sym c.in_default.is ∙ h.goes_on)) }
 
 pub returns-then-turn-ge-LIMIT : goal.returns-then-turn-ge-LIMIT
 returns-then-turn-ge-LIMIT c =
-    let h = c.loop-turn.invariant.5 in
-    record { left = h.left; whole = λ w. inr (omega (arith, c.if-turn-ge-LIMIT.true, h.placed)) }
+    let h = c.loop-next.invariant.stands in
+    let p = handed-at h.left.last c.in-Some.turn (sym c.in-Some.is ∙ h.goes_on) in
+    record { left = h.left; whole = λ w. inr (omega (arith, c.if-turn-ge-LIMIT.true, p)) }
 
-pub loop-turn-preserved : goal.loop-turn-preserved
-loop-turn-preserved c =
-    let d = c.step-turn.ensures.done in
-    (search rules, search rules, search rules, d.printed.within, d.few, stands-next SomeItem c.loop-turn.invariant.5 (not-false _ c.if-not-turn.false) c.step-turn.ensures)
+pub loop-next-preserved : goal.loop-next-preserved
+loop-next-preserved c =
+    let d = c.step-next.ensures.done in
+    record {
+      bytes = search rules;
+      few = handed-few (turn c.in-Some.turn.accounts c.in-Some.turn.position c.loop-next.book c.step-next.ensures.read) _ d.goes_on d.few;
+      stands = stands-next SomeItem (rw c.in-Some.is at c.loop-next.invariant.stands) c.step-next.ensures;
+    }

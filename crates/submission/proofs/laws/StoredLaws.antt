@@ -1,12 +1,14 @@
 -- The words that code stores of a row are the rule book's, and so are the rows of a section and of a file. Assumes nothing.
-use Rattle.std.specs.Prelude.{◌≡◌, Bool, false, not, ◌&&◌, List, [], ◌∷◌, ◌++◌, ℕ, zero, suc, ◌+◌, ◌-◌, ◌*◌, ◌≤◌, ◌<◌, eqb, ℤ, pos, length}
+use Rattle.std.specs.Prelude.{◌≡◌, Bool, false, not, ◌&&◌, List, [], ◌∷◌, ◌++◌, ℕ, zero, suc, ◌+◌, ◌-◌, ◌*◌, ◌≤◌, ◌<◌, eqb, ℤ, cond, pos, length, take, drop}
 use Rattle.std.proofs.Math.Path.{refl, fun_ext}
 use Rattle.std.proofs.Common.{sym, ap, ◌∙◌}
 use Rattle.std.proofs.Math.Bool.{true}
 use Rattle.std.proofs.Math.Logic.{⊎_elim}
 use Rattle.std.proofs.Math.Nat.{add-mul}
 use native.Mathlib.Omega.{arith}
-use borrow.Author.Tests.{le-ltb, ltb-true, ne_eqb, not-true}
+use Rattle.std.proofs.Math.Nat.{add_assoc}
+use Rattle.std.proofs.Common.{get_or-drop, length-drop, take_all}
+use borrow.Author.Tests.{lt-ltb, le-ltb, ltb-true, ne_eqb, not-true}
 use Rattle.std.proofs.Math.Dec.{T, ltb, eqb→eq}
 use Rattle.std.proofs.Math.ListN.{get_or-eq_default}
 use Rattle.integer.specs.Below.{fold, all, turns, tabulate}
@@ -19,11 +21,11 @@ use Rattle.rulebook.specs.Units.{intervals}
 use Rattle.rulebook.specs.Shares.{most_accounts}
 use Rattle.rulebook.specs.Terms.{InTerms}
 use Rattle.rulebook.specs.Sections.{accounts_of, most_count, per_interval, same_section, figure_section, figure_place}
-use Rattle.rulebook.specs.Layout.{Word, flag, figure, padding, present, row_table, word_name, width, flag_index, place, size, interval_size, slot, interval_word, slot_start, row_word}
-use Rattle.rulebook.specs.File.{Row, row_at, account_at, day_at, count_at, values_pos, number_of, figure_of, row_pos, rows_in, section_rows, file_rows, meter_pos, residual_pos, ncc_pos}
+use Rattle.rulebook.specs.Layout.{Word, flag, figure, padding, row_table, word_name, width, flag_index, place, size, interval_size, slot, interval_word, slot_start, row_word}
+use Rattle.rulebook.specs.File.{value_at, Row, row_at, account_at, day_at, count_at, values_pos, number_of, figure_of, row_pos, rows_in, section_rows, file_rows, meter_pos, residual_pos, ncc_pos}
 use Rattle.rulebook.specs.Submit.{word_of, entry, row_stored, rows_stored}
 use Rattle.rulebook.proofs.laws.TestLaws.{T-path, and_left, and_right, all_at}
-use Rattle.rulebook.proofs.laws.FileLaws.{number_at}
+use Rattle.rulebook.proofs.laws.FileLaws.{num-four, number_at}
 use Rattle.rulebook.proofs.laws.FormLaws.{ring-pos}
 use Rattle.rulebook.proofs.laws.IndexLaws.{row-run}
 use Rattle.rulebook.proofs.laws.RowWordLaws.{flag-inside}
@@ -57,13 +59,7 @@ numbers-few Meter count h = omega arith
 numbers-few Residual count h = omega arith
 numbers-few Ncc count h = omega arith
 
--- flags are small, and so are accounts
-pub flag_small : (sec : Section) (count : ℕ) → count ≤ most_count sec → present sec count ≤ 4
-flag_small Vesting count h = omega arith
-flag_small Meter count h = h
-flag_small Residual count h = omega arith
-flag_small Ncc count h = omega arith
-
+-- accounts are few
 pub accounts-few : (sec : Section) (n : ℕ) → n ≤ most_accounts → accounts_of sec n ≤ most_accounts
 accounts-few Vesting n h = h
 accounts-few Meter n h = h
@@ -113,6 +109,52 @@ module _ (sec : Section) (s : List ℕ) (at i : ℕ) (hi : i < intervals) where
       ⊎_elim (λ h. word-named j (word_name sec j) (all_at (width sec) (named sec) (all_named sec) j h))
       (λ h. rw (get_or-eq_default (row_table sec) padding {n = j} h) (word-past j few h))
       (lt_or_le j (width sec))
+
+-- ---- A part of the file, from a on
+
+value-from : (s : List ℕ) (a k n : ℕ) → n ≡ a + k → value_at (drop a s) k ≡ value_at s n
+unfolding value_at
+value-from s a k n e = rw (
+  e,
+  num-four (drop a s) k,
+  num-four s (a + k),
+  get_or-drop a s k 0,
+  get_or-drop a s (k + 1) 0,
+  get_or-drop a s (k + 2) 0,
+  get_or-drop a s (k + 3) 0,
+  ← add_assoc a k 1,
+  ← add_assoc a k 2,
+  ← add_assoc a k 3,
+)
+
+number-part : (s : List ℕ) (a b c n k : ℕ) → c ≡ a + b → number_from n (drop a s) b k ≡ number_from n s c k
+unfolding number_from
+number-part s a b c n k e = ap (λ (z : ℤ). cond (ltb k n) z (pos 0)) (value-from s a (b + 4 * k) (c + 4 * k) (omega arith))
+
+word-part : (form : Form) (s : List ℕ) (a b c : ℕ) → c ≡ a + b → word_from form (drop a s) b ≡ word_from form s c
+unfolding word_from
+word-part form s a b c e = fun_ext (λ j. ap (λ (z : ℤ). cond (eqb j form.place) form.flag z) (number-part s a b c form.values (value_number form.place j) e))
+
+pub row-part : (form : Form) (s : List ℕ) (a : ℕ) → row_from form (drop a s) 0 ≡ row_from form s a
+unfolding row_from
+row-part form s a = fun_ext (λ i. word-part form s a (0 + 4 * (i * form.values)) (a + 4 * (i * form.values)) (omega arith))
+
+-- the rest of the values, as the code lends it
+pub interval-part : (form : Form) (s : List ℕ) (i : ℕ) → word_from form (take (length s - 4 * (i * form.values)) (drop (4 * (i * form.values)) s)) 0 ≡ row_from form s 0 i
+unfolding row_from
+interval-part form s i =
+    let b : ℕ = 4 * (i * form.values) in
+    ap (λ (p : List ℕ). word_from form p 0) (take_all (length s - b) (drop b s) (omega (arith, length-drop b s))) ∙ word-part form s b 0 (0 + b) (omega arith)
+
+-- a value at its place, or the zero of an unused pair
+module _ (n : ℕ) (s : List ℕ) (k : ℕ) where
+  pub number-there : k < n → value_at s (4 * k) ≡ number_from n s 0 k
+  unfolding number_from
+  number-there h = rw (lt-ltb k n h) (ap (value_at s) (omega arith))
+
+  pub number-none : n ≤ k → pos 0 ≡ number_from n s 0 k
+  unfolding number_from
+  number-none h = rw (le-ltb k n h)
 
 -- ---- A row
 

@@ -1,13 +1,12 @@
 -- The table that is lent to the judge serves, an accepted file's rows may be stored, and what is answered and left then is the promise. Assumes nothing.
-use Rattle.std.specs.Prelude.{◌≡◌, false, List, ℕ, ◌+◌, ◌≤◌, ℤ}
+use Rattle.std.specs.Prelude.{◌≡◌, false, List, ℕ, ◌+◌, ◌≤◌, ℤ, Ok, Err}
 use Rattle.std.proofs.Common.{sym, ◌∙◌, arith}
 use Rattle.std.proofs.Math.Path.{ap}
 use Rattle.rulebook.specs.declared.Section.{Section}
 use Rattle.rulebook.specs.declared.Section.TheVariants.{Vesting, Meter, Residual, Ncc}
 use Rattle.rulebook.specs.declared.Terms.{Terms}
-use Rattle.rulebook.specs.declared.Why.{Why}
-use Rattle.rulebook.specs.declared.Verdict.TheVariants.{Accepted, Refused}
-use Rattle.rulebook.specs.declared.SubmitAnswer.TheVariants.{Taken, IllFormed, FileRefused}
+use Rattle.rulebook.specs.declared.Refusal.{Refusal}
+use Rattle.rulebook.specs.declared.SubmitError.TheVariants.{IllFormed, FileRefused}
 use Rattle.rulebook.specs.Terms.{InTerms}
 use Rattle.rulebook.specs.BookData.{terms_of, next_day}
 use Rattle.rulebook.specs.WellFormed.{well_formed}
@@ -53,13 +52,13 @@ module _ (o : Terms) (C : ℕ) (some : 1 ≤ o.accounts) (begun : o.first ≤ C)
     whole = row-end (limits_of o C) sec s at h;
   }
 
-  section-fits : (sec : Section) (s : List ℕ) (at : ℕ) → judged_section (limits_of o C) sec s at ≡ Accepted → SectionFits o sec s at
+  section-fits : (sec : Section) (s : List ℕ) (at : ℕ) → judged_section (limits_of o C) sec s at ≡ Ok tt → SectionFits o sec s at
   section-fits sec s at e = record {
     start = section-start (limits_of o C) sec s at e;
     rows = λ i h. row_fits_lem sec s (row_pos sec s (at + 2) i) (section-row (limits_of o C) sec s at e i h).1;
   }
 
-  pub file-fits : (s : List ℕ) → judged (limits_of o C) s ≡ Accepted → FileFits o s
+  pub file-fits : (s : List ℕ) → judged (limits_of o C) s ≡ Ok tt → FileFits o s
   file-fits s e =
       let p = sections (limits_of o C) s e in
       record {
@@ -73,7 +72,7 @@ module _ (o : Terms) (C : ℕ) (some : 1 ≤ o.accounts) (begun : o.first ≤ C)
 
 module _ (w : List ℤ) where
   module _ (s : List ℕ) where
-    pub ill_formed : well_formed w ≡ false → SubmitPromise w s IllFormed w
+    pub ill_formed : well_formed w ≡ false → SubmitPromise w s (Err IllFormed) w
     unfolding submitted
     ill_formed e = record { answered = rw e; book_after = rw e }
 
@@ -81,13 +80,13 @@ module _ (w : List ℤ) where
       verdict : judged (limits_of (terms_of w) (next_day w)) s ≡ judged (limits_of o C) s
       verdict = ap (λ (x : Terms). judged (limits_of x (next_day w)) s) f.terms ∙ ap (λ (D : ℕ). judged (limits_of o D) s) f.next
 
-      pub file-taken : judged (limits_of o C) s ≡ Accepted → SubmitPromise w s Taken (rows_stored o (file_rows s) w)
+      pub file-taken : judged (limits_of o C) s ≡ Ok tt → SubmitPromise w s (Ok tt) (rows_stored o (file_rows s) w)
       unfolding submitted
       file-taken e = record {
         answered = rw (f.formed, verdict ∙ e);
         book_after = ap (λ (x : Terms). rows_stored x (file_rows s) w) (sym f.terms) ∙ rw (f.formed, verdict ∙ e);
       }
 
-      pub file-refused : (why : Why) (at : ℕ) → judged (limits_of o C) s ≡ Refused why at → SubmitPromise w s (FileRefused why at) w
+      pub file-refused : (r : Refusal) → judged (limits_of o C) s ≡ Err r → SubmitPromise w s (Err (FileRefused r)) w
       unfolding submitted
-      file-refused why at e = record { answered = rw (f.formed, verdict ∙ e); book_after = rw (f.formed, verdict ∙ e) }
+      file-refused r e = record { answered = rw (f.formed, verdict ∙ e); book_after = rw (f.formed, verdict ∙ e) }

@@ -1,41 +1,96 @@
--- `slot_amount` meets its contract: what is lent are the account's two cells at the interval.
-use mathlib.Core.Path.{◌≡◌, ◌∙◌}
-use mathlib.Core.Bool.{Bool}
-use mathlib.Core.List.{List}
-use Prim.Native.Nat.{ℕ, ◌+◌, ◌*◌, ◌≤◌}
-use native.Mathlib.Omega.{arith}
-use lib.IntN.{ℤ}
-use lib.ListN.{length}
+-- `slot_amount` meets its contract: where a residual is due, it is that of then's share; both amounts are small.
+use Rattle.std.specs.Int.{w64}
+use Rattle.std.proofs.Common.{◌≡◌, ℤ, List, ◌+◌, ◌≤◌, nat_abs, sym, ap, ◌∙◌, arith, to_z, of_z}
+use Rattle.integer.proofs.laws.IntegerLaws.{abs-add}
 use Rattle.integer.proofs.Bits.{got}
-use Rattle.rulebook.specs.Layout.{cell_place, account_words}
-use Rattle.amounts.specs.Day.{amount_at, slot_amount}
-use Rattle.amounts.proofs.laws.DayLaws.{lent-cell, cell-fits}
+use Rattle.rulebook.specs.DayAmount.{reference_price_of, vesting_amount, share_amount}
+use Rattle.rulebook.proofs.laws.SizeLaws.{price-sized, vesting-size}
+use Rattle.amounts.specs.Cell.{cell_data}
+use Rattle.amounts.specs.Day.{cell_at, cell_residual, share_in}
+use Rattle.amounts.proofs.laws.DayLaws.{cell-residual_le, sum_settled, sum_unsettled, amount-settled, amount-unsettled}
 use Rattle.amounts.proofs.day.slot_amount.Goals as goal
-use Rattle.amounts.proofs.day.slot_amount.Goals.{After-interval_length}
+use Rattle.amounts.proofs.day.slot_amount.Goals.{After-vesting_amount-vesting, After-price, After-residual_amount}
 
--- the cells lie within the slots
-before-fits : (c : After-interval_length) → c.args.h * c.interval_length.result + cell_place c.args.a + account_words ≤ length c.args.today.now
-before-fits c =
-    rw c.interval_length.ensures (cell-fits c.args.n c.args.today.now c.requires.0.closing c.args.a c.args.h c.requires.3 c.requires.4)
+-- vesting, read back
+record Vesting (c : After-vesting_amount-vesting) : Type 0 where
+  is : to_z w64 (of_z w64 c.vesting_amount-vesting.result) ≡ vesting_amount (cell_data (cell_at c.args.today.accounts c.args.today.words.now c.args.a c.args.h))
+  small : nat_abs (to_z w64 (of_z w64 c.vesting_amount-vesting.result)) ≤ 80000000000000
 
-pub overflow_mul-i : goal.overflow_mul-i
-overflow_mul-i c = omega (arith, before-fits (goal.at.overflow_mul-i c).After-interval_length)
+vesting : (c : After-vesting_amount-vesting) → Vesting c
+vesting c =
+    let r = c.vesting_amount-vesting in
+    let e = got r.result r.type_inv ∙ r.ensures in
+    let w = c.cell-cell.result in
+    record {
+      is = e ∙ ap (λ (x : List ℤ). vesting_amount (cell_data x)) c.cell-cell.ensures;
+      small = omega (arith, ap nat_abs e, vesting-size (cell_data w.words.now) w.ranged.sized);
+    }
 
-pub amount_at-requires : goal.amount_at-requires
-amount_at-requires c =
+pub share-share-requires : goal.share-share-requires
+share-share-requires c =
+    (rw c.in-Some.is at c.requires.1, c.requires.2, c.requires.3 ∙ sum_settled c.args.then.now c.in-Some.settled c.args.a c.args.h c.in-Some.is)
+
+-- V of then, read back
+price : (c : After-price) → to_z w64 (of_z w64 c.price.result) ≡ reference_price_of (cell_data c.cell-then.result.words.now)
+price c = got c.price.result c.price.type_inv ∙ c.price.ensures
+
+pub residual_amount-requires : goal.residual_amount-requires
+residual_amount-requires c =
+    let w = c.cell-then.result in
+    (rw (price (goal.at.residual_amount-requires c).After-price) (price-sized (cell_data w.words.now) w.ranged.sized), c.share-share.ensures.share.1)
+
+-- the residual, read back
+record Residual (c : After-residual_amount) : Type 0 where
+  is : to_z w64 (of_z w64 c.residual_amount.result) ≡ cell_residual (cell_at c.in-Some.settled.accounts c.in-Some.settled.words c.args.a c.args.h) (share_in c.in-Some.settled c.args.a c.args.h)
+  small : nat_abs (to_z w64 (of_z w64 c.residual_amount.result)) ≤ 20000000000000
+
+residual : (c : After-residual_amount) → to_z w64 (of_z w64 c.price.result) ≡ reference_price_of (cell_data c.cell-then.result.words.now) → Residual c
+residual c p =
+    let r = c.residual_amount in
+    let w = c.cell-then.result in
+    let e : to_z w64 (of_z w64 r.result) ≡ cell_residual w.words.now c.share-share.result =
+    got r.result r.type_inv ∙ r.ensures ∙ ap (λ (v : ℤ). share_amount (cell_data w.words.now) v c.share-share.result) p in
+    record {
+      is = e ∙ ap (λ (x : List ℤ). cell_residual x c.share-share.result) c.cell-then.ensures
+          ∙ ap (cell_residual (cell_at c.in-Some.settled.accounts c.in-Some.settled.words c.args.a c.args.h)) c.share-share.ensures.share.0;
+      small = omega (arith, ap nat_abs e, cell-residual_le w.words.now w.ranged c.share-share.result c.share-share.ensures.share.1);
+    }
+
+pub add-requires : goal.add-requires
+add-requires c =
+    let g = goal.at.add-requires c in
+    omega (arith, (vesting g.After-vesting_amount-vesting).small, (residual g.After-residual_amount (price g.After-price)).small)
+
+pub returns-in-Some-clause-small : goal.returns-in-Some-clause-small
+returns-in-Some-clause-small c =
+    let g = goal.at.returns-in-Some-clause-small c in
+    let e = got c.add.result c.add.type_inv ∙ c.add.ensures in
+    omega (arith, ap nat_abs e, abs-add (to_z w64 (of_z w64 c.vesting_amount-vesting.result)) (to_z w64 (of_z w64 c.residual_amount.result)), (vesting g.After-vesting_amount-vesting).small, (residual g.After-residual_amount (price g.After-price)).small)
+
+pub returns-in-Some-clause-amount : goal.returns-in-Some-clause-amount
+returns-in-Some-clause-amount c =
+    let g = goal.at.returns-in-Some-clause-amount c in
     let a = c.args in
-    let p = c.requires.0 in (
-      rw (lent-cell a.n a.today.now a.a a.h c.requires.3 c.interval_length.ensures c.cell_place.ensures) ((p.closing.each a.h c.requires.4).cells a.a c.requires.3),
-      λ e. rw (lent-cell a.n a.then.now a.a a.h c.requires.3 c.interval_length.ensures c.cell_place.ensures) (((p.settled e).each a.h c.requires.4).cells a.a c.requires.3),
-      rw c.share_at.ensures (c.requires.1 a.h c.requires.4),
-    )
+    rw (
+      got c.add.result c.add.type_inv,
+      c.add.ensures,
+      (vesting g.After-vesting_amount-vesting).is,
+      (residual g.After-residual_amount (price g.After-price)).is,
+    ) (sym (amount-settled a.today.accounts a.today.words.now a.a a.h a.then.now c.in-Some.settled c.in-Some.is))
 
-amount-cong : {x x' y y' : List ℤ} (due : Bool) {q q' : ℕ} → x ≡ x' → y ≡ y' → q ≡ q' → amount_at x y due q ≡ amount_at x' y' due q'
-amount-cong due e f g = cc
+pub returns-in-Some-clause-sum : goal.returns-in-Some-clause-sum
+returns-in-Some-clause-sum c =
+    c.share-share.ensures.sum ∙ sym (sum_settled c.args.then.now c.in-Some.settled (c.args.a + 1) c.args.h c.in-Some.is)
 
-pub returns : goal.returns
-unfolding slot_amount
-returns c =
+pub returns-in-None-clause-small : goal.returns-in-None-clause-small
+returns-in-None-clause-small c = omega (arith, (vesting (goal.at.returns-in-None-clause-small c).After-vesting_amount-vesting).small)
+
+pub returns-in-None-clause-amount : goal.returns-in-None-clause-amount
+returns-in-None-clause-amount c =
     let a = c.args in
-    got c.amount_at.result c.amount_at.type_inv ∙ c.amount_at.ensures
-    ∙ amount-cong a.due (lent-cell a.n a.today.now a.a a.h c.requires.3 c.interval_length.ensures c.cell_place.ensures) (lent-cell a.n a.then.now a.a a.h c.requires.3 c.interval_length.ensures c.cell_place.ensures) c.share_at.ensures
+    (vesting (goal.at.returns-in-None-clause-amount c).After-vesting_amount-vesting).is ∙ sym (amount-unsettled a.today.accounts a.today.words.now a.a a.h a.then.now c.in-None.is)
+
+pub returns-in-None-clause-sum : goal.returns-in-None-clause-sum
+returns-in-None-clause-sum c =
+    let t = c.args.then.now in
+    c.requires.3 ∙ sum_unsettled t c.args.a c.args.h c.in-None.is ∙ sym (sum_unsettled t (c.args.a + 1) c.args.h c.in-None.is)

@@ -5,4 +5,4 @@ use Rattle.book.proofs.places.interval_size.Goals as goal
 
 pub returns : goal.returns
 unfolding interval_size
-returns c = (c.interval_length.ensures, omega (arith, c.interval_length.ensures))
+returns c = let t = c.get.ensures.accepted in rw (c.interval_length.ensures, c.get.ensures.same) (omega arith, omega arith)

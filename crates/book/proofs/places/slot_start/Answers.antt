@@ -5,4 +5,4 @@ use Rattle.book.proofs.places.slot_start.Goals as goal
 
 pub returns : goal.returns
 unfolding slot_start interval_word base slot ring
-returns c = rw (← c.interval_size.ensures.0) (omega (arith, c.balance_word.ensures))
+returns c = rw (← c.interval_size.ensures.0, c.balance_word.ensures, c.ring.ensures, c.get.ensures.same, c.get-2.ensures.same) (omega arith)

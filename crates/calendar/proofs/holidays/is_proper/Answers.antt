@@ -1,41 +1,33 @@
 -- `is_proper` meets its contract: an empty list is proper, any other by `proper_by_ends`.
-use mathlib.Core.Path.{◌≡◌, sym, ap, ◌∙◌}
-use Prim.Native.Nat.{◌-◌, ◌<◌}
-use native.Mathlib.Omega.{arith}
-use borrow.Author.Rules.{rules}
-use lib.ListN.{length}
+use Rattle.std.proofs.Common.{◌≡◌, ◌-◌, ◌<◌, rules, sym, ap, ap₂, ◌∙◌, length, eqb-true, arith}
+use Rattle.std.proofs.lemmas.Bool.{eqb-false}
+use mathlib.Core.Bool.{◌&&◌}
 use Rattle.integer.specs.Below.{fold}
 use Rattle.integer.proofs.Bits.{got}
 use Rattle.integer.specs.Words.{word}
 use Rattle.calendar.specs.Calendar.{is_day, is_proper}
 use Rattle.calendar.proofs.laws.HolidayLaws.{proper_by_ends}
 use Rattle.calendar.proofs.holidays.is_proper.Goals as goal
-use Rattle.calendar.proofs.holidays.is_proper.Goals.{After-is_day, After-is_day-2, Else-n-eq0}
+use Rattle.calendar.proofs.holidays.is_proper.Goals.{After-is_day-2, Else-is_empty}
 
-pub returns-then-n-eq0 : goal.returns-then-n-eq0
+pub returns-then-is_empty : goal.returns-then-is_empty
 unfolding is_proper fold
-returns-then-n-eq0 c = let e : length c.args.holidays.now ≡ 0 = c.if-n-eq0.true in rw e
+returns-then-is_empty c = let e = eqb-true (length c.args.days.now) 0 (sym c.if-is_empty.ensures) in rw e
 
-some : (c : Else-n-eq0) → 0 < length c.args.holidays.now
-some c = omega (arith, c.if-n-eq0.false)
+some : (c : Else-is_empty) → 0 < length c.args.days.now
+some c = let n = eqb-false (length c.args.days.now) 0 (sym c.if-is_empty.ensures) in omega arith
 
-first-judged : (c : After-is_day) → c.is_day.result ≡ is_day (word c.args.holidays.now 0)
-first-judged c = c.is_day.ensures ∙ ap is_day (got (word c.args.holidays.now 0) (search rules))
+-- the first entry and the last
+ends : (c : After-is_day-2) → (c.is_day.result && c.is_day-2.result) ≡ (is_day (word c.args.days.now 0) && is_day (word c.args.days.now (length c.args.days.now - 1)))
+ends c =
+    let xs = c.args.days.now in
+    ap₂ ◌&&◌ (c.is_day.ensures ∙ ap is_day (got (word xs 0) (search rules))) (c.is_day-2.ensures ∙ ap is_day (got (word xs (length xs - 1)) (search rules)))
 
-last-judged : (c : After-is_day-2) → c.is_day-2.result ≡ is_day (word c.args.holidays.now (length c.args.holidays.now - 1))
-last-judged c = let xs = c.args.holidays.now in c.is_day-2.ensures ∙ ap is_day (got (word xs (length xs - 1)) (search rules))
+pub returns-then-is_day : goal.returns-then-is_day
+returns-then-is_day c =
+    rw (proper_by_ends c.args.days.now (some (goal.at.returns-then-is_day c).Else-is_empty), sym (ends (goal.at.returns-then-is_day c).After-is_day-2) ∙ c.if-is_day.true) c.is_ascending.ensures
 
-pub returns-then-not-is_day : goal.returns-then-not-is_day
-returns-then-not-is_day c =
-    let g = goal.at.returns-then-not-is_day c in
-    rw (proper_by_ends _ (some g.Else-n-eq0), sym (first-judged g.After-is_day) ∙ c.if-not-is_day.true)
-
-pub returns-then-not-is_day-2 : goal.returns-then-not-is_day-2
-returns-then-not-is_day-2 c =
-    let g = goal.at.returns-then-not-is_day-2 c in
-    rw (proper_by_ends _ (some g.Else-n-eq0), sym (first-judged g.After-is_day) ∙ c.if-not-is_day.false, sym (last-judged g.After-is_day-2) ∙ c.if-not-is_day-2.true)
-
-pub returns : goal.returns
-returns c =
-    let g = goal.at.returns c in
-    rw (proper_by_ends _ (some g.Else-n-eq0), sym (first-judged g.After-is_day) ∙ c.if-not-is_day.false, sym (last-judged g.After-is_day-2) ∙ c.if-not-is_day-2.false) c.is_ascending.ensures
+pub returns-else-is_day : goal.returns-else-is_day
+returns-else-is_day c =
+    let e = sym (ends (goal.at.returns-else-is_day c).After-is_day-2) ∙ c.if-is_day.false in
+    rw (proper_by_ends c.args.days.now (some (goal.at.returns-else-is_day c).Else-is_empty), e, c.if-is_day.false)

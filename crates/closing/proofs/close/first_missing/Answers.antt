@@ -1,38 +1,33 @@
--- `first_missing` meets its contract: the search by index is that of the rule book.
-use mathlib.Core.Path.{◌≡◌, ap, ◌∙◌}
-use mathlib.Core.Bool.{Bool}
-use mathlib.Core.List.{List}
-use Prim.Native.Nat.{ℕ}
-use native.Mathlib.Omega.{arith}
-use lib.IntN.{ℤ}
-use Rattle.rulebook.specs.Layout.{slot_start}
+-- `first_missing` meets its contract: both slots lie within the book, and the search by index is the rule book's.
+use Rattle.std.proofs.Common.{◌≡◌, List, ℕ, ℤ, Option, rules, sym, ap, ◌∙◌, arith}
+use Rattle.rulebook.specs.declared.Terms.{Terms}
 use Rattle.closing.specs.Search.{first_absent}
-use Rattle.closing.specs.Slots.{then_day}
-use Rattle.closing.proofs.laws.SlotsLaws.{slot-sized, then_late}
+use Rattle.closing.specs.Slots.{settled_start}
+use Rattle.closing.proofs.laws.SlotsLaws.{slot-sized, start-sized}
 use Rattle.closing.proofs.laws.SearchSameLaws.{search-same}
 use Rattle.closing.proofs.close.first_missing.Goals as goal
-use Rattle.closing.proofs.close.first_missing.Goals.{After-slot_start-then}
+use Rattle.closing.proofs.close.first_missing.Goals.{After-map-then}
 
-pub slot_start-then-requires : goal.slot_start-then-requires
-slot_start-then-requires c = (c.requires.in_terms, rw c.then_day.ensures (then_late c.args.terms c.args.day c.requires.begun))
+-- where r's slot starts
+start : (c : After-map-then) → c.map-then.result ≡ settled_start c.args.formed.now.terms c.args.formed.now.next
+start c = search rules
 
--- where the second slot starts
-then : (c : After-slot_start-then) → c.slot_start-then.result ≡ slot_start c.args.terms (then_day c.args.terms c.args.day)
-then c = c.slot_start-then.ensures ∙ ap (slot_start c.args.terms) c.then_day.ensures
+pub first_absent-requires-clause-closing : goal.first_absent-requires-clause-closing
+first_absent-requires-clause-closing c =
+    let f = c.args.formed.now in
+    rw (c.get.ensures.same, c.slot_start-today.ensures) (omega (arith, slot-sized f.terms f.next c.requires.in_terms, c.requires.room))
 
-pub first_absent-requires : goal.first_absent-requires
-first_absent-requires c =
-    let o = c.args.terms in (
-      omega (arith, c.slot_start-today.ensures, slot-sized o c.args.day c.requires.in_terms, c.requires.room),
-      λ e. omega (arith, then (goal.at.first_absent-requires c).After-slot_start-then, slot-sized o (then_day o c.args.day) c.requires.in_terms, c.requires.room),
-      c.requires.in_terms.accounts_to,
-    )
+pub first_absent-requires-clause-settled : goal.first_absent-requires-clause-settled
+first_absent-requires-clause-settled c =
+    let f = c.args.formed.now in
+    λ x e. rw c.get.ensures.same (omega (arith, start-sized f.terms f.next c.requires.in_terms x (sym (start (goal.at.first_absent-requires-clause-settled c).After-map-then) ∙ e), c.requires.room))
 
-absent-cong : (w : List ℤ) (n : ℕ) {a b i j : ℕ} {d e : Bool} → a ≡ b → i ≡ j → d ≡ e → first_absent w n a i d ≡ first_absent w n b j e
-absent-cong w n x y z = cc
+absent-cong : (w : List ℤ) {m n a b : ℕ} {i j : Option ℕ} → m ≡ n → a ≡ b → i ≡ j → first_absent w m a i ≡ first_absent w n b j
+absent-cong w x y z = cc
 
 pub returns : goal.returns
 returns c =
+    let f = c.args.formed.now in
     c.first_absent.ensures
-    ∙ absent-cong c.args.book.now c.args.terms.accounts c.slot_start-today.ensures (then (goal.at.returns c).After-slot_start-then) c.is_due.ensures
-    ∙ search-same c.args.terms c.args.book.now c.args.day
+    ∙ absent-cong c.args.book.now (ap (λ (o : Terms). o.accounts) c.get.ensures.same) c.slot_start-today.ensures (start (goal.at.returns c).After-map-then)
+    ∙ search-same f.terms c.args.book.now f.next

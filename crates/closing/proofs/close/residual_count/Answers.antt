@@ -1,12 +1,17 @@
--- `residual_count` meets its contract: the test picks the case.
-use mathlib.Core.Path.{sym, ◌∙◌}
+-- `residual_count` meets its contract: it goes by whether a day is settled.
+use Rattle.std.proofs.Common.{sym, ◌∙◌}
 use Rattle.rulebook.specs.Close.{residual_count}
+use Rattle.closing.proofs.laws.SlotsLaws.{settles, settles_none}
 use Rattle.closing.proofs.close.residual_count.Goals as goal
 
-pub returns-then-is_due : goal.returns-then-is_due
+pub returns-in-Some : goal.returns-in-Some
 unfolding residual_count
-returns-then-is_due c = rw (sym c.is_due.ensures ∙ c.if-is_due.true) c.day_residuals.ensures
+returns-in-Some c =
+    let f = c.args.formed.now in
+    rw (c.get.ensures.same, (settles f.terms f.next (sym c.settled_day.ensures.day ∙ c.in-Some.is)).due)
 
-pub returns-else-is_due : goal.returns-else-is_due
+pub returns-in-None : goal.returns-in-None
 unfolding residual_count
-returns-else-is_due c = rw (sym c.is_due.ensures ∙ c.if-is_due.false)
+returns-in-None c =
+    let f = c.args.formed.now in
+    rw (settles_none f.terms f.next (sym c.settled_day.ensures.day ∙ c.in-None.is))

@@ -1,41 +1,35 @@
 -- `amounts_sum` meets its contract: each turn adds one amount; 32 of them are below 2 × 10^14.
-use mathlib.Core.Path.{◌≡◌, refl, sym, ◌∙◌}
-use native.Mathlib.Omega.{arith}
-use lib.IntN.{pos, ◌+ℤ◌}
-use mir.Syntax.{w64}
-use mir.Val.{to_z, of_z}
-use Rattle.integer.proofs.Bits.{got}
-use Rattle.integer.specs.Below.{fold}
+use Rattle.std.proofs.Common.{◌≡◌, List, ℕ, ◌≤◌, ◌<◌, ℤ, pos, ◌+ℤ◌, length, refl, sym, ◌∙◌, arith, rules, SFits, w64}
+use Rattle.std.proofs.lemmas.Int.{to_z-of_z}
+use Rattle.integer.specs.Below.{fold, sum_ℤ}
+use Rattle.integer.proofs.Bits.{fits-add}
 use Rattle.integer.proofs.laws.BelowLaws.{fold-suc}
 use Rattle.integer.specs.Words.{word}
+use Rattle.rulebook.specs.Shares.{most_accounts}
+use Rattle.closing.specs.Written.{Small}
 use Rattle.closing.proofs.laws.WrittenLaws.{amounts-le}
 use Rattle.closing.proofs.statement.amounts_sum.Goals as goal
-use Rattle.closing.proofs.statement.amounts_sum.Goals.{After-word_at}
 
-pub loop-a-init : goal.loop-a-init
+-- a turn's sum, of the amount read back
+fits : (w : List ℤ) (i : ℕ) {s x : ℤ} → Small (length w) w → length w ≤ most_accounts → i < length w → s ≡ sum_ℤ i (word w) → x ≡ word w i → SFits w64 (s +ℤ x)
+fits w i {s} {x} small few h e f = fits-add s x (rw (e, f) (omega (arith, amounts-le (length w) i w small (omega arith), small.each i h, few)))
+
+pub loop-amount-init : goal.loop-amount-init
 unfolding fold
-loop-a-init c = (omega arith, refl)
+loop-amount-init c = refl
 
-pub word_at-requires : goal.word_at-requires
-word_at-requires c = omega (arith, c.requires.0.room)
+pub overflow_add-sum : goal.overflow_add-sum
+overflow_add-sum c =
+    let l = c.loop-amount in
+    let w = c.args.amounts.now in
+    let f : SFits w64 (word w l.amount-index) = search rules in
+    fits w l.amount-index c.requires.0 c.requires.1 c.loop-amount-test.true l.invariant (to_z-of_z w64 _ f)
 
--- the amount of a turn, read back
-amount : (c : After-word_at) → to_z w64 (of_z w64 c.word_at.result) ≡ word c.args.statement.now c.loop-a.a
-amount c = got c.word_at.result c.word_at.type_inv ∙ c.word_at.ensures
-
-pub add-sum-requires : goal.add-sum-requires
-add-sum-requires c =
-    let l = c.loop-a in
-    rw (amount (goal.at.add-sum-requires c).After-word_at, l.invariant.1)
-    (omega (arith, amounts-le c.args.n l.a c.args.statement.now c.requires.0 l.invariant.0, c.requires.0.each l.a c.loop-a-test.true, c.requires.1))
-
-pub loop-a-preserved : goal.loop-a-preserved
-loop-a-preserved c =
-    let l = c.loop-a in
-    (omega arith, got c.add-sum.result c.add-sum.type_inv ∙ c.add-sum.ensures ∙ rw (amount (goal.at.loop-a-preserved c).After-word_at, l.invariant.1) (sym (fold-suc ◌+ℤ◌ (pos 0) l.a (word c.args.statement.now))))
-
-pub returns : goal.returns
-returns c =
-    let l = c.loop-a in
-    let e : l.a ≡ c.args.n = omega arith in
-    l.invariant.1 ∙ rw e
+pub loop-amount-preserved : goal.loop-amount-preserved
+loop-amount-preserved c =
+    let l = c.loop-amount in
+    let w = c.args.amounts.now in
+    let f : SFits w64 (word w l.amount-index) = search rules in
+    let e = to_z-of_z w64 _ f in
+    to_z-of_z w64 _ (fits w l.amount-index c.requires.0 c.requires.1 c.loop-amount-test.true l.invariant e)
+    ∙ rw (e, l.invariant) (sym (fold-suc ◌+ℤ◌ (pos 0) l.amount-index (word w)))

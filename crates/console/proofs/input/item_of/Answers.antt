@@ -1,31 +1,31 @@
--- `item_of` meets its contract: each test is one of the definition's.
-use mathlib.Core.Path.{◌≡◌, sym, ◌∙◌}
-use mathlib.Core.Bool.{true}
-use native.Mathlib.Omega.{arith}
-use Rattle.console.specs.Input.{file_whole}
-use Rattle.console.proofs.laws.InputLaws.{item-end, item-close, item-unknown, item-cut, item-submit, whole_length}
+-- `item_of` meets its contract: each arm is one of the definition's.
+use Rattle.std.specs.Prelude.{◌≡◌, get_or}
+use Rattle.std.proofs.Common.{sym, ◌∙◌, arith}
+use Rattle.console.proofs.laws.InputLaws.{item-end, item-close, item-unknown, item-cut, item-submit, allowed-some, whole-there, whole-short, whole-none}
 use Rattle.console.proofs.input.item_of.Goals as goal
-use Rattle.console.proofs.input.item_of.Goals.{Then-file_whole}
 
-pub returns-then-s-eq0 : goal.returns-then-s-eq0
-returns-then-s-eq0 c = sym (item-end c.args.s.now c.if-s-eq0.true)
+pub returns-in-empty : goal.returns-in-empty
+returns-in-empty c = sym (item-end c.args.s.now (omega arith))
 
-pub returns-then-command-eq-CLOSE : goal.returns-then-command-eq-CLOSE
-returns-then-command-eq-CLOSE c = sym (item-close c.args.s.now c.if-s-eq0.false c.if-command-eq-CLOSE.true)
+pub returns-in-67 : goal.returns-in-67
+returns-in-67 c = let b : get_or c.args.s.now 0 0 ≡ 67 = omega arith in sym (item-close c.args.s.now (λ e. omega arith) b)
 
-pub returns-then-command-ne-SUBMIT : goal.returns-then-command-ne-SUBMIT
-returns-then-command-ne-SUBMIT c = sym (item-unknown c.args.s.now c.if-s-eq0.false c.if-command-eq-CLOSE.false c.if-command-ne-SUBMIT.true)
+pub returns-in_default : goal.returns-in_default
+returns-in_default c = sym (item-unknown c.args.s.now (λ e. omega arith) (λ e. omega arith) (λ e. omega arith))
 
-whole : (c : Then-file_whole) → file_whole c.args.s.now ≡ true
-whole c = sym c.file_whole.ensures ∙ c.if-file_whole.true
+pub returns-in-Some : goal.returns-in-Some
+returns-in-Some c =
+    let b : get_or c.args.s.now 0 0 ≡ 83 = omega arith in
+    let a = allowed-some c.args.s.now c.in-Some.n (sym c.file_length.ensures ∙ c.in-Some.is) in
+    rw a.is (sym (item-submit c.args.s.now (λ e. omega arith) b (whole-there c.args.s.now c.in-Some.n a (omega arith))))
 
-pub number-requires : goal.number-requires
-number-requires c = (omega arith, whole_length c.args.s.now (whole (goal.at.number-requires c).Then-file_whole))
+pub returns-in_default-file_length : goal.returns-in_default-file_length
+returns-in_default-file_length c =
+    let b : get_or c.args.s.now 0 0 ≡ 83 = omega arith in
+    let a = allowed-some c.args.s.now c.in-Some.n (sym c.file_length.ensures ∙ c.in-Some.is) in
+    sym (item-cut c.args.s.now (λ e. omega arith) b (whole-short c.args.s.now c.in-Some.n a (omega arith)))
 
-pub returns-then-file_whole : goal.returns-then-file_whole
-returns-then-file_whole c =
-    rw c.number.ensures.0 (sym (item-submit c.args.s.now c.if-s-eq0.false c.if-command-ne-SUBMIT.false (whole (goal.at.returns-then-file_whole c).Then-file_whole)))
-
-pub returns : goal.returns
-returns c =
-    sym (item-cut c.args.s.now c.if-s-eq0.false c.if-command-ne-SUBMIT.false (sym c.file_whole.ensures ∙ c.if-file_whole.false))
+pub returns-in_default-file_length-2 : goal.returns-in_default-file_length-2
+returns-in_default-file_length-2 c =
+    let b : get_or c.args.s.now 0 0 ≡ 83 = omega arith in
+    sym (item-cut c.args.s.now (λ e. omega arith) b (whole-none c.args.s.now (sym c.file_length.ensures ∙ c.in_default-file_length.is)))

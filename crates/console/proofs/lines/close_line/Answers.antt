@@ -1,14 +1,11 @@
--- `close_line` meets its contract: the number tells the two lines apart.
-use borrow.Author.Tests.{eq-eqb, ne_eqb}
+-- `close_line` meets its contract: figures are printed where the close was accepted, else number and position.
 use Rattle.console.specs.Lines.{close_line}
+use Rattle.console.proofs.laws.LinesLaws.{refused-line}
 use Rattle.console.proofs.lines.close_line.Goals as goal
 
-pub returns-then-returned-eq-ACCEPTED : goal.returns-then-returned-eq-ACCEPTED
+pub returns-in-Ok : goal.returns-in-Ok
 unfolding close_line
-returns-then-returned-eq-ACCEPTED c =
-    rw (← c.of_close-returned.ensures, eq-eqb c.of_close-returned.result.number 0 c.if-returned-eq-ACCEPTED.true) c.closed_line.ensures
+returns-in-Ok o c = rw c.in-Ok.is c.closed_line.ensures
 
-pub returns : goal.returns
-unfolding close_line
-returns c =
-    rw (← c.of_close-returned.ensures, ne_eqb c.of_close-returned.result.number 0 c.if-returned-eq-ACCEPTED.false) c.answer_line.ensures
+pub returns-in-Err : goal.returns-in-Err
+returns-in-Err o c = rw (c.in-Err.is, refused-line, ← c.in-Err.is, ← c.into.ensures) c.answer_line.ensures

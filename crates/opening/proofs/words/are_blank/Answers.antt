@@ -1,26 +1,20 @@
--- `are_blank` meets its contract: each turn is one row more, and the rows are the whole.
-use mathlib.Core.Path.{◌≡◌, ap, ◌∙◌}
-use Prim.Native.Nat.{◌*◌}
-use native.Mathlib.Omega.{arith}
-use borrow.Author.Rules.{rules}
-use Rattle.integer.specs.Below.{fold}
-use Rattle.integer.proofs.laws.WordsLaws.{lent}
-use Rattle.opening.proofs.laws.BlankLaws.{blank-rows}
-use Rattle.opening.proofs.laws.LoopLaws.{all_step}
+-- `are_blank` meets its contract: the rows, and what follows them, are the whole.
+use Rattle.std.proofs.Common.{true, ◌&&◌, length, ◌/◌, ◌*◌, ◌≤◌, ap, ap₂, ◌∙◌, arith, rules, tests}
+use Rattle.std.proofs.lemmas.Iterator.{YieldsList-from_slice}
+use Rattle.std.proofs.lemmas.Iterator.Consumers.{fold_from_yields_List}
+use Rattle.std.specs.Simd.{first_chunks}
 use Rattle.opening.specs.Blank.{blank, row_words}
+use Rattle.opening.proofs.laws.BlankLaws.{blank-rows}
+use Rattle.integer.proofs.laws.TestsLaws.{fold-all}
+use Rattle.opening.proofs.laws.ChunkLaws.{all_chunks}
 use Rattle.opening.proofs.words.are_blank.Goals as goal
-
-pub loop-k-init : goal.loop-k-init
-unfolding fold
-loop-k-init c = search rules
-
-pub loop-k-preserved : goal.loop-k-preserved
-loop-k-preserved c =
-    let l = c.loop-k in
-    (omega arith, all_step l.k _ l.invariant.1 (c.is_blank-ok.ensures ∙ ap blank (lent _ (l.k * row_words) row_words)))
 
 pub returns : goal.returns
 returns c =
-    let a = c.args in
-    let e : c.loop-k.k ≡ a.m = omega arith in
-    rw e at c.loop-k.invariant.1 ∙ blank-rows a.rows.now a.m row_words c.requires
+    let xs = c.args.part.now in
+    let n : length xs / row_words * row_words ≤ length xs = omega arith in
+    ap₂ ◌&&◌
+    (fold_from_yields_List _ (λ ok row. ok && blank row) true _ c.fold.ensures.ran (YieldsList-from_slice (first_chunks row_words (length xs / row_words) xs) cc) (λ a x b q k. search (rules, tests))
+    ∙ fold-all blank true _ ∙ all_chunks blank row_words (length xs / row_words) xs)
+    (c.is_blank.ensures ∙ ap blank c.as_chunks.ensures.back)
+    ∙ blank-rows xs (length xs / row_words) row_words n

@@ -1,20 +1,14 @@
--- `is_blank` meets its contract: each turn is one more of `all`.
-use mathlib.Core.Path.{◌≡◌, refl}
-use native.Mathlib.Omega.{arith}
-use borrow.Author.Rules.{rules}
-use lib.ListN.{length}
-use Rattle.integer.specs.Below.{fold}
-use Rattle.opening.proofs.laws.LoopLaws.{all_step}
+-- `is_blank` meets its contract: each word is tested.
+use Rattle.std.proofs.Common.{pos, true, ◌&&◌, ◌∙◌, rules, tests}
+use Rattle.std.proofs.lemmas.Iterator.{YieldsList-from_slice}
+use Rattle.std.proofs.lemmas.Iterator.Consumers.{fold_from_yields_List}
+use Rattle.rulebook.specs.WellFormed.{is_zero}
 use Rattle.opening.specs.Blank.{blank}
+use Rattle.integer.proofs.laws.TestsLaws.{tests-folded}
 use Rattle.opening.proofs.words.is_blank.Goals as goal
-
-pub loop-k-init : goal.loop-k-init
-unfolding fold
-loop-k-init c = search rules
-
-pub loop-k-preserved : goal.loop-k-preserved
-loop-k-preserved c = (refl, omega arith, all_step c.loop-k.k _ c.loop-k.invariant.2 c.zero_at-ok.ensures)
 
 pub returns : goal.returns
 unfolding blank
-returns c = let e : c.loop-k.k ≡ length c.args.part.now = omega arith in rw e at c.loop-k.invariant.2
+returns c =
+    fold_from_yields_List _ (λ ok w. ok && is_zero w) true _ c.fold.ensures.ran (YieldsList-from_slice c.args.part.now cc) (λ a x b q k. search (rules, tests))
+    ∙ tests-folded is_zero (pos 0) c.args.part.now

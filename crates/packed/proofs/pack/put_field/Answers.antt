@@ -27,9 +27,8 @@ field-filled z m b xs ys l e f h =
 pub returns : goal.returns
 returns c =
     let z = c.args.z in
-    let m = c.magnitude-m in
+    let m = c.unsigned_abs-m in
     let b = c.last_byte in
     let x : to_z w64 (of_z w64 z) ≡ z = search rules in
-    c.put_byte.ensures
-    ∙ field-filled z m.result b.result c.args.field.now _ c.requires.1 (m.ensures ∙ ap nat_abs x) c.put_pairs.ensures
+    field-filled z m.result b.result c.args.field.now _ c.requires.1 (m.ensures.value ∙ ap nat_abs x) c.put_pairs.ensures
     (b.ensures ∙ ap (λ (v : ℤ). 16 * (m.result % 10) + sign_of v) x)

@@ -1,10 +1,5 @@
 -- `put_fields` meets its contract: each turn writes one field of the grid.
-use mathlib.Core.Path.{◌≡◌, refl, ◌∙◌}
-use mathlib.Core.List.{List, ◌++◌}
-use Prim.Native.Nat.{ℕ, ◌+◌, ◌*◌, ◌-◌}
-use native.Mathlib.Omega.{arith}
-use lib.ListN.{length, take, drop}
-use lib.IntN.{ℤ}
+use Rattle.std.proofs.Common.{◌≡◌, ◌∙◌, List, ◌++◌, ℕ, ◌+◌, ◌*◌, ◌-◌, length, take, drop, ℤ, rules, arith}
 use Rattle.integer.specs.Below.{tabulate}
 use Rattle.integer.specs.Words.{word, grid_row, grid}
 use Rattle.integer.proofs.laws.WordsLaws.{length-of_part, grid-zero, grid-suc}
@@ -23,26 +18,16 @@ one_more amounts i v xs ys part z e f =
     rw (grid-suc, ← e, a, f, z)
 
 pub loop-i-init : goal.loop-i-init
-loop-i-init c = (omega arith, refl, refl, grid-zero _ _ _ _ _)
-
-pub loop-i-preserved : goal.loop-i-preserved
-loop-i-preserved c =
-    let f = c.put_field in
-    let w = c.word_at in
-    let xs = c.args.amounts.now in
-    let z = got w.result w.type_inv ∙ w.ensures in
-    (omega arith, refl, omega arith, one_more xs c.loop-i.i _ _ _ _ z c.loop-i.invariant.3 f.ensures)
-
-pub shape_of-output : goal.shape_of-output
-shape_of-output c = c.loop-i.invariant.2
-
-pub returns : goal.returns
-returns c =
-    let e : c.loop-i.i ≡ length c.args.amounts.now = omega arith in
-    rw e at c.loop-i.invariant.3
+loop-i-init c = grid-zero _ _ _ _ _
 
 pub put_field-requires : goal.put_field-requires
 put_field-requires c =
-    let w = c.word_at in
-    let z = got w.result w.type_inv ∙ w.ensures in
-    (rw z ((statement-is c.args.amounts.now c.requires.0).digits c.loop-i.i (omega arith)), length-of_part (8 * c.loop-i.i) (8 * c.loop-i.i + 8) c.loop-i.output (omega arith) (omega arith) ∙ omega arith)
+    let xs = c.args.amounts.now in
+    let z = got (word xs c.loop-i.i) (search rules) in
+    (rw z ((statement-is xs c.requires.0).digits c.loop-i.i (omega arith)), length-of_part (8 * c.loop-i.i) (8 * c.loop-i.i + 8) c.loop-i.output (omega arith) (omega arith) ∙ omega arith)
+
+pub loop-i-preserved : goal.loop-i-preserved
+loop-i-preserved c =
+    let xs = c.args.amounts.now in
+    let z = got (word xs c.loop-i.i) (search rules) in
+    one_more xs c.loop-i.i _ _ _ _ z c.loop-i.invariant c.put_field.ensures

@@ -1,27 +1,24 @@
 -- `put_amounts` meets its contract: each turn fills one word more.
-use mathlib.Core.Path.{◌≡◌, refl, sym, ◌∙◌}
-use Prim.Native.Nat.{◌*◌}
-use native.Mathlib.Omega.{arith}
+use Rattle.std.proofs.Common.{◌≡◌, sym, ◌∙◌, ◌*◌, ◌/◌, ◌<◌, [], length, take, get_or, arith}
+use lib.Seq.{length-take-le}
 use Rattle.integer.proofs.Bits.{got}
 use Rattle.integer.proofs.laws.WordsLaws.{filled_zero, filled-step}
-use Rattle.packed.specs.Packed.{field_bytes, whole_fields, amount_at}
+use Rattle.packed.specs.Packed.{field_bytes, amount_at}
+use Rattle.packed.proofs.laws.PairLaws.{amount-same, chunk-same}
 use Rattle.packed.proofs.unpack.put_amounts.Goals as goal
 
 pub loop-f-init : goal.loop-f-init
-loop-f-init c = (omega arith, refl, refl, sym (filled_zero _ _))
-
-pub shape_of-output : goal.shape_of-output
-shape_of-output c = c.loop-f.invariant.2
-
-pub returns : goal.returns
-returns c =
-    let a = c.args in
-    let e : c.loop-f.f ≡ whole_fields a.s.now = omega arith in
-    rw e at c.loop-f.invariant.3
+loop-f-init c = sym (filled_zero _ _)
 
 pub loop-f-preserved : goal.loop-f-preserved
 loop-f-preserved c =
-    let w = c.put_word in
-    let a = c.args in
-    let v = c.amount_at in
-    (omega arith, refl, w.auto.words ∙ c.loop-f.invariant.2, w.ensures ∙ filled-step c.loop-f.f (λ k. amount_at a.s.now (field_bytes * k)) a.output.now (omega arith) c.loop-f.invariant.3 (got v.result v.type_inv ∙ v.ensures))
+    let s = c.args.s.now in
+    let f = c.loop-f.f in
+    let v = c.amount in
+    let n = length c.as_chunks.result.0.now in
+    let b = c.as_chunks.ensures.front_len in
+    let t : f < length (take n c.args.output.now) = c.loop-f-test.true in
+    let m : length (take n c.args.output.now) ≡ n = length-take-le n c.args.output.now (omega (arith, b, c.requires)) in
+    let l : f < length s / field_bytes = omega (arith, b, t, m) in
+    let a = amount-same s (field_bytes * f) (get_or c.as_chunks.result.0.now f []) (λ j b. rw c.as_chunks.ensures.front (chunk-same s f [] l j b)) in
+    filled-step f (λ k. amount_at s (field_bytes * k)) _ t c.loop-f.invariant (got v.result v.type_inv ∙ v.ensures ∙ sym a)

@@ -1,7 +1,7 @@
 -- `unpack` meets its contract: its checks are those of `unpack_call`, in their order.
+use Rattle.std.specs.Prelude.{Some, None}
 use Rattle.std.proofs.Common.{◌≡◌, sym, ◌∙◌, true, false, length, arith}
 use borrow.Author.Tests.{le-leb, lt-leb}
-use Rattle.integer.specs.declared.Found.TheVariants.{At, Nothing}
 use Rattle.packed.specs.Packed.{count_fits, whole_fields, first_wrong, unpack_call}
 use Rattle.packed.proofs.unpack.unpack.Goals as goal
 
@@ -18,18 +18,18 @@ returns-then-output-n c =
     let f : count_fits (whole_fields a.s.now) ≡ true = sym c.count_fits.ensures ∙ c.if-not-count_fits.false in
     rw (f, lt-leb (whole_fields a.s.now) (length a.output.now) (omega arith))
 
-pub returns-in-At : goal.returns-in-At
+pub returns-in-Some : goal.returns-in-Some
 unfolding unpack_call
-returns-in-At c =
+returns-in-Some c =
     let a = c.args in
     let f : count_fits (whole_fields a.s.now) ≡ true = sym c.count_fits.ensures ∙ c.if-not-count_fits.false in
-    let w : first_wrong a.s.now ≡ At c.in-At.p = sym c.in-At.ensures in
+    let w : first_wrong a.s.now ≡ Some c.in-Some.p = sym c.in-Some.ensures in
     rw (f, le-leb (whole_fields a.s.now) (length a.output.now) (omega arith), w)
 
-pub returns-in-Nothing : goal.returns-in-Nothing
+pub returns : goal.returns
 unfolding unpack_call
-returns-in-Nothing c =
+returns c =
     let a = c.args in
     let f : count_fits (whole_fields a.s.now) ≡ true = sym c.count_fits.ensures ∙ c.if-not-count_fits.false in
-    let w : first_wrong a.s.now ≡ Nothing = sym c.in-Nothing.ensures in
+    let w : first_wrong a.s.now ≡ None = sym c.in_default.ensures in
     rw (c.put_amounts.ensures, f, le-leb (whole_fields a.s.now) (length a.output.now) (omega arith), w)

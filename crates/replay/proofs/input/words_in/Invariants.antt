@@ -1,8 +1,4 @@
-use mathlib.Core.Path.{◌≡◌}
-use mathlib.Core.List.{List}
-use Prim.Native.Nat.{ℕ, ◌*◌, ◌-◌, ◌≤◌}
-use lib.IntN.{ℤ}
-use lib.ListN.{length}
+use Rattle.std.specs.Prelude.{◌≡◌, List, ℕ, ◌*◌, ℤ, length}
 use Rattle.integer.specs.Words.{filled}
 use Rattle.replay.specs.Fields.{word_in}
 use Rattle.replay.proofs.input.words_in.Given as goal
@@ -12,7 +8,4 @@ abbrev pub spelled : List ℕ → ℕ → ℤ
 spelled bytes k = word_in bytes (8 * k)
 
 abbrev pub invariant-loop-i : goal.invariant-loop-i
-invariant-loop-i l = (l.i-end ≡ length l.initial.list) × (l.i ≤ l.i-end) × (length l.list ≡ length l.initial.list) × (l.list ≡ filled l.i (spelled l.bytes) l.initial.list)
-
-abbrev pub decreases-loop-i : goal.decreases-loop-i
-decreases-loop-i l = l.i-end - l.i
+invariant-loop-i l = (length l.list ≡ length l.initial.list) × (l.list ≡ filled l.i (spelled l.bytes) l.initial.list)

@@ -1,7 +1,4 @@
-use Prim.Native.Nat.{ℕ, ◌-◌, ◌≤◌, ◌<◌}
-use lib.ListN.{length, get_or}
-use mathlib.Core.Path.{◌≡◌}
-use mathlib.Core.List.{List}
+use Rattle.std.specs.Prelude.{◌≡◌, List, ℕ, ◌<◌, get_or}
 use Rattle.integer.specs.Below.{turns}
 use Rattle.replay.specs.Digests.{more}
 use Rattle.replay.proofs.output.file_digest_of.Given as goal
@@ -10,8 +7,5 @@ use Rattle.replay.proofs.output.file_digest_of.Given as goal
 abbrev pub step : List ℕ → ℕ → ℕ → ℕ
 step file i d = more d (get_or file i 0)
 
-abbrev pub invariant-loop-i : goal.invariant-loop-i
-invariant-loop-i l = (l.i-end ≡ length l.file) × (l.i ≤ l.i-end) × (l.d < 2147483647) × (l.d ≡ turns l.i (step l.file) 1)
-
-abbrev pub decreases-loop-i : goal.decreases-loop-i
-decreases-loop-i l = l.i-end - l.i
+abbrev pub invariant-loop-b : goal.invariant-loop-b
+invariant-loop-b l = (l.d < 2147483647) × (l.d ≡ turns l.b-index (step l.file) 1)

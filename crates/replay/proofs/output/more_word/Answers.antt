@@ -11,7 +11,7 @@ pub returns : goal.returns
 unfolding more_word
 returns c =
     let z = to_z-of_z w64 c.args.z c.ranges.z in
-    let m = c.magnitude-size.ensures ∙ ap nat_abs z in
+    let m = c.unsigned_abs-size.ensures.value ∙ ap nat_abs z in
     let g = c.sign.ensures.0 ∙ ap sign z in
     let u = ap₂ (λ (a b : ℕ). 2 * (a / 4294967296) + b) m g in
     (c.more-2.ensures.0 ∙ ap₂ more (c.more.ensures.0 ∙ ap (more c.args.d) u) (ap (λ (a : ℕ). a % 4294967296) m), c.more-2.ensures.1)

@@ -1,17 +1,15 @@
 -- `robijan_book_size` meets its contract: terms are judged as an opening judges them.
-use mathlib.Core.Path.{sym, ◌∙◌}
-use mathlib.Core.List.{[]}
-use Rattle.opening.proofs.laws.OpenLaws.{terms-in}
+use Rattle.std.proofs.Common.{sym, ◌∙◌}
 use Rattle.robijan.specs.Returned.{size_returned}
+use Rattle.robijan.proofs.laws.ReturnedLaws.{accepted-some, accepted-none}
 use Rattle.robijan.proofs.book_calls.robijan_book_size.Goals as goal
 
-pub book_size-requires : goal.book_size-requires
-book_size-requires c = terms-in _ [] (sym c.terms_fit.ensures ∙ c.if-terms_fit.true)
-
-pub returns-then-terms_fit : goal.returns-then-terms_fit
+pub returns-in-Some : goal.returns-in-Some
 unfolding size_returned
-returns-then-terms_fit c = rw (sym c.terms_fit.ensures ∙ c.if-terms_fit.true, c.book_size.ensures)
+returns-in-Some c =
+    let a = accepted-some c.args.terms c.in-Some.terms (sym c.new.ensures ∙ c.in-Some.is) in
+    rw (a.0, c.book_size.ensures, a.1)
 
-pub returns-else-terms_fit : goal.returns-else-terms_fit
+pub returns-in-None : goal.returns-in-None
 unfolding size_returned
-returns-else-terms_fit c = rw (sym c.terms_fit.ensures ∙ c.if-terms_fit.false)
+returns-in-None c = rw (accepted-none c.args.terms (sym c.new.ensures ∙ c.in-None.is))

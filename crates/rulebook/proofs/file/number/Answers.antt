@@ -3,16 +3,16 @@ use Rattle.std.proofs.Common.{◌≡◌, refl, arith}
 use Rattle.rulebook.specs.File.{num}
 use Rattle.rulebook.proofs.file.number.Goals as goal
 
-pub returns-then-n-eq0 : goal.returns-then-n-eq0
+pub returns-in-0 : goal.returns-in-0
 unfolding num
-returns-then-n-eq0 c = rw c.if-n-eq0.true (refl, omega arith)
+returns-in-0 c = rw c.in-0.is (refl, omega arith)
 
-pub returns-then-n-eq1 : goal.returns-then-n-eq1
+pub returns-in-1 : goal.returns-in-1
 unfolding num
-returns-then-n-eq1 c = rw c.if-n-eq1.true (omega arith, omega arith)
+returns-in-1 c = rw c.in-1.is (omega arith, omega arith)
 
-pub returns : goal.returns
+pub returns-in_default : goal.returns-in_default
 unfolding num
-returns c =
+returns-in_default c =
     let n : c.args.n ≡ 2 = omega arith in
     rw n (omega arith, omega arith)

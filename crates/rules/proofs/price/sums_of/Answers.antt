@@ -1,19 +1,18 @@
 -- `sums_of` meets its contract: each turn takes one facility more, and the sums stay within their bounds.
-use mathlib.Core.Path.{◌≡◌, sym, ap, ◌∙◌}
-use mathlib.Core.List.{List}
-use Prim.Native.Nat.{ℕ, ◌≤◌, ◌<◌}
-use native.Mathlib.Omega.{arith}
-use lib.IntN.{ℤ, nat_abs}
-use lib.ListN.{length}
-use Rattle.integer.proofs.Bits.{got}
+use Rattle.std.specs.Int.{w64}
+use Rattle.std.proofs.Common.{◌≡◌, ℕ, ℤ, ◌≤◌, ◌<◌, List, nat_abs, length, sym, ap, ◌∙◌, arith, pos, to_z, of_z, rules, length-append, ◌+◌, ◌++◌, ◌∷◌, []}
+use Rattle.std.proofs.lemmas.Slice.Zip.{zip_turn, zip_end}
+use Rattle.std.proofs.lemmas.Int.{to_z-of_z}
+use Rattle.integer.proofs.laws.IntegerLaws.{int, fits-abs}
 use Rattle.integer.specs.Words.{word}
 use Rattle.rulebook.specs.declared.Kind.TheVariants.{Injection, Price}
 use Rattle.rulebook.specs.Units.{most_price, most_quantity}
 use Rattle.rulebook.specs.Calls.{PricesIn}
 use Rattle.rulebook.proofs.laws.UnitsLaws.{price-range, injection-range}
 use Rattle.rulebook.proofs.laws.CallsLaws.{in_range-at}
-use Rattle.rules.specs.PriceSums.{sums_of, sums-zero, sums-suc, sums-count, sums-within}
+use Rattle.rules.specs.PriceSums.{sums_of, sums-zero, sums-suc, sums-count}
 use Rattle.rules.proofs.price.sums_of.Goals as goal
+use Rattle.rules.proofs.price.sums_of.Goals.{In-Some}
 
 -- each MEP and IEQ of accepted lists
 module _ (mep ieq : List ℤ) (p : PricesIn mep ieq) (f : ℕ) (l : f < length mep) where
@@ -23,35 +22,50 @@ module _ (mep ieq : List ℤ) (p : PricesIn mep ieq) (f : ℕ) (l : f < length m
   ieq-small : nat_abs (word ieq f) ≤ most_quantity
   ieq-small = let e = p.same in injection-range (word ieq f) (in_range-at Injection ieq p.injections f (omega arith))
 
-pub loop-f-init : goal.loop-f-init
-loop-f-init c = (omega arith, sums-zero (word c.args.mep.now) (word c.args.ieq.now))
+-- the turn's facility
+record Turn (c : In-Some) : Type 0 where
+  below : length c.loop-m.yielded < length c.args.mep.now
+  mep : to_z w64 (of_z w64 c.in-Some.m.now) ≡ word c.args.mep.now (length c.loop-m.yielded)
+  ieq : to_z w64 (of_z w64 c.in-Some.i.now) ≡ word c.args.ieq.now (length c.loop-m.yielded)
 
-pub word_at-requires-in-loop-f : goal.word_at-requires-in-loop-f
-word_at-requires-in-loop-f c = let e = c.requires.same in omega arith
+turn : (c : In-Some) → Turn c
+turn c =
+    let l = c.loop-m in
+    let t = zip_turn c.args.mep.now c.args.ieq.now l.yielded c.into_iter-m-iterator.result l.m-iterator c.next.new.self c.next.result (cc) (cc) l.yielded_by (c.in-Some.m, c.in-Some.i) c.in-Some.is c.next.ensures.steps in
+    record {
+      below = t.0;
+      mep = rw (t.2 (pos 0)) (to_z-of_z w64 _ (fits-abs (omega (int, mep-small c.args.mep.now c.args.ieq.now c.requires (length l.yielded) t.0))));
+      ieq = rw (t.3 (pos 0)) (to_z-of_z w64 _ (fits-abs (omega (int, ieq-small c.args.mep.now c.args.ieq.now c.requires (length l.yielded) t.0))));
+    }
+
+pub loop-m-init : goal.loop-m-init
+loop-m-init c = (search rules, search rules, c.none-sums.ensures ∙ sums-zero (word c.args.mep.now) (word c.args.ieq.now))
 
 pub with_facility-sums-requires : goal.with_facility-sums-requires
 with_facility-sums-requires c =
+    let t = turn (goal.at.with_facility-sums-requires c).In-Some in
+    let f = length c.loop-m.yielded in
     let x = c.args.mep.now in
-    let y = c.args.ieq.now in
-    let l : c.loop-f.f < length x = c.loop-f-test.true in
-    let p = c.requires in
-    let q = p.few in (
-      rw c.loop-f.invariant.1 (sums-within c.loop-f.f (word x) (word y) (λ f h. mep-small x y p f (omega arith)) (λ f h. ieq-small x y p f (omega arith))),
-      rw (c.loop-f.invariant.1, sums-count c.loop-f.f (word x) (word y)) (omega arith),
-      rw (got c.word_at.result c.word_at.type_inv, c.word_at.ensures) (mep-small x y p c.loop-f.f l),
-      rw (got c.word_at-in-loop-f.result c.word_at-in-loop-f.type_inv, c.word_at-in-loop-f.ensures) (ieq-small x y p c.loop-f.f l),
+    let y = c.args.ieq.now in (
+      rw (c.loop-m.invariant.2, sums-count f (word x) (word y)) (omega (arith, t.below, c.requires.few)),
+      rw t.mep (mep-small x y c.requires f t.below),
+      rw t.ieq (ieq-small x y c.requires f t.below),
     )
 
-pub loop-f-preserved : goal.loop-f-preserved
-loop-f-preserved c =
-    let v = c.word_at in
-    let w = c.word_at-in-loop-f in (
-      omega arith,
-      rw (c.with_facility-sums.ensures, got v.result v.type_inv, v.ensures, got w.result w.type_inv, w.ensures, c.loop-f.invariant.1)
-          (sym (sums-suc c.loop-f.f (word c.args.mep.now) (word c.args.ieq.now))),
-    )
+pub loop-m-preserved : goal.loop-m-preserved
+loop-m-preserved c =
+    let t = turn (goal.at.loop-m-preserved c).In-Some in
+    let f = length c.loop-m.yielded in
+    let x = word c.args.mep.now in
+    let y = word c.args.ieq.now in
+    let n : length (c.loop-m.yielded ++ ((c.in-Some.m, c.in-Some.i) ∷ [])) ≡ f + 1 = simp length-append in
+    (search rules, search rules, rw (c.with_facility-sums.ensures, t.mep, t.ieq, c.loop-m.invariant.2, n) (sym (sums-suc f x y)))
 
 pub returns : goal.returns
 returns c =
-    let e : c.loop-f.f ≡ length c.args.mep.now = omega arith in
-    c.loop-f.invariant.1 ∙ ap (λ (n : ℕ). sums_of n (word c.args.mep.now) (word c.args.ieq.now)) e
+    let l = c.loop-m in
+    let x = c.args.mep.now in
+    let y = c.args.ieq.now in
+    let e = zip_end x y l.yielded c.into_iter-m-iterator.result l.m-iterator c.next.new.self c.next.result (cc) (cc) l.yielded_by c.in-None.is c.next.ensures.steps in
+    let k : length l.yielded ≡ length x = omega (arith, e, c.requires.same) in
+    l.invariant.2 ∙ ap (λ (n : ℕ). sums_of n (word x) (word y)) k

@@ -1,55 +1,60 @@
--- `spare_generation` meets its contract. The invariant: every UEGQ below b is a quantity, and the total is their sum, within 32 quantities.
-use mathlib.Core.Path.{◌≡◌, refl, sym, ap, ◌∙◌}
-use mathlib.Core.Bool.{true}
-use Prim.Native.Nat.{ℕ, ◌+◌}
-use native.Mathlib.Omega.{arith}
-use borrow.Author.Rules.{rules}
-use lib.ListN.{length}
+-- `spare_generation` meets its contract. The invariant: every UEGQ so far is a quantity, and the total is their sum, within 32 quantities.
+use Rattle.std.specs.Int.{w64}
+use Rattle.std.proofs.Common.{◌≡◌, ℕ, true, false, length, ap, ◌∙◌, arith, rules, ◌+◌, Ok, to_z, of_z}
+use Rattle.std.proofs.lemmas.Result.{err_from_is_err_and}
 use Rattle.integer.specs.Below.{fold, sum_ℕ}
 use Rattle.integer.proofs.laws.BelowLaws.{fold_step, all_more, all_fails}
-use Rattle.integer.proofs.Bits.{got}
 use Rattle.integer.specs.Words.{word}
 use Rattle.rulebook.specs.declared.Kind.TheVariants.{Quantity}
 use Rattle.rulebook.specs.Units.{in_range, as_quantity}
-use Rattle.rulebook.specs.Calls.{all_in_range}
+use Rattle.rulebook.specs.Calls.{all_in_range, quantities_in}
 use Rattle.rulebook.proofs.laws.CallsLaws.{quantities-below}
-use Rattle.rules.specs.declared.share.Spare.TheVariants.{Total}
+use Rattle.rules.proofs.laws.ToldLaws.{told_ok, told_err}
 use Rattle.rules.proofs.share.spare_generation.Goals as goal
-use Rattle.rules.proofs.share.spare_generation.Goals.{Else-not-in_range}
+use Rattle.rules.proofs.share.spare_generation.Goals.{In_ok-total}
 
-pub loop-b-init : goal.loop-b-init
+pub loop-u-init : goal.loop-u-init
 unfolding fold
-loop-b-init c = search rules
+loop-u-init c = search rules
+
+pub returns-in_err-total : goal.returns-in_err-total
+unfolding all_in_range
+returns-in_err-total c =
+    let xs = c.args.uegq.now in
+    let p = err_from_is_err_and c.from_residual.result c.from_residual.ensures.1 in
+    let x : to_z w64 (of_z w64 (word xs c.loop-u.u-index)) ≡ word xs c.loop-u.u-index = search rules in
+    let t = told_err _ _ _ c.in_err-total.ensures in
+    let z : in_range Quantity (to_z w64 (of_z w64 (word xs c.loop-u.u-index))) ≡ false = t.0 in
+    rw (p.1, p.2, t.1, all_fails (length xs) (λ i. in_range Quantity (word xs i)) c.loop-u.u-index c.loop-u-test.true (rw x at z))
+
+-- the turn's word is a quantity
+judged : (c : In_ok-total) → (in_range Quantity (word c.args.uegq.now c.loop-u.u-index) ≡ true) × (c.in_ok-total.field-0 ≡ quantities_in c.args.uegq.now c.loop-u.u-index)
+judged c =
+    let w = word c.args.uegq.now c.loop-u.u-index in
+    let x : to_z w64 (of_z w64 w) ≡ w = search rules in
+    let t : (in_range Quantity (to_z w64 (of_z w64 w)) ≡ true) × (c.in_ok-total.field-0 ≡ as_quantity (to_z w64 (of_z w64 w))) = told_ok _ _ _ c.in_ok-total.ensures in
+    (rw x at t.0, rw x at t.1)
 
 pub overflow_add-total : goal.overflow_add-total
 overflow_add-total c =
-    omega (arith, quantities-below c.args.uegq.now c.loop-b.b c.loop-b.invariant.2, c.requires)
+    let xs = c.args.uegq.now in
+    let l = c.loop-u in
+    let j = judged (goal.at.overflow_add-total c).In_ok-total in
+    let m = all_more l.u-index (λ i. in_range Quantity (word xs i)) l.invariant.0 j.0 in
+    let s = fold_step ◌+◌ 0 l.u-index (quantities_in xs) l.invariant.1 j.1 in
+    omega (arith, s, quantities-below xs (l.u-index + 1) m, c.requires, c.loop-u-test.true)
+
+pub loop-u-preserved : goal.loop-u-preserved
+loop-u-preserved c =
+    let xs = c.args.uegq.now in
+    let l = c.loop-u in
+    let j = judged (goal.at.loop-u-preserved c).In_ok-total in
+    (all_more l.u-index (λ i. in_range Quantity (word xs i)) l.invariant.0 j.0, fold_step ◌+◌ 0 l.u-index (quantities_in xs) l.invariant.1 j.1)
 
 pub returns : goal.returns
 unfolding all_in_range
 returns c =
     let xs = c.args.uegq.now in
-    let l = c.loop-b in
-    let e : l.b ≡ length xs = omega arith in
-    rw (rw e at l.invariant.2) (ap Total (l.invariant.3 ∙ ap (λ (n : ℕ). sum_ℕ n (λ i. as_quantity (word xs i))) e))
-
-pub returns-then-not-in_range : goal.returns-then-not-in_range
-unfolding all_in_range
-returns-then-not-in_range c =
-    let xs = c.args.uegq.now in
-    let r = c.word_at in
-    rw (all_fails (length xs) (λ i. in_range Quantity (word xs i)) c.loop-b.b (omega arith) (sym (c.in_range.ensures ∙ ap (in_range Quantity) (got r.result r.type_inv ∙ r.ensures)) ∙ c.if-not-in_range.true))
-
--- the word that was judged is a quantity
-judged : (c : Else-not-in_range) → in_range Quantity (word c.args.uegq.now c.loop-b.b) ≡ true
-judged c =
-    let r = c.word_at in
-    sym (c.in_range.ensures ∙ ap (in_range Quantity) (got r.result r.type_inv ∙ r.ensures)) ∙ c.if-not-in_range.false
-
-pub quantity_at-total-requires : goal.quantity_at-total-requires
-quantity_at-total-requires c = (omega arith, judged (goal.at.quantity_at-total-requires c).Else-not-in_range)
-
-pub loop-b-preserved : goal.loop-b-preserved
-loop-b-preserved c =
-    let xs = c.args.uegq.now in
-    (omega arith, refl, all_more c.loop-b.b (λ i. in_range Quantity (word xs i)) c.loop-b.invariant.2 (judged (goal.at.loop-b-preserved c).Else-not-in_range), fold_step ◌+◌ 0 c.loop-b.b (λ i. as_quantity (word xs i)) c.loop-b.invariant.3 c.quantity_at-total.ensures.0)
+    let l = c.loop-u in
+    let e : l.u-index ≡ length xs = omega arith in
+    rw (rw e at l.invariant.0) (ap Ok (l.invariant.1 ∙ ap (λ (n : ℕ). sum_ℕ n (quantities_in xs)) e))

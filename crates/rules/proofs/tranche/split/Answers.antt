@@ -1,5 +1,5 @@
 -- `split` meets its contract: tranche 1 is within the share, so the rest is tranche 2.
-use native.Mathlib.Omega.{arith}
+use Rattle.std.proofs.Common.{arith}
 use Rattle.integer.proofs.Bits.{got}
 use Rattle.rulebook.specs.Tranches.{tranche2}
 use Rattle.rulebook.proofs.laws.TranchesLaws.{tranche-split}

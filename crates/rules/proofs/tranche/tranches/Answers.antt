@@ -1,58 +1,50 @@
 -- `tranches` meets its contract: in each case the answer is `tranche_call`; what is accepted is in range.
-use mathlib.Core.Path.{◌≡◌, sym, ◌∙◌}
-use mathlib.Core.Bool.{true}
-use lib.IntN.{ℤ}
-use mir.Syntax.{w64}
-use mir.Val.{to_z, of_z}
-use borrow.Author.Rules.{rules}
-use Rattle.integer.proofs.laws.BelowLaws.{and-true}
-use Rattle.rulebook.specs.declared.Kind.TheVariants.{Quantity}
-use Rattle.rulebook.specs.Units.{in_range}
+use Rattle.std.specs.Int.{w64}
+use Rattle.std.proofs.Common.{◌≡◌, rules, to_z, of_z}
+use Rattle.std.proofs.lemmas.Result.{err_from_is_err_and}
 use Rattle.rulebook.specs.Calls.{tranche_input, tranche_call}
+use Rattle.rules.proofs.laws.ToldLaws.{told_ok, told_err}
 use Rattle.rules.proofs.tranche.tranches.Goals as goal
-use Rattle.rules.proofs.tranche.tranches.Goals.{After-tranche_input}
 
--- each parameter is in range once the input is
-record Quantities (rvq bvq mq : ℤ) : Type 0 where
-  share : in_range Quantity rvq ≡ true
-  base : in_range Quantity bvq ≡ true
-  most : in_range Quantity mq ≡ true
+pub returns-in_err-quantity : goal.returns-in_err-quantity
+unfolding tranche_call tranche_input
+returns-in_err-quantity c =
+    let x : to_z w64 (of_z w64 c.args.rvq) ≡ c.args.rvq = search rules in
+    let p = err_from_is_err_and c.from_residual.result c.from_residual.ensures.1 in
+    let t = told_err _ _ _ c.in_err-quantity.ensures in
+    rw (p.1, p.2, t.1, ← x, t.0)
 
-quantities : (rvq bvq mq : ℤ) → tranche_input rvq bvq mq ≡ true → Quantities rvq bvq mq
-unfolding tranche_input
-quantities rvq bvq mq e =
-    let x = and-true (in_range Quantity rvq) _ e in
-    let y = and-true (in_range Quantity bvq) (in_range Quantity mq) x.1 in
-    record { share = x.0; base = y.0; most = y.1 }
+pub returns-in_err-quantity-2 : goal.returns-in_err-quantity-2
+unfolding tranche_call tranche_input
+returns-in_err-quantity-2 c =
+    let x : to_z w64 (of_z w64 c.args.rvq) ≡ c.args.rvq = search rules in
+    let y : to_z w64 (of_z w64 c.args.bvq) ≡ c.args.bvq = search rules in
+    let r = c.from_residual-in_err-quantity-2 in
+    let p = err_from_is_err_and r.result r.ensures.1 in
+    let s = told_ok _ _ _ c.in_ok-quantity.ensures in
+    let t = told_err _ _ _ c.in_err-quantity-2.ensures in
+    rw (p.1, p.2, t.1, ← x, s.0, ← y, t.0)
 
-pub as_quantity-requires : goal.as_quantity-requires
-as_quantity-requires c = (quantities _ _ _ (sym c.tranche_input.ensures ∙ c.if-tranche_input.true)).share
+pub returns-in_err-quantity-3 : goal.returns-in_err-quantity-3
+unfolding tranche_call tranche_input
+returns-in_err-quantity-3 c =
+    let x : to_z w64 (of_z w64 c.args.rvq) ≡ c.args.rvq = search rules in
+    let y : to_z w64 (of_z w64 c.args.bvq) ≡ c.args.bvq = search rules in
+    let z : to_z w64 (of_z w64 c.args.mq) ≡ c.args.mq = search rules in
+    let r = c.from_residual-in_err-quantity-3 in
+    let p = err_from_is_err_and r.result r.ensures.1 in
+    let s = told_ok _ _ _ c.in_ok-quantity.ensures in
+    let t = told_ok _ _ _ c.in_ok-quantity-2.ensures in
+    let u = told_err _ _ _ c.in_err-quantity-3.ensures in
+    rw (p.1, p.2, u.1, ← x, s.0, ← y, t.0, ← z, u.0)
 
-pub as_quantity-requires-then-tranche_input : goal.as_quantity-requires-then-tranche_input
-as_quantity-requires-then-tranche_input c = (quantities _ _ _ (sym c.tranche_input.ensures ∙ c.if-tranche_input.true)).base
-
-pub as_quantity-requires-then-tranche_input-2 : goal.as_quantity-requires-then-tranche_input-2
-as_quantity-requires-then-tranche_input-2 c = (quantities _ _ _ (sym c.tranche_input.ensures ∙ c.if-tranche_input.true)).most
-
--- what `tranche_input` answered, of the parameters
-module _ (c : After-tranche_input) where
-  input : c.tranche_input.result ≡ tranche_input c.args.rvq c.args.bvq c.args.mq
-  input =
-      let a = c.args in
-      let x : to_z w64 (of_z w64 a.rvq) ≡ a.rvq = search rules in
-      let y : to_z w64 (of_z w64 a.bvq) ≡ a.bvq = search rules in
-      let z : to_z w64 (of_z w64 a.mq) ≡ a.mq = search rules in
-      rw (x, y, z) at c.tranche_input.ensures
-
-pub returns-then-tranche_input : goal.returns-then-tranche_input
-unfolding tranche_call
-returns-then-tranche_input c =
-    let a = c.args in
-    let x : to_z w64 (of_z w64 a.rvq) ≡ a.rvq = search rules in
-    let y : to_z w64 (of_z w64 a.bvq) ≡ a.bvq = search rules in
-    let z : to_z w64 (of_z w64 a.mq) ≡ a.mq = search rules in
-    rw (c.split.ensures, ← input (goal.at.returns-then-tranche_input c).After-tranche_input, c.if-tranche_input.true, c.as_quantity.ensures.0, c.as_quantity-then-tranche_input.ensures.0, c.as_quantity-then-tranche_input-2.ensures.0, x, y, z)
-
-pub returns-else-tranche_input : goal.returns-else-tranche_input
-unfolding tranche_call
-returns-else-tranche_input c = rw (← input (goal.at.returns-else-tranche_input c).After-tranche_input, c.if-tranche_input.false)
+pub returns : goal.returns
+unfolding tranche_call tranche_input
+returns c =
+    let x : to_z w64 (of_z w64 c.args.rvq) ≡ c.args.rvq = search rules in
+    let y : to_z w64 (of_z w64 c.args.bvq) ≡ c.args.bvq = search rules in
+    let z : to_z w64 (of_z w64 c.args.mq) ≡ c.args.mq = search rules in
+    let s = told_ok _ _ _ c.in_ok-quantity.ensures in
+    let t = told_ok _ _ _ c.in_ok-quantity-2.ensures in
+    let u = told_ok _ _ _ c.in_ok-quantity-3.ensures in
+    rw (c.split.ensures, s.1, t.1, u.1, x, y, z, rw x at s.0, rw y at t.0, rw z at u.0)

@@ -1,8 +1,0 @@
--- `outcome_of` meets its contract by cases.
-use Rattle.files.proofs.rows.outcome_of.Goals as goal
-
-pub returns-in-Accepted : goal.returns-in-Accepted
-returns-in-Accepted c = rw c.in-Accepted.is
-
-pub returns-in-Refused : goal.returns-in-Refused
-returns-in-Refused c = rw c.in-Refused.is
