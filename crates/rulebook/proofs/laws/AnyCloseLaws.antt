@@ -21,7 +21,7 @@ use Rattle.rulebook.proofs.laws.FitsLaws.{row_same}
 use Rattle.rulebook.proofs.laws.FormLaws.{Fit, ring-pos, well_formed_lem}
 use Rattle.rulebook.proofs.laws.FormedLaws.{formed-holds, formed-fit, opened_of, next_of}
 use Rattle.rulebook.proofs.laws.BookSizeLaws.{close-amount}
-use Rattle.rulebook.proofs.laws.CloseLaws.{day-held}
+use Rattle.rulebook.proofs.laws.CloseLaws.{after_close, day-held}
 use Rattle.rulebook.proofs.laws.SearchLaws.{needed-there}
 
 -- the words of a book, and zeros from day last on
@@ -38,9 +38,6 @@ module _ (w : List ℤ) (t : T (well_formed w)) (k : ℕ) (day : (terms_of w).fi
 
   abbrev old : Ledger
   old = record { closed = k; entries = before o w last; balance = λ a. word w (balance_word a); mssl = word w mssl_word }
-
-  abbrev new : Ledger
-  new = record { closed = suc k; entries = before o w last; balance = λ a. word w (balance_word a) +ℤ posted o w (o.first + k) a; mssl = word w mssl_word +ℤ posted_to_mssl o w (o.first + k) }
 
   formed : Fit o (record { closed = k; entries = entries_of o w; balance = λ a. word w (balance_word a); mssl = word w mssl_word })
   formed = subst (λ (n : ℕ). Fit o (record { closed = n; entries = entries_of o w; balance = λ a. word w (balance_word a); mssl = word w mssl_word })) closes (formed-fit w t)
@@ -73,8 +70,11 @@ module _ (w : List ℤ) (t : T (well_formed w)) (k : ℕ) (day : (terms_of w).fi
     padding = held.padding;
   }
 
+  abbrev new : Ledger
+  new = after_close o (ring-pos o (opened_of w t)) old w old-held
+
   new_held : HoldsLedger o new (day_closed o w (o.first + k))
-  new_held = day-held o (ring-pos o (opened_of w t)) k (before o w last) (λ a. word w (balance_word a)) (word w mssl_word) w old-held (λ s a i j. beyond s a last i j (omega arith))
+  new_held = day-held o (ring-pos o (opened_of w t)) old w old-held (λ s a i j. beyond s a last i j (omega arith))
 
   -- a day of the new window: of the old one, or new
   by_day : (P : Type 0) (d : ℕ) → InWindow o (suc k) d → (d < last → InWindow o k d → P) → (last ≤ d → P) → P

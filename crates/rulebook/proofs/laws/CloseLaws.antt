@@ -19,10 +19,9 @@ use Rattle.rulebook.specs.declared.Terms.{Terms}
 use Rattle.rulebook.specs.DayAmount.{settles_residual}
 use Rattle.rulebook.specs.Sections.{accounts_of}
 use Rattle.rulebook.specs.Layout.{stored, width, place, interval_size, slot_length, ring, base, size, slot, interval_word, slot_start, row_word, interval_words, account_words, mark_word, accounts_word, lag_word, horizon_word, first_day_word, next_day_word, mssl_word, change_day_word, balance_word, balance_padding, header_padding, InWindow}
-use Rattle.rulebook.specs.BookData.{Entries}
 use Rattle.rulebook.specs.WindowWalk.{window_slot}
 use Rattle.rulebook.specs.Close.{posted, posted_to_mssl, balances_grown_by, balances_grown, slot_blanked, day_closed}
-use Rattle.rulebook.specs.Ledger.{HoldsLedger, Padding}
+use Rattle.rulebook.specs.Ledger.{Ledger, HoldsLedger, Padding}
 use Rattle.rulebook.proofs.laws.TestLaws.{below_suc}
 use Rattle.rulebook.proofs.laws.LayoutLaws.{days-apart, interval-apart, interval-inside, row_inside, slot-inside, remainder}
 use Rattle.rulebook.proofs.laws.WordLaws.{stored-in, stored-out, length-stored}
@@ -170,7 +169,20 @@ module _ (o : Terms) where
         → word (day_closed o w D) (interval_word o t i m) ≡ word w (interval_word o t i m)
     closed-out t i m hi hm f = closed-elsewhere (interval_word o t i m) (λ x i' m' hi' hm' e. f x (interval-apart o t (slot o (D - o.lag)) hi hi' hm hm' e).0) ∙ counted-slot t i m
 
-module _ (o : Terms) (p : zero < ring o) (k : ℕ) (g : Entries) (balance : ℕ → ℤ) (m₀ : ℤ) (w : List ℤ) (h : HoldsLedger o (record { closed = k; entries = g; balance = balance; mssl = m₀ }) w) where
+-- a close of the words that hold a ledger
+module _ (o : Terms) (p : zero < ring o) (before : Ledger) (w : List ℤ) (h : HoldsLedger o before w) where
+  abbrev k : ℕ
+  k = before.closed
+
+  -- one closed day more, and each balance grown by what is posted
+  abbrev pub after_close : Ledger
+  after_close = record {
+    closed = suc k;
+    entries = before.entries;
+    balance = λ a. before.balance a +ℤ posted o w (o.first + k) a;
+    mssl = before.mssl +ℤ posted_to_mssl o w (o.first + k);
+  }
+
   residual-begun : T (settles_residual o (o.first + k)) → o.lag ≤ k
   unfolding settles_residual
   residual-begun t = let x = leb→le (o.first + o.lag) (o.first + k) t in omega arith
@@ -194,9 +206,9 @@ module _ (o : Terms) (p : zero < ring o) (k : ℕ) (g : Entries) (balance : ℕ 
   unfolding slot window_slot
   opened-early = ap (λ (x : ℕ). x % ring o) (omega arith)
 
-  module _ (unsent : (s : Section) (a i j : ℕ) → g s a (o.first + k + o.horizon) i j ≡ pos 0) where
+  module _ (unsent : (s : Section) (a i j : ℕ) → before.entries s a (o.first + k + o.horizon) i j ≡ pos 0) where
     closed-held : (s : Section) (a d i j : ℕ) → InWindow o (suc k) d → a < accounts_of s o.accounts → i < 48 → j < width s
-        → word (day_closed o w (o.first + k)) (row_word o s a d i j) ≡ g s a d i j
+        → word (day_closed o w (o.first + k)) (row_word o s a d i j) ≡ before.entries s a d i j
     unfolding row_word interval_size
     closed-held s a d i j x ha hi hj = go (below_suc {i = d} {n = o.first + k + o.horizon} (omega arith))
       where
@@ -211,7 +223,7 @@ module _ (o : Terms) (p : zero < ring o) (k : ℕ) (g : Entries) (balance : ℕ 
         fresh e (no b) = closed-out o w (o.first + k) (slot o d) i m hi hm (λ t. absurd (b (residual-begun t)))
             ∙ rw (e, opened-early) (h.early 0 i m (omega arith) hi hm)
 
-        go : (d < o.first + k + o.horizon) ⊎ (d ≡ o.first + k + o.horizon) → word (day_closed o w (o.first + k)) (interval_word o (slot o d) i m) ≡ g s a d i j
+        go : (d < o.first + k + o.horizon) ⊎ (d ≡ o.first + k + o.horizon) → word (day_closed o w (o.first + k)) (interval_word o (slot o d) i m) ≡ before.entries s a d i j
         go (inl y) =
             let z : InWindow o k d = omega arith in
             closed-out o w (o.first + k) (slot o d) i m hi hm
@@ -230,9 +242,8 @@ module _ (o : Terms) (p : zero < ring o) (k : ℕ) (g : Entries) (balance : ℕ 
         go (yes e) (no b) = out (λ x y. b (residual-begun x))
         go (no e) b = out (λ x y. e y)
 
-    -- an accepted close leaves one closed day more and each balance grown
-    pub day-held : HoldsLedger o (record { closed = suc k; entries = g; balance = λ a. balance a +ℤ posted o w (o.first + k) a; mssl = m₀ +ℤ posted_to_mssl o w (o.first + k) })
-        (day_closed o w (o.first + k))
+    -- what an accepted close leaves holds that
+    pub day-held : HoldsLedger o after_close (day_closed o w (o.first + k))
     unfolding base
     day-held = record {
       long = omega (arith, closed-length o w D, h.long);

@@ -23,8 +23,8 @@ use Rattle.rulebook.specs.File.{Row}
 use Rattle.rulebook.specs.Close.{first_missing, settled, closed, posted, posted_to_mssl, residual_count, day_closed, Closing, closed_by}
 use Rattle.rulebook.specs.Numbers.{of_close}
 use Rattle.rulebook.specs.History.{latest, close, Event, closes, in_force, accepted_rows, last_for, formula_balance, formula_amount, residual_counts, closing_day, data_in_force}
-use Rattle.rulebook.specs.Demand3.{vesting_of, meter_of, Missing}
-use Rattle.rulebook.specs.Ledger.{entries_in, entry_of, State}
+use Rattle.rulebook.specs.Demand3.{vesting_of, meter_of}
+use Rattle.rulebook.specs.Ledger.{entries_in, entry_of, ledger_after, State}
 use Rattle.rulebook.proofs.laws.AmountLaws.{Agree, posted-same}
 use Rattle.rulebook.proofs.laws.RowWordLaws.{flag-inside}
 use Rattle.rulebook.proofs.laws.LedgerLaws.{held_same}
@@ -52,16 +52,15 @@ module _ (o : Terms) (t : InTerms o) (past : List Event) (w : List ℤ) (h : Sta
       → State o (record { call = close st; answer = of_close (Err (DatumMissing n)) } ∷ past) w
   unfolding closes in_force accepted_rows formula_balance residual_counts latest last_for
   missed st n left room e =
-      let m = some_missing o t (closes past) (in_force past) (formula_balance o past) (neg_ℤ (sum_ℤ o.accounts (formula_balance o past))) w h.holds h.kept n e in
-      let lacking : Missing o past = record { section = m.section; account = m.account; day = m.day; needed = m.needed; absent = m.absent } in
-      unchanged o past w h _ refl refl refl (add-zero (residual_counts past)) (λ y. record { day_left = left; room = room; missing = lacking }, λ y. refl)
+      let m = some_missing o t past w h n e in
+      unchanged o past w h _ refl refl refl (add-zero (residual_counts past)) (λ y. record { day_left = left; room = room; missing = m }, λ y. refl)
 
   -- accepted
   now : InWindow o (closes past) (closing_day o past)
-  now = today o t (closes past) (in_force past) (formula_balance o past) (neg_ℤ (sum_ℤ o.accounts (formula_balance o past))) w h.holds h.kept
+  now = today o t past w h
 
   then : T (settles_residual o (closing_day o past)) → InWindow o (closes past) (residual_day o (closing_day o past))
-  then = back o t (closes past) (in_force past) (formula_balance o past) (neg_ℤ (sum_ℤ o.accounts (formula_balance o past))) w h.holds h.kept
+  then = back o t past w h
 
   ranged : (d : ℕ) → RangedEntries o.accounts (entries_in (in_force past)) d
   ranged = rows-ranged o (closes past) (in_force past) (formula_balance o past) h.kept
@@ -123,10 +122,10 @@ module _ (o : Terms) (t : InTerms o) (past : List Event) (w : List ℤ) (h : Sta
       → State o (record { call = close st; answer = of_close (settled o w (closing_day o past) st None).answer } ∷ past) (day_closed o w (closing_day o past))
   unfolding closes in_force accepted_rows formula_balance residual_counts latest last_for settled
   accepted-close st left e =
-      let all = all_there_lem o t (closes past) (in_force past) (formula_balance o past) (neg_ℤ (sum_ℤ o.accounts (formula_balance o past))) w h.holds h.kept e in
+      let all = all_there_lem o t past w h e in
       record {
         holds = held_same refl (λ s a d i j. refl) (λ a ha. ap (λ (x : ℤ). formula_balance o past a +ℤ x) (amount-same a ha)) mssl-grown
-            (day-held o (ring-pos o t) (closes past) (entries_in (in_force past)) (formula_balance o past) (neg_ℤ (sum_ℤ o.accounts (formula_balance o past))) w h.holds
+            (day-held o (ring-pos o t) (ledger_after o past) w h.holds
             (λ s a i j. ap (λ (x : Option Row). entry_of x i j) (unsent s a)));
         kept = day-kept o (closes past) (in_force past) (formula_balance o past) (formula_amount o past) h.kept left
             (λ a ha. all Vesting a (closing_day o past) (vesting_of ha)) (λ a ha. all Meter a (closing_day o past) (meter_of ha)) amount-size;

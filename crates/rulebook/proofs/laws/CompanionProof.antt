@@ -66,7 +66,7 @@ module _ (o : Terms) (t : InTerms o) (past : List Event) (w : List ℤ) (h : Sta
   -- ---- close
   lacking-is : first_missing o w (closing_day o past) ≡ first_lacking o past
   unfolding first_lacking
-  lacking-is = search_is o t (closes past) (in_force past) (formula_balance o past) (neg_ℤ (sum_ℤ o.accounts (formula_balance o past))) w h.holds h.kept
+  lacking-is = search_is o t past w h
 
   abbrev Tells : List ℤ → Closing → Type 0
   Tells st r = CloseTells o past w st (of_close r.answer) r.words r.statement

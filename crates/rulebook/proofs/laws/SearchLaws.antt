@@ -19,10 +19,10 @@ use Rattle.rulebook.specs.Layout.{flag_index, flag_word, InWindow}
 use Rattle.rulebook.specs.WellFormed.{is_zero}
 use Rattle.rulebook.specs.File.{Row}
 use Rattle.rulebook.specs.Close.{absent_at, residuals_searched, searched, needed_day, absent_flag, missing_at, first_missing}
-use Rattle.rulebook.specs.History.{RowsInForce}
-use Rattle.rulebook.specs.Demand3.{Needed, vesting_of, meter_of, ncc_of, residual_of}
+use Rattle.rulebook.specs.History.{Event, closes, closing_day, RowsInForce, in_force}
+use Rattle.rulebook.specs.Demand3.{Needed, vesting_of, meter_of, ncc_of, residual_of, Missing}
 use Rattle.rulebook.specs.Companion.{flag_lacking}
-use Rattle.rulebook.specs.Ledger.{entries_in, entry_of, HoldsLedger, Kept}
+use Rattle.rulebook.specs.Ledger.{entry_of, State}
 use Rattle.rulebook.proofs.laws.TestLaws.{T-path, not_path}
 use Rattle.rulebook.proofs.laws.RowWordLaws.{flag-inside}
 use Rattle.rulebook.proofs.laws.KeptLaws.{none_or, flag-more, nonzero}
@@ -150,71 +150,67 @@ lack_none : (x : Option Row) (n v : ℕ) → flag_lacking x n ≡ Some v → x �
 lack_none None n v e = refl
 lack_none (Some r) n v e = nothing-at refl e
 
-module _ (o : Terms) (t : InTerms o) (k : ℕ) (rows : RowsInForce) (balance : ℕ → ℤ) (m₀ : ℤ) (w : List ℤ) (h : HoldsLedger o (record { closed = k; entries = entries_in rows; balance = balance; mssl = m₀ }) w) (q : Kept o k rows balance) where
-  pub today : InWindow o k (o.first + k)
+-- after a history, in whose state the book is
+module _ (o : Terms) (t : InTerms o) (past : List Event) (w : List ℤ) (h : State o past w) where
+  abbrev rows : RowsInForce
+  rows = in_force past
+
+  pub today : InWindow o (closes past) (closing_day o past)
   today = omega arith
 
-  pub back : T (settles_residual o (o.first + k)) → InWindow o k (o.first + k - o.lag)
+  pub back : T (settles_residual o (closing_day o past)) → InWindow o (closes past) (closing_day o past - o.lag)
   unfolding settles_residual
-  back x = let y = leb→le (o.first + o.lag) (o.first + k) x in omega arith
+  back x = let y = leb→le (o.first + o.lag) (closing_day o past) x in omega arith
 
   -- a row that is needed has a day of the window
-  needed-open : {s : Section} {a d : ℕ} → Needed o (o.first + k) s a d → InWindow o k d × (a < accounts_of s o.accounts)
+  needed-open : {s : Section} {a d : ℕ} → Needed o (closing_day o past) s a d → InWindow o (closes past) d × (a < accounts_of s o.accounts)
   needed-open (vesting_of l) = (today, l)
   needed-open (meter_of l) = (today, l)
   needed-open (ncc_of x) = (back x, omega arith)
   needed-open (residual_of x l) = (back x, l)
 
   -- its flag is zero exactly if it is not in force
-  flag_is : (s : Section) (a d i : ℕ) → Needed o (o.first + k) s a d → i < 48 → absent_at w (flag_word o s a d i) ≡ flag_lacking (rows s a d) (flag_word o s a d i)
+  flag_is : (s : Section) (a d i : ℕ) → Needed o (closing_day o past) s a d → i < 48 → absent_at w (flag_word o s a d i) ≡ flag_lacking (rows s a d) (flag_word o s a d i)
   flag_is s a d i n hi = go (none_or (rows s a d))
     where
       held : word w (flag_word o s a d i) ≡ entry_of (rows s a d) i (flag_index s)
-      held = h.held s a d i (flag_index s) (needed-open n).0 (needed-open n).1 hi (flag-inside s)
+      held = h.holds.held s a d i (flag_index s) (needed-open n).0 (needed-open n).1 hi (flag-inside s)
 
       go : (rows s a d ≡ None) ⊎ ((r : Row) × (rows s a d ≡ Some r)) → absent_at w (flag_word o s a d i) ≡ flag_lacking (rows s a d) (flag_word o s a d i)
       go (inl x) = absent-here w (flag_word o s a d i) (T-path _ (zero-yes (held ∙ ap (λ (y : Option Row). entry_of y i (flag_index s)) x)))
           ∙ ap (λ (y : Option Row). flag_lacking y (flag_word o s a d i)) (sym x)
       go (inr x) = absent-not w (flag_word o s a d i)
-          (not_path _ (nonzero (held ∙ ap (λ (y : Option Row). entry_of y i (flag_index s)) x.1 ∙ (flag-more s i x.0 (q.section s a d x.0 x.1) (q.ranged s a d x.0 x.1)).1)))
+          (not_path _ (nonzero (held ∙ ap (λ (y : Option Row). entry_of y i (flag_index s)) x.1 ∙ (flag-more s i x.0 (h.kept.section s a d x.0 x.1) (h.kept.ranged s a d x.0 x.1)).1)))
           ∙ ap (λ (y : Option Row). flag_lacking y (flag_word o s a d i)) (sym x.1)
 
   -- what is found at a row in interval i, and by the search
   abbrev lacking_in : ℕ → Section → ℕ → Option ℕ
-  lacking_in i s a = flag_lacking (rows s a (needed_day o (o.first + k) s)) (flag_word o s a (needed_day o (o.first + k) s) i)
+  lacking_in i s a = flag_lacking (rows s a (needed_day o (closing_day o past) s)) (flag_word o s a (needed_day o (closing_day o past) s) i)
 
   abbrev lacking_at : ℕ → Option ℕ
-  lacking_at i = searched o.accounts (settles_residual o (o.first + k)) (lacking_in i)
+  lacking_at i = searched o.accounts (settles_residual o (closing_day o past)) (lacking_in i)
 
-  missing-is : (i : ℕ) → i < 48 → missing_at o w (o.first + k) i ≡ lacking_at i
+  missing-is : (i : ℕ) → i < 48 → missing_at o w (closing_day o past) i ≡ lacking_at i
   unfolding missing_at
-  missing-is i hi = searched-cong o (o.first + k) (absent_flag o w (o.first + k) i) (lacking_in i) (λ s a n. flag_is s a (needed_day o (o.first + k) s) i n hi)
+  missing-is i hi = searched-cong o (closing_day o past) (absent_flag o w (closing_day o past) i) (lacking_in i) (λ s a n. flag_is s a (needed_day o (closing_day o past) s) i n hi)
 
   -- a row has all its intervals, so nothing is missing where interval 0 misses nothing
   lacking-any : lacking_at 0 ≡ None → (i : ℕ) → lacking_at i ≡ None
-  lacking-any e i = nothing-searched o (o.first + k) (lacking_in i)
-      (λ s a n. lack_any (rows s a (needed_day o (o.first + k) s)) _ _ (searched-nothing o (o.first + k) (lacking_in 0) e s a (needed_day o (o.first + k) s) n))
+  lacking-any e i = nothing-searched o (closing_day o past) (lacking_in i)
+      (λ s a n. lack_any (rows s a (needed_day o (closing_day o past) s)) _ _ (searched-nothing o (closing_day o past) (lacking_in 0) e s a (needed_day o (closing_day o past) s) n))
 
   -- the search told from the rows
-  pub search_is : first_missing o w (o.first + k) ≡ lacking_at 0
+  pub search_is : first_missing o w (closing_day o past) ≡ lacking_at 0
   unfolding first_missing
-  search_is = first_cong 48 (missing_at o w (o.first + k)) lacking_at missing-is ∙ first-front 47 lacking_at (λ e i l. lacking-any e i)
+  search_is = first_cong 48 (missing_at o w (closing_day o past)) lacking_at missing-is ∙ first-front 47 lacking_at (λ e i l. lacking-any e i)
 
   -- nothing missing: each row that is needed is there
-  pub all_there_lem : first_missing o w (o.first + k) ≡ None → (s : Section) (a d : ℕ) → Needed o (o.first + k) s a d → rows s a d ≢ None
-  all_there_lem e s a d n = subst (λ (d : ℕ). rows s a d ≢ None) (needed-day o (o.first + k) n)
-      (lack_not (rows s a (needed_day o (o.first + k) s)) _ (searched-nothing o (o.first + k) (lacking_in 0) (sym search_is ∙ e) s a d n))
+  pub all_there_lem : first_missing o w (closing_day o past) ≡ None → (s : Section) (a d : ℕ) → Needed o (closing_day o past) s a d → rows s a d ≢ None
+  all_there_lem e s a d n = subst (λ (d : ℕ). rows s a d ≢ None) (needed-day o (closing_day o past) n)
+      (lack_not (rows s a (needed_day o (closing_day o past) s)) _ (searched-nothing o (closing_day o past) (lacking_in 0) (sym search_is ∙ e) s a d n))
 
-  -- a row that is needed and not there
-  pub record Lacking : Type 0 where
-    pub section : Section
-    pub account : ℕ
-    pub day : ℕ
-    pub needed : Needed o (o.first + k) section account day
-    pub absent : rows section account day ≡ None
-
-  pub some_missing : (v : ℕ) → first_missing o w (o.first + k) ≡ Some v → Lacking
+  pub some_missing : (v : ℕ) → first_missing o w (closing_day o past) ≡ Some v → Missing o past
   some_missing v e =
-      let f = searched-at o (o.first + k) (lacking_in 0) v (sym search_is ∙ e) in
-      let d = needed_day o (o.first + k) f.section in
+      let f = searched-at o (closing_day o past) (lacking_in 0) v (sym search_is ∙ e) in
+      let d = needed_day o (closing_day o past) f.section in
       record { section = f.section; account = f.account; day = d; needed = f.needed; absent = lack_none (rows f.section f.account d) _ v f.found }
