@@ -42,9 +42,9 @@ static void write_contracts(uint32_t day)
     /* account 0: 400 kWh at 15,000 cents per MWh under its base contract, no tender contract */
     put(0, 1), put(day, 2), put(0, 1);
     put_all_day((int32_t[]){400, 15000}, 2);
-    /* account 1: no base contract; 100 kWh at 9,000 cents per MWh under one tender contract */
+    /* account 1: no base contract; 100 kWh at 9,001 cents per MWh under one tender contract */
     put(1, 1), put(day, 2), put(1, 1);
-    put_all_day((int32_t[]){0, 0, 100, 9000}, 4);
+    put_all_day((int32_t[]){0, 0, 100, 9001}, 4);
     put(2, 2); /* section 2: two meter rows */
     /* one facility each, paid 10,000 cents per MWh for what it injected: V is 10,000 */
     for (uint32_t account = 0; account < ACCOUNTS; account++) {
@@ -114,6 +114,7 @@ static void print_close(const char *what, robijan_answer answer, const int64_t *
     for (int account = 0; account < ACCOUNTS; account++)
         printf("  account %d: %" PRId64 " cents\n", account, statement[account]);
     printf("  MSSL: %" PRId64 " cents\n", statement[ACCOUNTS]);
+    printf("  rounding difference: %" PRId64 " thousandths\n", answer.difference);
 }
 
 static void print_balances(const int64_t *book)
@@ -122,6 +123,7 @@ static void print_balances(const int64_t *book)
     for (int account = 0; account < ACCOUNTS; account++)
         printf(" %" PRId64, book[ROBIJAN_WORD_BALANCE(account)]);
     printf(", MSSL %" PRId64 "\n", book[ROBIJAN_WORD_MSSL_BALANCE]);
+    printf("  rounding differences so far: %" PRId64 " thousandths\n", book[ROBIJAN_WORD_DIFFERENCES]);
 }
 
 /* The statement for a ledger that takes packed decimal, a field an amount, and read back from there. */
@@ -180,8 +182,9 @@ int main(int count, char **arguments)
     print_date("opened, first day", first);
     print_date("residual data of January are due", robijan_residual_due(2026, 1, no_holidays, 0).day);
 
-    /* 75 days with contracts and meter data alone: from (15,000 - 10,000) x 400 thousandths of a cent an interval, account 0 gets 2,000
-     * cents, account 1 pays 100. */
+    /* 75 days with contracts and meter data alone. An interval is (15,000 - 10,000) x 400 thousandths of a cent to account 0, 2,000 cents, and
+     * (9,001 - 10,000) x 100 to account 1, -99.9 cents. The day's 48 are 96,000 and -4,795.2, posted as 96,000 and -4,795; the MSSL is posted
+     * -91,205 for -91,204.8, a rounding difference of -200 thousandths a day. */
     for (uint32_t day = first; day < first + LAG; day++) {
         write_contracts(day);
         if (robijan_submit(book, size.words, file, length).number != ROBIJAN_ACCEPTED)
@@ -202,7 +205,8 @@ int main(int count, char **arguments)
     print_close("closed", robijan_close(book, size.words, statement, ACCOUNTS + 1), book, statement);
 
     /* With them, account 0 gets (12,000 - 10,000) x 20 + (11,000 - 10,000) x 30 thousandths an interval more, 70 cents; account 1
-     * (11,500 - 10,000) x 100, 150 cents. A look ahead is a close on a copy. */
+     * (11,500 - 10,000) x 100, 150 cents. The day is 96,000 + 3,360 cents to account 0 and -4,795.2 + 7,200 = 2,404.8 to account 1, posted as
+     * 2,405; the MSSL is posted -101,765 for -101,764.8, -200 thousandths again. A look ahead is a close on a copy. */
     write_residuals(first);
     if (robijan_submit(book, size.words, file, length).number != ROBIJAN_ACCEPTED)
         return 1;

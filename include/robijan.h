@@ -14,7 +14,8 @@
  * kWh. Those of an earlier day before `change`, or of every day where `change` is 0, are rounded down (the first edition); those of an earlier day from
  * `change` on use every kWh (the second). What counts is the earlier day, not the day closed. The day's sum is
  * rounded once, to the nearest cent, a tie away from zero. The MSSL (the buyer for small consumers) is posted minus the sum of these amounts,
- * so that the balances of a book that only these calls have changed total zero.
+ * so that the balances of a book that only these calls have changed total zero. Its exact amount is minus the sum of the accounts' unrounded
+ * ones; a close returns the rounding difference, by which the posted one exceeds it, and the book keeps the running sum.
  *
  * UNITS
  *   day              days since 1 January 2000, 0 to 36,524 (31 December 2099); 1 January 2026 is 9,497
@@ -23,6 +24,7 @@
  *   NCC load         the load of the small consumers of an interval, whole kWh, 0 to 1,000,000,000
  *   price            whole cents per MWh, -1,000,000 to 1,000,000
  *   amount, balance  whole cents; above 0 is owed to the account
+ *   difference       of rounding: whole thousandths of a cent, as kWh times price is; above 0 the MSSL is posted more than its exact amount
  *
  * MEMORY. The caller owns all memory. The library allocates none, keeps no pointer after a call returns and has no state of its own, so a
  * book may be copied, stored in a file, mapped and moved between calls. A list is a pointer and then its length in elements:
@@ -52,6 +54,10 @@
  *        then, holds it: a book opened before P2 is one whose `change` is 0, and keeps the first edition.
  *   P3   nothing that a program sees
  *   P4   robijan_pack, robijan_unpack, number 16
+ *   P5   robijan_answer has a fifth field, `difference`: every program that calls robijan_open, robijan_submit or robijan_close is compiled again.
+ *        The struct is returned through memory, now as before: in a program that is not, each of these calls writes 8 bytes beyond its answer.
+ *        Word 8 of a book, zero until then, holds the sum of the differences: a book opened and closed before P5 has 0 there and is well formed,
+ *        but its sum counts only from the next close on.
  */
 #ifndef ROBIJAN_H
 #define ROBIJAN_H
@@ -83,7 +89,8 @@ enum {
     ROBIJAN_PACKED_FIELD_WRONG = 16  /* a digit or the sign in byte `position` of packed fields is wrong, or the last field, from there on, is cut */
 };
 
-typedef struct { uint64_t number, position, day, count; } robijan_answer; /* open, submit, close; day and count 0 but for a close */
+/* open, submit, close; day, count and difference 0 but for a close */
+typedef struct { uint64_t number, position, day, count; int64_t difference; } robijan_answer;
 typedef struct { uint64_t number, words; } robijan_size_answer;
 typedef struct { uint64_t number; int64_t price; } robijan_price_answer;
 typedef struct { uint64_t number; int64_t first, second; } robijan_tranche_answer;
@@ -108,14 +115,16 @@ typedef struct {
 /* A book takes 64 + 8 * accounts + 48 * (lag + horizon) * (4 + 24 * accounts) words: 5,072 for 2 accounts, lag 1 and horizon 1, and
  * 6,188,672 (49.5 MB) for the largest. More words may be lent; those beyond are neither read nor written. All words may be read at any time;
  * they are the library's to write. A book that another hand has changed is refused only where its form shows it: ranges, zeros, rows of
- * closed days, bounds of balances. A price, a balance or the change day changed within its range is not noticed.
+ * closed days, bounds of balances and of the differences' sum. A price, a balance, that sum or the change day changed within its range is not
+ * noticed.
  *
  * LAYOUT, by index:
  *   0        395
  *   1 to 4   accounts, lag, horizon, first
  *   5        C, the next day to close; 36,525 when all are closed
  *   6        the MSSL's balance
- *   7        change; 8 to 63 are zero
+ *   7        change
+ *   8        the sum of the differences so far, at most 500 * accounts * (C - first) either way; 9 to 63 are zero
  *   ROBIJAN_WORD_BALANCE(account)   the account's balance; seven zeros follow
  *   from 64 + 8 * accounts on       lag + horizon slots of 48 intervals each; day d has slot (d - first) mod (lag + horizon)
  * An interval has ROBIJAN_INTERVAL_WORDS(accounts) words: the NCC load, its flag, two zeros, then 24 words an account:
@@ -129,6 +138,7 @@ enum {
     ROBIJAN_WORD_NEXT_DAY = 5,
     ROBIJAN_WORD_MSSL_BALANCE = 6,
     ROBIJAN_WORD_CHANGE = 7,
+    ROBIJAN_WORD_DIFFERENCES = 8,
     ROBIJAN_INTERVAL_NCC_FLAG = 1,   /* in an interval */
     ROBIJAN_INTERVAL_ACCOUNTS = 4,
     ROBIJAN_ACCOUNT_WORDS = 24,      /* of an account in an interval */
@@ -166,7 +176,8 @@ robijan_answer robijan_submit(int64_t *book, size_t book_words, const uint8_t *f
 /* Closes the next day. Needed are every account's vesting and meter row of that day and, from day first + lag on, the NCC row and every
  * account's residual row of the day `lag` days earlier. Accepted, it writes accounts + 1 amounts to the statement, the MSSL's last (words
  * beyond are kept), and adds them to the balances; `day` is the day closed, `count` how many residuals (account and interval) were settled.
- * Refused: 3, 9, 10, 11. */
+ * `difference` is by how many thousandths of a cent 1,000 times the MSSL's posted cents exceed its exact amount of that day, at most
+ * accounts * 500 either way; it is added to word 8. Refused: 3, 9, 10, 11. */
 robijan_answer robijan_close(int64_t *book, size_t book_words, int64_t *statement, size_t statement_words);
 
 /* 0 for a well-formed book, as every accepted call leaves it; else 3. The other calls ask this themselves. */

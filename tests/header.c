@@ -102,6 +102,7 @@ static void a_closed_book(void)
     same("position of a close", 0, (int64_t)closed.position);
     same("day closed", 36524, (int64_t)closed.day);
     same("residuals settled", 0, (int64_t)closed.count);
+    same("no rounding", 0, closed.difference);
     same("account's amount", 96000, statement[0]);
     same("MSSL's amount", -96000, statement[1]);
     same("account's balance", 96000, book[ROBIJAN_WORD_BALANCE(0)]);
@@ -117,6 +118,69 @@ static void a_closed_book(void)
     longest.lag = 92;
     NUMBER(ROBIJAN_OUTSIDE_RANGE, robijan_book_size(longest).number);
     NUMBER(ROBIJAN_OUTSIDE_RANGE, robijan_book_size(terms(2, FIRST - 1)).number); /* as an opening says */
+}
+
+static uint8_t rows[2 + 388 + 2 + 388 + 2 + 771 + 2 + 194];
+static size_t length;
+
+static void put(uint64_t value, int bytes)
+{
+    for (; bytes > 0; bytes--, value >>= 8)
+        rows[length++] = (uint8_t)value;
+}
+
+/* One account's rows for a close, all zeros but for 1 kWh at this price in interval 0, V being 0; those of the day before too, if wanted. */
+static robijan_answer taken_at(uint64_t day, uint64_t price, uint64_t settles)
+{
+    length = 0;
+    put(1, 2), put(0, 1), put(day, 2), put(0, 1), put(1, 4), put(price, 4), put(0, 47 * 8); /* a vesting row */
+    put(1, 2), put(0, 1), put(day, 2), put(1, 1), put(0, 48 * 8); /* a meter row */
+    put(settles, 2);
+    if (settles)
+        put(0, 1), put(day - 1, 2), put(0, 48 * 16);
+    put(settles, 2);
+    if (settles)
+        put(day - 1, 2), put(0, 48 * 4);
+    return robijan_submit(book, SIZE, rows, length);
+}
+
+/* 499 thousandths of a cent are 0 cents, 500 are 1. */
+static void differences(void)
+{
+    NUMBER(8, ROBIJAN_WORD_DIFFERENCES);
+    NUMBER(ROBIJAN_ACCEPTED, opened(SIZE, 1, FIRST).number);
+    same("difference of an opening", 0, opened(SIZE, 1, FIRST).difference);
+    same("sum of a new book", 0, book[ROBIJAN_WORD_DIFFERENCES]);
+    NUMBER(ROBIJAN_ACCEPTED, taken_at(FIRST, 499, 0).number);
+    same("difference of a submission", 0, taken_at(FIRST, 499, 0).difference);
+    robijan_answer closed = robijan_close(book, SIZE, statement, 2);
+    NUMBER(ROBIJAN_ACCEPTED, closed.number);
+    same("difference rounded down", 499, closed.difference);
+    same("amount rounded down", 0, statement[0]);
+    same("sum after a close", 499, book[ROBIJAN_WORD_DIFFERENCES]);
+    closed = robijan_close(book, SIZE, statement, 2);
+    NUMBER(ROBIJAN_DATUM_ABSENT, closed.number);
+    same("difference of a refused close", 0, closed.difference);
+    same("sum after a refused close", 499, book[ROBIJAN_WORD_DIFFERENCES]);
+
+    NUMBER(ROBIJAN_ACCEPTED, taken_at(FIRST + 1, 500, 1).number);
+    closed = robijan_close(book, SIZE, statement, 2);
+    NUMBER(ROBIJAN_ACCEPTED, closed.number);
+    same("position of the second close", 0, (int64_t)closed.position);
+    same("second day closed", FIRST + 1, (int64_t)closed.day);
+    same("residuals of the second close", 48, (int64_t)closed.count);
+    same("difference rounded up", -500, closed.difference);
+    same("amount rounded up", 1, statement[0]);
+    same("MSSL's amount rounded", -1, statement[1]);
+    same("sum after both", -1, book[ROBIJAN_WORD_DIFFERENCES]);
+
+    /* two closes of one account: 1,000 thousandths either way */
+    for (int64_t sign = -1; sign <= 1; sign += 2) {
+        book[ROBIJAN_WORD_DIFFERENCES] = sign * 1000;
+        NUMBER(ROBIJAN_ACCEPTED, robijan_judge(book, SIZE));
+        book[ROBIJAN_WORD_DIFFERENCES] = sign * 1001;
+        NUMBER(ROBIJAN_NOT_WELL_FORMED, robijan_judge(book, SIZE));
+    }
 }
 
 /* X: 0, or 9,497 to 36,524, whole, in its word; anything else there is no book. */
@@ -281,6 +345,7 @@ int main(void)
 {
     numbers_of_a_book();
     a_closed_book();
+    differences();
     change_days();
     places();
     rules();

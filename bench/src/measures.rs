@@ -150,7 +150,7 @@ pub fn submission(name: &str, book: &[i64], rng: &mut Rng, sections: Sections) -
 /// A close that is accepted, of the same words; what it changed is restored outside the timed part.
 pub fn closing(name: &str, book: &[i64]) -> Measured {
     let (words, accounts) = (book.len(), book[1] as usize);
-    // Balances, the next day, and the slot of the day settled, which is the first one.
+    // Balances, the rounding difference, the next day, and the slot of the day settled, which is the first one.
     let changed = 64 + 8 * accounts + 48 * (4 + 24 * accounts);
     let (lent, copy) = (RefCell::new(book.to_vec()), RefCell::new(vec![0; words]));
     let restored = || {

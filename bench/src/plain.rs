@@ -8,7 +8,7 @@ pub fn well_formed(book: &[i64]) -> bool {
     let Some(header) = book.first_chunk::<HEADER_WORDS>() else {
         return false;
     };
-    let [mark, accounts, lag, horizon, first, next, mssl, change, spares @ ..] = header;
+    let [mark, accounts, lag, horizon, first, next, mssl, change, difference, spares @ ..] = header;
     let fits = *mark == 395
         && (1..=32).contains(accounts)
         && (1..=75).contains(lag)
@@ -28,7 +28,8 @@ pub fn well_formed(book: &[i64]) -> bool {
     let Some(book) = book.get(..base + slots as usize * slot_words) else {
         return false;
     };
-    if mssl.abs_diff(0) > (bound * accounts) as u64 {
+    let left = 500 * accounts * (next - first);
+    if mssl.abs_diff(0) > (bound * accounts) as u64 || difference.abs_diff(0) > left as u64 {
         return false;
     }
     for account in book[HEADER_WORDS..base].chunks_exact(8) {

@@ -3,11 +3,12 @@
 use crate::edition::NEVER;
 use crate::layout::{
     Layout, ACCOUNT_WORDS, CHANGE_DAY, ENTRY_WORDS, HEADER_WORDS, METER_FLAG, MSSL_BALANCE,
-    NCC_FLAG, NCC_VALUE, NCC_WORDS, NEXT_DAY, RESIDUAL_FLAG, VESTING_FLAG,
+    NCC_FLAG, NCC_VALUE, NCC_WORDS, NEXT_DAY, RESIDUAL_FLAG, ROUNDING_DIFFERENCE, VESTING_FLAG,
 };
 use crate::numbers::{Answer, BAD_PARAMETER, TOO_FEW_WORDS};
 use crate::units::{IEQ, LAST_DAY, MOST_ACCOUNTS, NCC_LOAD, PRICE, QUANTITY};
 use crate::variant::{Context, Variant};
+use crate::wrong_difference::{difference_meets, word_opened};
 use crate::wrong_edition::{change_day_meets, change_day_opened};
 use std::ops::RangeInclusive;
 
@@ -91,6 +92,7 @@ pub fn open_in(context: Context, book: &mut [i64], opening: Opening) -> Answer {
     let Some(change_day) = change_day else {
         return Answer::at(BAD_PARAMETER, 0);
     };
+    let difference = word_opened(context, book[ROUNDING_DIFFERENCE]);
     book.fill(0);
     let Opening {
         accounts,
@@ -103,6 +105,7 @@ pub fn open_in(context: Context, book: &mut [i64], opening: Opening) -> Answer {
     book[0] = MAGIC;
     book[1..=NEXT_DAY].copy_from_slice(&header);
     book[CHANGE_DAY] = change_day as i64;
+    book[ROUNDING_DIFFERENCE] = difference;
     Answer::ACCEPTED
 }
 
@@ -139,6 +142,11 @@ impl Header {
     /// The next day to close, C.
     pub fn next_day(&self) -> i64 {
         self.next_day
+    }
+
+    /// How many days are closed, C − F.
+    pub(crate) fn closed_days(&self) -> i64 {
+        self.next_day - self.first_day()
     }
 
     /// The day r that the next close settles residuals of, if the book has it.
@@ -180,13 +188,14 @@ pub(crate) fn judge_in(context: Context, book: &[i64]) -> Option<Header> {
     let book = book.get(..layout.size())?;
     let (before, slots) = book.split_at(layout.first_interval_at());
 
-    let bound = (header.next_day - header.first_day()) * DAY_BOUND;
+    let bound = header.closed_days() * DAY_BOUND;
     let accounts_meet = before[HEADER_WORDS..]
         .chunks_exact(ACCOUNT_WORDS)
         .all(|words| (-bound..=bound).contains(&words[0]) && blank(&words[1..]));
     let mssl_bound = bound * layout.accounts() as i64;
     let mssl_meets = (-mssl_bound..=mssl_bound).contains(&before[MSSL_BALANCE]);
-    if !accounts_meet || !mssl_meets {
+    let difference_meets = difference_meets(context, &header, before[ROUNDING_DIFFERENCE]);
+    if !accounts_meet || !mssl_meets || !difference_meets {
         return None;
     }
 
@@ -202,12 +211,12 @@ pub(crate) fn judge_in(context: Context, book: &[i64]) -> Option<Header> {
     slots_meet.then_some(header)
 }
 
-/// The header, if it meets its rules but for the balance.
+/// The header, if it meets its rules but for the balance and the rounding
+/// difference.
 pub(crate) fn read_header(context: Context, book: &[i64]) -> Option<Header> {
     let header: &[i64; HEADER_WORDS] = book.first_chunk()?;
-    let [magic, accounts, lag, horizon, first_day, next_day, _balance, change_day, zeros @ ..] =
-        header;
-    let unjudged = usize::from(context.is(Variant::Word8Unjudged));
+    let [magic, accounts, lag, horizon, first_day, next_day, _, change_day, _, zeros @ ..] = header;
+    let unjudged = usize::from(context.is(Variant::Word9Unjudged));
     let opening = Opening {
         accounts: u64::try_from(*accounts).ok()?,
         lag: u64::try_from(*lag).ok()?,

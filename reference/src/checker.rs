@@ -21,6 +21,9 @@ pub struct Report {
     pub residual_closes: u64,
     /// Those of them in the second edition.
     pub second_closes: u64,
+    /// Accepted closes of a difference above zero, and below it.
+    pub raising: u64,
+    pub lowering: u64,
     pub finished: bool,
     pub ties: Ties,
 }
@@ -41,6 +44,8 @@ pub fn run(context: Context, list: &List) -> Report {
         numbers: [0; 15],
         residual_closes: 0,
         second_closes: 0,
+        raising: 0,
+        lowering: 0,
         finished: false,
         ties: Ties::default(),
     };
@@ -74,7 +79,9 @@ pub fn run(context: Context, list: &List) -> Report {
                 report
                     .outputs
                     .extend([answer.number.into(), answer.position as i64]);
-                report.outputs.extend([answer.day, answer.residual_count]);
+                report
+                    .outputs
+                    .extend([answer.day, answer.residual_count, answer.difference]);
                 report.outputs.extend(&statement);
                 report.expect(answer == expected, Breach::Answer);
                 if answer.number == ACCEPTED {
@@ -84,6 +91,8 @@ pub fn run(context: Context, list: &List) -> Report {
                     report.residual_closes += u64::from(answer.residual_count > 0);
                     let second = history.residual_edition() == Some(Edition::Second);
                     report.second_closes += u64::from(second);
+                    report.raising += u64::from(answer.difference > 0);
+                    report.lowering += u64::from(answer.difference < 0);
                 } else {
                     report.expect(statement == blank, Breach::RefusalChanged);
                 }

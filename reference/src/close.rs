@@ -3,13 +3,14 @@
 use crate::book::{judge, judge_in, Header};
 use crate::day_amount::{residual_amount, vesting_amount, DayTotal};
 use crate::edition::Edition;
-use crate::layout::{Interval, CHANGE_DAY, MSSL_BALANCE, NEXT_DAY};
-use crate::numbers::{Answer, DATUM_ABSENT, FINISHED, NOT_WELL_FORMED, OUTPUT_TOO_SHORT};
+use crate::layout::{Interval, CHANGE_DAY, MSSL_BALANCE, NEXT_DAY, ROUNDING_DIFFERENCE};
+use crate::numbers::{Answer, ACCEPTED, DATUM_ABSENT, FINISHED, NOT_WELL_FORMED, OUTPUT_TOO_SHORT};
 use crate::report::HedgeReport;
 use crate::share::write_shares;
 use crate::units::{INTERVALS, LAST_DAY, MOST_ACCOUNTS};
 use crate::variant::{Context, Variant};
-use crate::wrong_edition::{close_context, edition_in};
+use crate::wrong_difference::{difference_in, refused_in, told_in, word_in};
+use crate::wrong_edition::{close_context, edition_in, judges_late};
 use crate::wrong_report::WrongReport;
 use crate::wrong_share::WrongShares;
 
@@ -20,6 +21,13 @@ pub fn close(book: &mut [i64], statement: &mut [i64]) -> Answer {
 }
 
 pub fn close_in(context: Context, book: &mut [i64], statement: &mut [i64]) -> Answer {
+    match judged_close(context, book, statement) {
+        accepted if accepted.number == ACCEPTED => accepted,
+        refused => refused_in(context, book, refused),
+    }
+}
+
+fn judged_close(context: Context, book: &mut [i64], statement: &mut [i64]) -> Answer {
     let Some(header) = judge_in(close_context(context), book) else {
         return Answer::at(NOT_WELL_FORMED, 0);
     };
@@ -34,7 +42,7 @@ pub fn close_in(context: Context, book: &mut [i64], statement: &mut [i64]) -> An
     let Some(statement) = statement.get_mut(..=accounts) else {
         return Answer::at(OUTPUT_TOO_SHORT, 0);
     };
-    if context.is(Variant::WordJudgedAfterStatement) && judge(book).is_none() {
+    if judges_late(context) && judge(book).is_none() {
         return Answer::at(NOT_WELL_FORMED, 0);
     }
     if context.is(Variant::SaysAbsentUnsearched) {
@@ -44,16 +52,20 @@ pub fn close_in(context: Context, book: &mut [i64], statement: &mut [i64]) -> An
         return Answer::at(DATUM_ABSENT, flag);
     }
 
-    let (stated, posted) = stated_and_posted(context, book, &header);
-    let (stated, posted) = (&stated[..accounts], &posted[..accounts]);
+    let (stated, totals) = stated_and_totals(context, book, &header);
+    let (stated, totals) = (&stated[..accounts], &totals[..accounts]);
+    let posted = totals.iter().map(|total| total.cents());
+    let difference = difference_in(context, book, &header, totals);
     if !(context.is(Variant::OneStatementForAllDays) && day > header.first_day()) {
         statement[..accounts].copy_from_slice(stated);
         statement[accounts] = -stated.iter().sum::<i64>();
     }
-    for (account, amount) in posted.iter().enumerate() {
+    for (account, amount) in posted.clone().enumerate() {
         book[layout.balance_at(account)] += amount;
     }
-    book[MSSL_BALANCE] -= posted.iter().sum::<i64>();
+    book[MSSL_BALANCE] -= posted.sum::<i64>();
+    let before = book[ROUNDING_DIFFERENCE];
+    book[ROUNDING_DIFFERENCE] = word_in(context, before, difference);
     book[NEXT_DAY] += 1;
     if context.is(Variant::CloseForgetsChangeDay) {
         book[CHANGE_DAY] = 0;
@@ -65,11 +77,12 @@ pub fn close_in(context: Context, book: &mut [i64], statement: &mut [i64]) -> An
     }
     let settles = residual_day.is_some() || context.is(Variant::InventsResidualCount);
     let residuals = if settles { INTERVALS * accounts } else { 0 };
-    Answer::closed(day, residuals as i64)
+    let told = told_in(context, before, difference);
+    Answer::closed(day, residuals as i64, told)
 }
 
 /// The first flag that is zero among those the close needs, in search order.
-fn first_absent(book: &[i64], header: &Header) -> Option<usize> {
+pub(crate) fn first_absent(book: &[i64], header: &Header) -> Option<usize> {
     let layout = header.layout();
     'search: {
         for interval in 0..INTERVALS {
@@ -101,26 +114,31 @@ fn first_absent(book: &[i64], header: &Header) -> Option<usize> {
     }
 }
 
-/// The amounts of the statement and of the balances, which a slip alone tells
-/// apart.
-fn stated_and_posted(
+/// The statement's amounts, and the totals that the balances and word 8 grow by; a
+/// slip alone tells them apart.
+fn stated_and_totals(
     context: Context,
     book: &[i64],
     header: &Header,
-) -> ([i64; MOST_ACCOUNTS], [i64; MOST_ACCOUNTS]) {
-    let posted = amounts(context, book, header);
-    let in_first_edition = || amounts(Context::of(Variant::SecondNeverUsed), book, header);
-    match context.variant {
-        Variant::StatementInFirstEdition => (in_first_edition(), posted),
-        Variant::BalancesInFirstEdition => (posted, in_first_edition()),
-        _ => (posted, posted),
-    }
+) -> ([i64; MOST_ACCOUNTS], [DayTotal; MOST_ACCOUNTS]) {
+    let totals = day_totals(context, book, header);
+    let in_first_edition = || day_totals(Context::of(Variant::SecondNeverUsed), book, header);
+    let (stated, totals) = match context.variant {
+        Variant::StatementInFirstEdition => (in_first_edition(), totals),
+        Variant::BalancesInFirstEdition => (totals, in_first_edition()),
+        _ => (totals, totals),
+    };
+    (stated.map(DayTotal::cents), totals)
 }
 
-/// Each account's posted amount; accounts the book has not stay zero.
-fn amounts(context: Context, book: &[i64], header: &Header) -> [i64; MOST_ACCOUNTS] {
+/// Each account's total; those of accounts the book has not stay zero.
+pub(crate) fn day_totals(
+    context: Context,
+    book: &[i64],
+    header: &Header,
+) -> [DayTotal; MOST_ACCOUNTS] {
     if context.is(Variant::PostsZerosAfterFirstDay) && header.next_day() > header.first_day() {
-        return [0; MOST_ACCOUNTS];
+        return [DayTotal::default(); MOST_ACCOUNTS];
     }
     let layout = header.layout();
     let mut sharing = Sharing::of(context, header);
@@ -141,7 +159,7 @@ fn amounts(context: Context, book: &[i64], header: &Header) -> [i64; MOST_ACCOUN
             total.absorb(context, vesting + residual);
         }
     }
-    totals.map(DayTotal::cents)
+    totals
 }
 
 /// How a close shares the load of day r, interval after interval.

@@ -47,8 +47,19 @@ impl DayTotal {
         };
     }
 
+    /// The exact amount.
+    pub(crate) fn thousandths(self) -> i64 {
+        self.thousandths
+    }
+
     /// The posted amount.
     pub(crate) fn cents(self) -> i64 {
         nearest(self.thousandths, THOUSANDTHS_A_CENT)
+    }
+
+    /// The exact amount less the posted one, in thousandths of a cent: at most 500
+    /// either way.
+    pub(crate) fn difference(self) -> i64 {
+        self.thousandths - 1_000 * self.cents()
     }
 }

@@ -49,6 +49,10 @@ pub enum Breach {
     Total,
     /// The residual counts do not add up.
     ResidualCount,
+    /// Word 8 is not the sum of the closed days' rounding differences.
+    Difference,
+    /// The differences that the closes returned do not add up to word 8.
+    ReturnedDifferences,
     /// A close reported a missing datum where none was missing, or the reverse.
     MissingDatum,
     /// A close was accepted with no day left or without the rows it needs;
@@ -68,10 +72,12 @@ pub enum Breach {
 }
 
 /// The breaches that the whole list's theorem speaks of.
-pub const LIST_BREACHES: [Breach; 4] = [
+pub const LIST_BREACHES: [Breach; 6] = [
     Breach::Balance,
     Breach::Total,
     Breach::ResidualCount,
+    Breach::Difference,
+    Breach::ReturnedDifferences,
     Breach::MissingDatum,
 ];
 
@@ -93,6 +99,10 @@ pub struct History {
     closes: i64,
     sums: Vec<i64>,
     residual_counts: i64,
+    /// Of the closed days, from their formula amounts.
+    difference: i64,
+    /// The sum of what the closes told.
+    returned_differences: i64,
     breaches: BTreeSet<Breach>,
     pub ties: Ties,
 }
@@ -110,6 +120,8 @@ impl History {
             closes: 0,
             sums: vec![0; opening.accounts as usize],
             residual_counts: 0,
+            difference: 0,
+            returned_differences: 0,
             breaches: BTreeSet::new(),
             ties: Ties::default(),
         }
@@ -185,8 +197,10 @@ impl History {
             Some(_) => INTERVALS * self.accounts,
             None => 0,
         };
-        let answer = Answer::closed(self.next_day(), residuals as i64);
-        let mut cents: Vec<i64> = self.day_sums().into_iter().map(to_cents).collect();
+        let sums = self.day_sums();
+        let difference = mssl_difference(&sums);
+        let answer = Answer::closed(self.next_day(), residuals as i64, difference);
+        let mut cents: Vec<i64> = sums.into_iter().map(to_cents).collect();
         cents.push(-cents.iter().sum::<i64>());
         (answer, cents)
     }
@@ -199,13 +213,16 @@ impl History {
             self.breaches.insert(Breach::MissingDatum);
         }
         self.residual_counts += answer.residual_count;
+        self.returned_differences += answer.difference;
         if answer.number != ACCEPTED {
             return;
         }
         if missing || self.finished() {
             self.breaches.insert(Breach::ClosedWithoutRows);
         } else {
-            for (account, sum) in self.day_sums().into_iter().enumerate() {
+            let sums = self.day_sums();
+            self.difference += mssl_difference(&sums);
+            for (account, sum) in sums.into_iter().enumerate() {
                 self.sums[account] += to_cents(sum);
                 self.ties.positive += u64::from(sum % 1_000 == 500);
                 self.ties.negative += u64::from(sum % 1_000 == -500);
@@ -235,6 +252,12 @@ impl History {
         if self.residual_counts != 48 * self.accounts as i64 * settled_days {
             breaches.insert(Breach::ResidualCount);
         }
+        if book[8] != self.difference {
+            breaches.insert(Breach::Difference);
+        }
+        if book[8] != self.returned_differences {
+            breaches.insert(Breach::ReturnedDifferences);
+        }
         breaches
     }
 
@@ -250,6 +273,7 @@ impl History {
         words[5] = self.next_day();
         words[6] = -self.sums.iter().sum::<i64>();
         words[7] = self.change_day;
+        words[8] = self.difference;
         for (account, sum) in self.sums.iter().enumerate() {
             words[64 + 8 * account] = *sum;
         }
@@ -376,6 +400,14 @@ impl History {
 
 fn to_cents(thousandths: i64) -> i64 {
     nearest(thousandths, THOUSANDTHS_A_CENT)
+}
+
+/// 1,000 times what the MSSL is posted for a day of these sums, less its exact
+/// amount.
+fn mssl_difference(sums: &[i64]) -> i64 {
+    let exact = -sums.iter().sum::<i64>();
+    let posted = -sums.iter().map(|&sum| to_cents(sum)).sum::<i64>();
+    1_000 * posted - exact
 }
 
 /// A file's rows as its bytes say, if it has the four sections and no more.

@@ -8,11 +8,12 @@ use crate::units::INTERVALS;
 use std::ops::Range;
 
 /// The header: what the book was opened with, the next day to close, the
-/// MSSL's balance.
+/// MSSL's balance and its rounding difference.
 pub const HEADER_WORDS: usize = 64;
 pub const NEXT_DAY: usize = 5;
 pub const MSSL_BALANCE: usize = 6;
 pub const CHANGE_DAY: usize = 7;
+pub const ROUNDING_DIFFERENCE: usize = 8;
 
 /// An account's words outside the slots: its balance, then zeros.
 pub const ACCOUNT_WORDS: usize = 8;

@@ -9,9 +9,9 @@
 //!
 //! `history` tells a list of calls from their arguments and answers alone,
 //! `generate` makes cases from a fixed seed, `checker` runs one against the
-//! other, and `variant` holds the wrong books, editions, shares, reports,
-//! calendars, profile checks, packed fields and programs which the cases have to
-//! show. `frames` and `player` are the form of the test program `replay`'s input
+//! other, and `variant` holds the wrong books, rounding differences,
+//! editions, shares, reports, calendars, profile checks, packed fields and programs
+//! which the cases have to show. `frames` and `player` are the form of the test program `replay`'s input
 //! and output, `stored` has all the cases that are kept as files.
 
 pub mod book;
@@ -19,6 +19,7 @@ pub mod calendar;
 pub mod checker;
 pub mod close;
 pub mod day_amount;
+pub mod difference;
 pub mod edition;
 pub mod frames;
 pub mod generate;
@@ -37,6 +38,7 @@ pub mod submission;
 pub mod tranche;
 pub mod units;
 pub mod variant;
+mod wrong_difference;
 mod wrong_edition;
 pub mod wrong_packed;
 pub mod wrong_profile;

@@ -35,6 +35,9 @@ pub struct Answer {
     pub day: i64,
     /// The residuals settled; 0 unless a close was accepted.
     pub residual_count: i64,
+    /// The day's rounding difference, in thousandths of a cent; 0 unless a close
+    /// was accepted.
+    pub difference: i64,
 }
 
 impl Answer {
@@ -48,14 +51,16 @@ impl Answer {
             position,
             day: 0,
             residual_count: 0,
+            difference: 0,
         }
     }
 
     /// Of an accepted close.
-    pub const fn closed(day: i64, residual_count: i64) -> Answer {
+    pub const fn closed(day: i64, residual_count: i64, difference: i64) -> Answer {
         Answer {
             day,
             residual_count,
+            difference,
             ..Answer::ACCEPTED
         }
     }

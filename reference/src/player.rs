@@ -74,7 +74,7 @@ impl Player {
                 let answer = close_in(context, book, &mut statement);
                 Line::of("close")
                     .figures([answer.number as usize, answer.position])
-                    .figures([answer.day, answer.residual_count])
+                    .figures([answer.day, answer.residual_count, answer.difference])
                     .digest(book)
                     .figures(statement)
             }

@@ -166,6 +166,7 @@ impl<'a> Run<'a> {
         let (day, count) = (closed.day.into(), closed.residual_count.into());
         match self.context.variant {
             Variant::ClosesWithPosition => vec![0, closed.position as i128, day, count],
+            Variant::ClosesWithDifference => vec![0, day, count, closed.difference.into()],
             Variant::PrintsCountBeforeDay => vec![0, count, day],
             Variant::OmitsCountOfZero if count == 0 => vec![0, day],
             Variant::PrintsNextDay => vec![0, day + 1, count],

@@ -7,9 +7,9 @@ use crate::generate::settle_inputs::settle_inputs;
 use crate::player::Player;
 use crate::settle::settle_in;
 use crate::variant::{
-    Context, Variant, WRONG_CALENDARS, WRONG_CHANGE_DAYS, WRONG_EDITIONS, WRONG_PACKED,
-    WRONG_PROFILES, WRONG_SETTLES, WRONG_SHARES, WRONG_SHARE_CALLS, WRONG_WITHOUT_CHANGE_DAY,
-    WRONG_WORDS,
+    Context, Variant, WRONG_BETWEEN_CALLS, WRONG_CALENDARS, WRONG_CHANGE_DAYS, WRONG_DIFFERENCES,
+    WRONG_EDITIONS, WRONG_PACKED, WRONG_PROFILES, WRONG_SETTLES, WRONG_SHARES, WRONG_SHARE_CALLS,
+    WRONG_WITHOUT_CHANGE_DAY, WRONG_WORDS,
 };
 
 /// A file, by its path in the folder.
@@ -142,20 +142,23 @@ impl Cases {
     }
 }
 
-/// Whether `settle`, which opens with X = 0, has no use for what is wrong.
+/// Whether `settle`, which opens with X = 0 and prints no rounding difference, has no
+/// use for what is wrong.
 pub fn is_shown_by_replay_alone(variant: Variant) -> bool {
-    let unused: [&[Variant]; 8] = [
+    let unused: [&[Variant]; 9] = [
         &WRONG_EDITIONS,
         &WRONG_CHANGE_DAYS,
         &WRONG_WORDS,
         &WRONG_SHARES,
         &WRONG_SHARE_CALLS,
+        &WRONG_DIFFERENCES,
         &WRONG_CALENDARS,
         &WRONG_PROFILES,
         &WRONG_PACKED,
     ];
     unused.iter().any(|wrong| wrong.contains(&variant))
         && !WRONG_WITHOUT_CHANGE_DAY.contains(&variant)
+        && !WRONG_BETWEEN_CALLS.contains(&variant)
 }
 
 /// Whether a variant can change the line of such a frame. A wrong profile check

@@ -1,6 +1,6 @@
-//! Wrong ways to keep the book and its editions, to share, to report the hedges,
-//! to reckon the calendar, to check a profile, to write and read packed decimal and
-//! to run `settle`. The stored cases must show each of them.
+//! Wrong ways to keep the book, its editions and its rounding difference, to share,
+//! to report the hedges, to reckon the calendar, to check a profile, to write and
+//! read packed decimal and to run `settle`. The stored cases must show each of them.
 
 #[derive(Clone, Copy, Debug, Default, PartialEq, Eq)]
 pub enum Variant {
@@ -100,8 +100,6 @@ pub enum Variant {
     CloseLeavesWordUnjudged,
     /// A close gives 9 and 10 before the 3 of an X.
     WordJudgedAfterStatement,
-    /// Takes the word after X for one that may be anything.
-    Word8Unjudged,
 
     // The second edition of the share: its sums.
     SumsFromLastAccount,
@@ -199,6 +197,80 @@ pub enum Variant {
     RoundEndsWithoutTranche,
     BaseRoundWithoutLastAccount,
     TrancheRoundsWithoutLastAccount,
+
+    // The rounding difference: that of a day.
+    /// Posted amounts of the accounts less their exact ones.
+    DifferenceReversed,
+    DifferenceWithoutFirstAccount,
+    DifferenceWithoutLastAccount,
+    /// Takes the rounded amounts for the exact ones: it is always 0.
+    DifferenceOfRoundedAmounts,
+    /// Rounds the sum of all accounts once.
+    DifferenceOfSum,
+    /// Adds up how far each account is off, either way.
+    DifferenceOfMagnitudes,
+    /// Takes amounts for posted that are cut to whole cents.
+    DifferenceOfCutAmounts,
+    /// Takes amounts for posted that are rounded down to whole cents.
+    DifferenceOfFlooredAmounts,
+    /// A half cent counts as if it were posted toward zero.
+    DifferenceWithTiesTowardZero,
+    /// Of the base and tender amounts, rounded by themselves.
+    DifferenceWithoutResiduals,
+    /// Rounds base and tender amounts and those of day r apart.
+    DifferenceOfPartsApart,
+    /// Whole cents, cut.
+    DifferenceInCents,
+
+    // The rounding difference: word 8 after a call.
+    /// Holds the last day's difference alone.
+    Word8Overwritten,
+    Word8NotGrown,
+    Word8GrowsReversed,
+    /// Grows at a 10 too, if no datum is absent.
+    Word8GrownWhenTooShort,
+    /// Grows at an 11 too, by the base and tender amounts if their rows are there.
+    Word8GrownWhenAbsent,
+    /// Leaves word 8 of a new book as it was lent.
+    OpeningKeepsWord8,
+
+    // The rounding difference: what a close tells.
+    /// Tells word 8 after the close.
+    TellsRunningSum,
+    /// Tells word 8 before the close.
+    TellsSumBefore,
+    TellsNoDifference,
+    TellsReversedDifference,
+    /// Tells word 8 at a 9, a 10 and an 11.
+    TellsSumWhenRefused,
+    /// Tells at a 10 what the close would have told.
+    TellsDifferenceWhenTooShort,
+    /// Tells at an 11 that of the base and tender amounts.
+    TellsDifferenceWhenAbsent,
+
+    // The rounding difference: word 8 of a lent book.
+    Word8Unjudged,
+    Word8MustBeZero,
+    Word8JudgedFromAbove,
+    Word8JudgedFromBelow,
+    /// The bound itself is too much.
+    BoundExclusive,
+    /// The bound is that of C − F + 1 days.
+    BoundOfDayMore,
+    /// The bound is that of C − F − 1 days.
+    BoundOfDayLess,
+    /// A book without a closed day has the bound of one.
+    BoundOfOneDayAtLeast,
+    /// The bound is that of one account.
+    BoundWithoutAccounts,
+    BoundOf499,
+    BoundOf1000,
+    SubmitLeavesWord8Unjudged,
+    CloseLeavesWord8Unjudged,
+    /// A close gives 9 and 10 before the 3 of word 8.
+    Word8JudgedAfterStatement,
+    /// Takes the word after word 8 for one that may be anything.
+    Word9Unjudged,
 
     // The calendar.
     /// The day of a date of year −2026 is that of 2026.
@@ -477,6 +549,7 @@ pub enum Variant {
     PrintsPositionInInput,
     RefusesCloseWithoutPosition,
     ClosesWithPosition,
+    ClosesWithDifference,
     PrintsCountBeforeDay,
     OmitsCountOfZero,
     PrintsNextDay,
@@ -550,7 +623,7 @@ pub const WRONG_CHANGE_DAYS: [Variant; 17] = [
 ];
 
 /// The wrong judges of word 7.
-pub const WRONG_WORDS: [Variant; 16] = [
+pub const WRONG_WORDS: [Variant; 15] = [
     Variant::WordMustBeZero,
     Variant::WordUnjudged,
     Variant::WordJudgedFromAbove,
@@ -566,7 +639,6 @@ pub const WRONG_WORDS: [Variant; 16] = [
     Variant::SubmitLeavesWordUnjudged,
     Variant::CloseLeavesWordUnjudged,
     Variant::WordJudgedAfterStatement,
-    Variant::Word8Unjudged,
 ];
 
 /// Those of the three lists above that change a book of X = 0, and so `settle`.
@@ -647,6 +719,64 @@ pub const WRONG_REPORTS: [Variant; 18] = [
     Variant::RoundEndsWithoutTranche,
     Variant::BaseRoundWithoutLastAccount,
     Variant::TrancheRoundsWithoutLastAccount,
+];
+
+/// The wrong rounding differences.
+pub const WRONG_DIFFERENCES: [Variant; 40] = [
+    Variant::DifferenceReversed,
+    Variant::DifferenceWithoutFirstAccount,
+    Variant::DifferenceWithoutLastAccount,
+    Variant::DifferenceOfRoundedAmounts,
+    Variant::DifferenceOfSum,
+    Variant::DifferenceOfMagnitudes,
+    Variant::DifferenceOfCutAmounts,
+    Variant::DifferenceOfFlooredAmounts,
+    Variant::DifferenceWithTiesTowardZero,
+    Variant::DifferenceWithoutResiduals,
+    Variant::DifferenceOfPartsApart,
+    Variant::DifferenceInCents,
+    Variant::Word8Overwritten,
+    Variant::Word8NotGrown,
+    Variant::Word8GrowsReversed,
+    Variant::Word8GrownWhenTooShort,
+    Variant::Word8GrownWhenAbsent,
+    Variant::OpeningKeepsWord8,
+    Variant::TellsRunningSum,
+    Variant::TellsSumBefore,
+    Variant::TellsNoDifference,
+    Variant::TellsReversedDifference,
+    Variant::TellsSumWhenRefused,
+    Variant::TellsDifferenceWhenTooShort,
+    Variant::TellsDifferenceWhenAbsent,
+    Variant::Word8Unjudged,
+    Variant::Word8MustBeZero,
+    Variant::Word8JudgedFromAbove,
+    Variant::Word8JudgedFromBelow,
+    Variant::BoundExclusive,
+    Variant::BoundOfDayMore,
+    Variant::BoundOfDayLess,
+    Variant::BoundOfOneDayAtLeast,
+    Variant::BoundWithoutAccounts,
+    Variant::BoundOf499,
+    Variant::BoundOf1000,
+    Variant::SubmitLeavesWord8Unjudged,
+    Variant::CloseLeavesWord8Unjudged,
+    Variant::Word8JudgedAfterStatement,
+    Variant::Word9Unjudged,
+];
+
+/// Those of them that refuse a book which calls left, or leave one that is not well
+/// formed, and so may change what `settle` prints.
+pub const WRONG_BETWEEN_CALLS: [Variant; 9] = [
+    Variant::DifferenceOfCutAmounts,
+    Variant::DifferenceOfFlooredAmounts,
+    Variant::DifferenceOfPartsApart,
+    Variant::Word8GrownWhenAbsent,
+    Variant::Word8MustBeZero,
+    Variant::BoundExclusive,
+    Variant::BoundOfDayLess,
+    Variant::BoundWithoutAccounts,
+    Variant::BoundOf499,
 ];
 
 /// The wrong calendars, of which the book and `settle` know nothing.
@@ -772,7 +902,7 @@ pub const WRONG_PACKED: [Variant; 59] = [
 ];
 
 /// The wrong programs `settle`, which keep the right book.
-pub const WRONG_SETTLES: [Variant; 65] = [
+pub const WRONG_SETTLES: [Variant; 66] = [
     Variant::ExchangesLagAndHorizon,
     Variant::ExchangesAccountsAndLag,
     Variant::ReadsFirstDayBigEndian,
@@ -825,6 +955,7 @@ pub const WRONG_SETTLES: [Variant; 65] = [
     Variant::PrintsPositionInInput,
     Variant::RefusesCloseWithoutPosition,
     Variant::ClosesWithPosition,
+    Variant::ClosesWithDifference,
     Variant::PrintsCountBeforeDay,
     Variant::OmitsCountOfZero,
     Variant::PrintsNextDay,
@@ -850,6 +981,7 @@ pub fn wrong() -> impl Iterator<Item = Variant> {
         .chain(WRONG_SHARES)
         .chain(WRONG_SHARE_CALLS)
         .chain(WRONG_REPORTS)
+        .chain(WRONG_DIFFERENCES)
         .chain(WRONG_CALENDARS)
         .chain(WRONG_PROFILES)
         .chain(WRONG_PACKED)

@@ -1,5 +1,6 @@
 //! The editions of a book with the slips of the wrong variants: X at the opening,
-//! X in word 7 of a lent book, and the edition of a close. Without a slip all is
+//! X in word 7 of a lent book, and the edition of a close; and which judge a call
+//! has. Without a slip all is
 //! as `edition` has it.
 
 use crate::book::{Header, Opening};
@@ -69,6 +70,7 @@ pub(crate) fn change_day_meets(context: Context, header: &Header) -> bool {
 pub(crate) fn submit_context(context: Context) -> Context {
     match context.variant {
         Variant::SubmitLeavesWordUnjudged => Context::of(Variant::WordUnjudged),
+        Variant::SubmitLeavesWord8Unjudged => Context::of(Variant::Word8Unjudged),
         _ => context,
     }
 }
@@ -79,8 +81,16 @@ pub(crate) fn close_context(context: Context) -> Context {
         Variant::CloseLeavesWordUnjudged | Variant::WordJudgedAfterStatement => {
             Context::of(Variant::WordUnjudged)
         }
+        Variant::CloseLeavesWord8Unjudged | Variant::Word8JudgedAfterStatement => {
+            Context::of(Variant::Word8Unjudged)
+        }
         _ => context,
     }
+}
+
+/// Whether a close judges the book once more, after 9 and 10.
+pub(crate) fn judges_late(context: Context) -> bool {
+    context.is(Variant::WordJudgedAfterStatement) || context.is(Variant::Word8JudgedAfterStatement)
 }
 
 /// The edition of the next close, by its residual day; the first one if it has

@@ -168,6 +168,7 @@ fn any_words_are_answered() {
             9_498,
             0,
             rng.pick(&[0, 1, 9_496, 9_497, 20_000, 36_524, 36_525, -9_497]),
+            rng.pick(&[0, 1, -499, 500, -500, 501, 16_000]),
         ];
         for (word, value) in book.iter_mut().zip(header) {
             if rng.percent(90) {
@@ -227,7 +228,7 @@ fn any_opening_is_answered() {
         if number == 0 {
             assert!(well_formed(&book));
             let words = needed.unwrap() as usize;
-            assert_eq!(book[7], change_day as i64);
+            assert_eq!(book[7..9], [change_day as i64, 0]);
             assert!(book[words..].iter().all(|&word| word == -9));
             accepted += 1;
         } else {

@@ -147,10 +147,16 @@ fn later_cases_come_last() {
     assert!(matches!(reports[0], Frame::Open { .. }));
     assert_eq!(lines(reports), 80);
     assert!(bytes(reports) < 400_000);
-    // Packed decimal.
-    assert!(packed.iter().all(Frame::is_packed));
+    // Packed decimal, then the rounding differences.
+    let count = packed.iter().take_while(|frame| frame.is_packed()).count();
+    let (packed, differences) = packed.split_at(count);
     assert!((1_500..=2_500).contains(&packed.len()), "{}", packed.len());
     assert!(bytes(packed) < 600_000);
+    assert!(!differences.iter().any(Frame::is_packed));
+    assert!(matches!(differences[0], Frame::Open { .. }));
+    let count = lines(differences);
+    assert!((300..=800).contains(&count), "{count}");
+    assert!(bytes(differences) < 1_000_000);
 }
 
 /// The bytes of frames in the program's input.

@@ -309,11 +309,11 @@ fn word_7_of_a_lent_book() {
             let number = if history.finished() { 9 } else { 10 };
             assert_eq!(close(&mut book, &mut []), Answer::at(number, 0));
         }
-        // The words beside it hold no X.
+        // Nor is X in a word that is zero.
         book[7] = change_day as i64;
         assert!(well_formed(&book));
         for word in [1, 9_497, 36_524] {
-            book[8] = word;
+            book[9] = word;
             assert!(!well_formed(&book));
         }
     }

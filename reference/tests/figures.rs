@@ -131,10 +131,13 @@ fn the_mssl_is_off_by_half_a_cent_an_account_at_most() {
     .bytes();
     assert_eq!(submit(&mut book, &file), Answer::ACCEPTED);
     let mut statement = [0; 3];
-    assert_eq!(close(&mut book, &mut statement).number, 0);
+    let answer = close(&mut book, &mut statement);
+    assert_eq!(answer.number, 0);
     assert_eq!(statement, [1, 1, -2]);
     let exact_thousandths = -1_000;
-    assert_eq!(exact_thousandths - statement[2] * 1_000, 2 * 500);
+    let difference = statement[2] * 1_000 - exact_thousandths;
+    assert_eq!(difference, -2 * 500);
+    assert_eq!((answer.difference, book[8]), (difference, difference));
 }
 
 #[test]

@@ -6,6 +6,7 @@ use reference::generate::files::{even_row, Draft};
 use reference::history::{History, METER, NCC, RESIDUAL, VESTING};
 use reference::layout::{
     Layout, CHANGE_DAY, ENTRY_WORDS, HEADER_WORDS, MSSL_BALANCE, NCC_WORDS, NEXT_DAY,
+    ROUNDING_DIFFERENCE,
 };
 use reference::numbers::ACCEPTED;
 
@@ -20,7 +21,7 @@ fn the_book_of_5072_words() {
     assert_eq!((layout.accounts(), layout.slots()), (2, 2));
     assert_eq!(layout.size(), 5_072);
     assert_eq!((HEADER_WORDS, NEXT_DAY), (64, 5));
-    assert_eq!((MSSL_BALANCE, CHANGE_DAY), (6, 7));
+    assert_eq!((MSSL_BALANCE, CHANGE_DAY, ROUNDING_DIFFERENCE), (6, 7, 8));
     assert_eq!((layout.balance_at(0), layout.balance_at(1)), (64, 72));
     assert_eq!(layout.first_interval_at(), 80);
     assert_eq!((NCC_WORDS, ENTRY_WORDS), (4, 24));

@@ -10,6 +10,7 @@ use reference::variant::Context;
 fn random_lists_hold() {
     let mut rng = Rng::new(395);
     let (mut lists, mut residual_closes, mut second_closes, mut crossed) = (0, 0, 0, 0);
+    let (mut raising, mut lowering) = (0, 0);
     let (mut finished, mut positive, mut negative) = (0, 0, 0);
     let mut numbers = [0; 15];
     for _ in 0..4_000 {
@@ -25,6 +26,8 @@ fn random_lists_hold() {
         second_closes += report.second_closes;
         let crosses = 0 < report.second_closes && report.second_closes < report.residual_closes;
         crossed += u64::from(crosses);
+        raising += report.raising;
+        lowering += report.lowering;
         finished += u64::from(report.finished);
         positive += report.ties.positive;
         negative += report.ties.negative;
@@ -39,6 +42,7 @@ fn random_lists_hold() {
     assert!(first_closes > 1_000, "{first_closes}");
     assert!(second_closes > 1_000, "{second_closes}");
     assert!(crossed > 200, "{crossed}");
+    assert!(raising > 1_000 && lowering > 1_000, "{raising} {lowering}");
     assert!(finished > 50, "{finished}");
     assert!(positive > 100 && negative > 100, "{positive} {negative}");
     for number in [0, 4, 5, 6, 7, 8, 9, 10, 11] {

@@ -290,7 +290,7 @@ const EARLIER_LINES: usize = 11_703;
 fn report_books() -> Vec<Vec<Frame>> {
     let mut lines = 0;
     let mut books: Vec<Vec<Frame>> = Vec::new();
-    for frame in cases() {
+    for frame in cases().into_iter().take_while(|frame| !frame.is_packed()) {
         if lines >= EARLIER_LINES {
             match (&frame, books.last_mut()) {
                 (Frame::Open { .. }, _) | (_, None) => books.push(vec![frame]),

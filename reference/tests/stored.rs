@@ -2,8 +2,8 @@
 
 use reference::stored::{is_shown_by_replay_alone, Cases, Stored};
 use reference::variant::{
-    wrong, Context, Variant, WRONG_BOOKS, WRONG_CHANGE_DAYS, WRONG_EDITIONS, WRONG_REPORTS,
-    WRONG_SHARES, WRONG_SHARE_CALLS, WRONG_WITHOUT_CHANGE_DAY, WRONG_WORDS,
+    wrong, Context, Variant, WRONG_BETWEEN_CALLS, WRONG_BOOKS, WRONG_CHANGE_DAYS, WRONG_EDITIONS,
+    WRONG_REPORTS, WRONG_SHARES, WRONG_SHARE_CALLS, WRONG_WITHOUT_CHANGE_DAY, WRONG_WORDS,
 };
 use std::collections::BTreeSet;
 use std::fs;
@@ -102,6 +102,12 @@ fn every_wrong_variant_is_shown() {
             _ if WRONG_BOOKS.contains(&variant) || WRONG_WITHOUT_CHANGE_DAY.contains(&variant) => {
                 &["replay/", "replay_settle/", "settle/runs/"]
             }
+            // The runs' half cents are those of one account.
+            Variant::Word8MustBeZero
+            | Variant::BoundExclusive
+            | Variant::BoundOfDayLess
+            | Variant::BoundOf499 => &["replay/", "replay_settle/", "settle/runs/"],
+            _ if WRONG_BETWEEN_CALLS.contains(&variant) => &["replay/", "replay_settle/"],
             _ if is_shown_by_replay_alone(variant) => &["replay/"],
             _ => &["replay_settle/", "settle/runs/"],
         };

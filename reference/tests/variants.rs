@@ -485,10 +485,10 @@ fn wrong_openings_answer_their_slips() {
 #[test]
 fn wrong_judges_of_word_7_answer_their_slips() {
     // A new book: what is submitted is accepted, a close lacks its first row.
-    let answers = |variant, index: usize, word, statement| {
+    let answers = |variant, word, statement| {
         let context = Context::of(variant);
         let mut book = opened_book(Opening::smallest(20_000));
-        book[index] = word;
+        book[7] = word;
         let submitted = submit_in(context, &mut book, &[0; 8]).number;
         let mut statement = vec![0; statement];
         (
@@ -521,14 +521,11 @@ fn wrong_judges_of_word_7_answer_their_slips() {
         (Variant::WordJudgedAfterStatement, 1, bad, bad),
     ] {
         assert!(WRONG_WORDS.contains(&variant));
-        assert_eq!(answers(Variant::Right, 7, word, 2), right, "{word}");
-        assert_eq!(answers(variant, 7, word, 2), wrong, "{variant:?} {word}");
+        assert_eq!(answers(Variant::Right, word, 2), right, "{word}");
+        assert_eq!(answers(variant, word, 2), wrong, "{variant:?} {word}");
     }
     let late = Variant::WordJudgedAfterStatement;
-    assert_eq!(answers(late, 7, 1, 1), (3, 10));
-    assert_eq!(answers(Variant::Word8Unjudged, 8, 1, 2), good);
-    assert_eq!(answers(Variant::Word8Unjudged, 9, 1, 2), bad);
-    assert_eq!(answers(Variant::Right, 8, 1, 2), bad);
+    assert_eq!(answers(late, 1, 1), (3, 10));
 }
 
 #[test]

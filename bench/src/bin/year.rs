@@ -1,10 +1,12 @@
 //! A year in one go: the book of 32 accounts, lag 75 and horizon 92, closed 365 times, with submissions for each day and residuals from the
 //! 76th close on, those of the first hundred days by the first edition and those of the others by the second. Both implementations make the
-//! same calls, one after the other; what each one answered and left must be equal.
+//! same calls, one after the other; what each one answered and left must be equal, the rounding differences of the closes and their sum too.
 
+use ::robijan::rounding_differences;
 use bench::large::{file, Given, Sections, Terms, FIRST_DAY};
 use bench::robijan;
 use reference::generate::Rng;
+use reference::layout::ROUNDING_DIFFERENCE;
 use std::process::ExitCode;
 use std::time::{Duration, Instant};
 
@@ -12,10 +14,12 @@ const DAYS: i64 = 365;
 const LAG: i64 = 75;
 const ACCOUNTS: usize = 32;
 
+/// Number, position, day, count and difference of a call, 0 where it has none.
+type Figures = [i64; 5];
+
 /// What a year of calls comes to.
 struct Year {
-    /// Number, position, day and count of every call, 0 where it has none.
-    answers: Vec<[u64; 4]>,
+    answers: Vec<Figures>,
     statements: Vec<Vec<i64>>,
     book: Vec<i64>,
     /// In the calls alone.
@@ -24,9 +28,9 @@ struct Year {
 
 /// An implementation's calls.
 struct Calls {
-    open: fn(&mut [i64], Terms) -> [u64; 4],
-    submit: fn(&mut [i64], &[u8]) -> [u64; 4],
-    close: fn(&mut [i64], &mut [i64]) -> [u64; 4],
+    open: fn(&mut [i64], Terms) -> Figures,
+    submit: fn(&mut [i64], &[u8]) -> Figures,
+    close: fn(&mut [i64], &mut [i64]) -> Figures,
 }
 
 fn run(calls: &Calls) -> Year {
@@ -80,7 +84,7 @@ fn run(calls: &Calls) -> Year {
 
 impl Year {
     /// Makes a call, timed.
-    fn made(&mut self, call: impl FnOnce(&mut [i64]) -> [u64; 4]) {
+    fn made(&mut self, call: impl FnOnce(&mut [i64]) -> Figures) {
         let begin = Instant::now();
         let answer = call(&mut self.book);
         self.taken += begin.elapsed();
@@ -97,9 +101,15 @@ impl Year {
         self.statements.push(statement);
     }
 
-    fn print(&self, name: &str) {
+    /// What the closes told of their differences.
+    fn told_difference(&self) -> i64 {
+        self.answers.iter().map(|answer| answer[4]).sum()
+    }
+
+    /// With the running sum that the book holds.
+    fn print(&self, name: &str, difference: i64) {
         let refused = self.answers.iter().filter(|answer| answer[0] != 0).count();
-        let residuals: u64 = self.answers.iter().map(|answer| answer[3]).sum();
+        let residuals: i64 = self.answers.iter().map(|answer| answer[3]).sum();
         let days = self.book[5] - self.book[4];
         let balances = (0..ACCOUNTS).map(|account| self.book[64 + 8 * account]);
         let accounts: i64 = balances.sum();
@@ -113,11 +123,20 @@ impl Year {
             "  accounts {accounts} cents, MSSL {mssl} cents, total {}",
             accounts + mssl
         );
+        println!("  rounding difference {difference} thousandths");
     }
 }
 
-fn figures(told: robijan::Answer) -> [u64; 4] {
-    [told.number, told.position, told.day, told.count]
+fn figures(told: robijan::Answer) -> Figures {
+    let [number, position, day, count] =
+        [told.number, told.position, told.day, told.count].map(|figure| figure as i64);
+    [number, position, day, count, told.difference]
+}
+
+fn reference_figures(answer: reference::numbers::Answer) -> Figures {
+    let (number, position) = (answer.number.into(), answer.position as i64);
+    let (day, count) = (answer.day, answer.residual_count);
+    [number, position, day, count, answer.difference]
 }
 
 fn main() -> ExitCode {
@@ -126,34 +145,34 @@ fn main() -> ExitCode {
         submit: |book, file| figures(robijan::submit(book, file)),
         close: |book, statement| figures(robijan::close(book, statement)),
     });
-    ours.print("Robijan");
+    let our_difference = rounding_differences(&ours.book).unwrap_or(i64::MIN);
+    ours.print("Robijan", our_difference);
     let theirs = run(&Calls {
         open: |book, terms| {
             terms.open(book);
-            [0; 4]
+            [0; 5]
         },
-        submit: |book, file| {
-            let answer = reference::submission::submit(book, file);
-            [answer.number.into(), answer.position as u64, 0, 0]
-        },
-        close: |book, statement| {
-            let answer = reference::close::close(book, statement);
-            let [day, count] = [answer.day, answer.residual_count].map(|figure| figure as u64);
-            [answer.number.into(), answer.position as u64, day, count]
-        },
+        submit: |book, file| reference_figures(reference::submission::submit(book, file)),
+        close: |book, statement| reference_figures(reference::close::close(book, statement)),
     });
-    theirs.print("reference");
+    let their_difference = theirs.book[ROUNDING_DIFFERENCE];
+    theirs.print("reference", their_difference);
     let equal = ours.answers == theirs.answers
         && ours.statements == theirs.statements
         && ours.book == theirs.book;
     let balanced = ours.book[6] + (0..ACCOUNTS).map(|a| ours.book[64 + 8 * a]).sum::<i64>() == 0;
-    if equal && balanced {
+    let summed = our_difference == their_difference && our_difference == ours.told_difference();
+    if equal && balanced && summed {
         println!(
-            "equal: every answer, every statement, every word of the book; balances total zero"
+            "equal: every answer, every statement, every word of the book; balances total zero, \
+             the closes' differences the rounding difference"
         );
         ExitCode::SUCCESS
     } else {
-        println!("answers, statements or books differ, or balances do not total zero");
+        println!(
+            "answers, statements or books differ, balances do not total zero, \
+             or the closes' differences are not the rounding difference"
+        );
         ExitCode::FAILURE
     }
 }

@@ -5,6 +5,7 @@ use reference::generate::books::{kept_book, word_case};
 use reference::generate::lists::change_day;
 use reference::generate::Rng;
 use reference::history::History;
+use reference::layout::ROUNDING_DIFFERENCE;
 
 /// A well-formed book of a small size, with rows of open and closed days.
 pub fn small_book(rng: &mut Rng) -> (Vec<i64>, History) {
@@ -49,6 +50,7 @@ impl Change {
     pub fn random(rng: &mut Rng, book: &[i64]) -> Change {
         let accounts = book[1] as usize;
         let index = match rng.below(10) {
+            0 if rng.percent(50) => return Change::of_difference(rng, book),
             0 => rng.below(9),
             1 => rng.below(64 + 8 * accounts),
             2 | 3 => flag(rng, accounts, book.len()),
@@ -62,6 +64,31 @@ impl Change {
             _ => rng.pick(&case.off),
         };
         Change { index, word }
+    }
+
+    /// Word 8 at its bound or beside it, at that of a day or an account more or fewer, or between.
+    fn of_difference(rng: &mut Rng, book: &[i64]) -> Change {
+        let [_, accounts, _, _, first, next] = book[..6] else {
+            unreachable!()
+        };
+        let bound = |accounts, days| 500 * accounts * days;
+        let days = next - first;
+        let its = bound(accounts, days);
+        let other = rng.pick(&[
+            bound(accounts, days + 1),
+            bound(accounts, days - 1),
+            bound(accounts + 1, days),
+            bound(1, days),
+        ]);
+        let word = match rng.below(8) {
+            0..=4 => rng.pick(&[its, -its]) + rng.between(-1, 1),
+            5 => rng.pick(&[other, -other]) + rng.between(-1, 1),
+            _ => rng.between(-its, its),
+        };
+        Change {
+            index: ROUNDING_DIFFERENCE,
+            word,
+        }
     }
 
     /// A change after which the book is not well formed.

@@ -46,7 +46,7 @@ pub fn close(rng: &mut Rng, cases: usize, tally: &mut Tally) -> Result<(), Strin
             ours.clone_from(&kept);
             theirs = kept;
         } else if told.number == u64::from(ACCEPTED) {
-            let answer = Answer::closed(told.day as i64, told.count as i64);
+            let answer = Answer::closed(told.day as i64, told.count as i64, told.difference);
             history.closed(length, &answer);
         }
     }

@@ -58,6 +58,7 @@ fn told_by(answer: numbers::Answer) -> Answer {
         position: answer.position as u64,
         day: answer.day as u64,
         count: answer.residual_count as u64,
+        difference: answer.difference,
     }
 }
 

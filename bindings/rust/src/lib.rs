@@ -69,6 +69,8 @@ pub struct Closed {
     pub day: i64,
     /// How many residuals, of an account and an interval each, were settled: 48 an account, or none.
     pub residuals: u64,
+    /// By how many thousandths of a cent 1,000 times the MSSL's posted cents exceed its exact amount of the day: at most 500 an account, either way.
+    pub difference: i64,
 }
 
 /// Both parts of a share, in kWh.
@@ -139,7 +141,8 @@ pub fn submit(book: &mut [i64], file: &[u8]) -> Result<(), Refusal> {
     told(answer.number, answer.position, ())
 }
 
-/// Closes the next day: writes an amount for each account to the statement, in cents, then the MSSL's, and adds them to the balances.
+/// Closes the next day: writes an amount for each account to the statement, in cents, then the MSSL's, and adds them to the balances, and the day's
+/// rounding difference to the sum of the earlier ones.
 ///
 /// ```
 /// use robijan::Terms;
@@ -157,6 +160,7 @@ pub fn close(book: &mut [i64], statement: &mut [i64]) -> Result<Closed, Refusal>
     let closed = Closed {
         day: answer.day as i64,
         residuals: answer.count,
+        difference: answer.difference,
     };
     told(answer.number, answer.position, closed)
 }
@@ -216,6 +220,20 @@ pub fn change_day(book: &[i64]) -> Option<i64> {
 /// ```
 pub fn mssl_balance(book: &[i64]) -> Option<i64> {
     book.get(6).copied()
+}
+
+/// The sum of the rounding differences in an opened book: [`Closed::difference`] of each close so far that kept it, in thousandths of a cent.
+///
+/// ```
+/// use robijan::Terms;
+///
+/// let mut book = vec![0; 5_072];
+/// robijan::open(&mut book, Terms { accounts: 2, lag: 1, horizon: 1, first: 9_497, change: 0 })?;
+/// assert_eq!(robijan::rounding_differences(&book), Some(0));
+/// # Ok::<(), robijan::Refusal>(())
+/// ```
+pub fn rounding_differences(book: &[i64]) -> Option<i64> {
+    book.get(8).copied()
 }
 
 /// An account's balance in an opened book, in cents; `None` for an account that the book does not have.

@@ -19,7 +19,7 @@ pub struct Terms {
     pub change: usize,
 }
 
-/// Of open, submit and close; day and count are a close's.
+/// Of open, submit and close; day, count and difference are a close's.
 #[repr(C)]
 #[derive(Clone, Copy, Debug, PartialEq, Eq)]
 pub struct Answer {
@@ -27,6 +27,7 @@ pub struct Answer {
     pub position: u64,
     pub day: u64,
     pub count: u64,
+    pub difference: i64,
 }
 
 #[repr(C)]

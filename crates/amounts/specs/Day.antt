@@ -4,10 +4,12 @@ use Rattle.integer.specs.Below.{sum_ℕ, sum_ℤ, tabulate}
 use Rattle.rulebook.specs.declared.Edition.{Edition}
 use Rattle.rulebook.specs.Shares.{share_by}
 use Rattle.rulebook.specs.Units.{intervals}
-use Rattle.rulebook.specs.DayAmount.{reference_price_of, vesting_amount, share_amount, in_cents}
+use Rattle.rulebook.specs.DayAmount.{reference_price_of, vesting_amount, share_amount}
 use Rattle.rulebook.specs.Layout.{slot_length, interval_of, cell_of}
 use Rattle.rules.specs.LoadAndSpare.{LoadAndSpare}
 use Rattle.amounts.specs.declared.total.DayTotal.{DayTotal}
+use Rattle.amounts.specs.declared.total.Posted.{Posted}
+use Rattle.amounts.specs.Total.{posted_of}
 use Rattle.amounts.specs.Cell.{cell_data}
 use Rattle.amounts.specs.Interval.{IntervalRanged, residual_at}
 
@@ -78,6 +80,13 @@ slot_amount n today then a i = vesting_amount (cell_data (cell_at n today a i)) 
 unfoldable pub total_to : ℕ → List ℤ → Option Then → ℕ → ℕ → DayTotal
 total_to n today then a k = record { thousandths = sum_ℤ k (slot_amount n today then a) }
 
--- the posted amount
-unfoldable pub slot_posted : ℕ → List ℤ → Option Then → ℕ → ℤ
-slot_posted n today then a = in_cents (total_to n today then a intervals).thousandths
+-- the posted amount, and what it leaves
+unfoldable pub slot_posted : ℕ → List ℤ → Option Then → ℕ → Posted
+slot_posted n today then a = posted_of (total_to n today then a intervals)
+
+-- each of them alone
+abbrev pub slot_cents : ℕ → List ℤ → Option Then → ℕ → ℤ
+slot_cents n today then a = (slot_posted n today then a).cents
+
+abbrev pub slot_difference : ℕ → List ℤ → Option Then → ℕ → ℤ
+slot_difference n today then a = (slot_posted n today then a).difference

@@ -5,9 +5,9 @@ ghost use Rattle.amounts.specs.Day.{HasAccount, sum_before, sums_before, slot_am
 
 use crate::settled::Settled;
 use crate::slot::Slot;
-use crate::total::{DayTotal, absorb};
-use integer::{add, nearest_to};
-use rulebook::units::{INTERVALS, THOUSANDTHS_PER_CENT};
+use crate::total::{DayTotal, Posted, absorb};
+use integer::add;
+use rulebook::units::INTERVALS;
 
 // The account's amount at interval h: vesting of today's cell and, where a residual is due, that of then's share with V of then. `sum` is the UEGQ
 // of the accounts before it at then's interval; it goes on with the account's.
@@ -30,15 +30,16 @@ fn slot_amount(today: Slot, then: &Option<Settled>, sum: &mut u64, a: usize, h: 
     }
 }
 
-// The posted amount of account a: the nearest whole cent to its amounts over the 48 intervals, which the day's total is lent to take. `sums` are the
-// UEGQ of the accounts before it at then's intervals; they go on with the account's.
+// The posted amount of account a: the nearest whole cent to its amounts over the 48 intervals, which the day's total is lent to take; with what that leaves
+// of them, at most 500 thousandths. `sums` are the UEGQ of the accounts before it at then's intervals; they go on with the account's.
 pub fn posted_amount(
     today: Slot,
     then: &Option<Settled>,
     sums: &mut [u64; INTERVALS],
     a: usize,
-) -> i64
+) -> Posted
     requires { (a < today.accounts) × HasAccount a then.now × (sums.old ≡ sums_before then.now a) }
+    ensures small { nat_abs result.difference ≤ 500 }
     ensures amount { result ≡ slot_posted today.entry.accounts today.entry.words.now then.now a }
     ensures sums { sums.new ≡ sums_before then.now (a + 1) }
 {
@@ -46,5 +47,5 @@ pub fn posted_amount(
     for (h, sum) in sums.iter_mut().enumerate() {
         absorb(&mut total, slot_amount(today, then, sum, a, h));
     }
-    nearest_to(total.thousandths, THOUSANDTHS_PER_CENT)
+    total.posted()
 }

@@ -17,14 +17,17 @@ pub struct FormedBook {
     pub next: usize,
 }
 
-// The balances and the slots, where the words are no fewer than the size.
+// The MSSL's balance, the rounding differences' sum, the accounts' balances and the slots, where the words are no fewer than the size.
 fn contents_fit(header: &Header, book: &[i64]) -> bool
     requires { size header.now.terms ≤ length book.now }
     ensures { result ≡ contents_fit header.now.terms book.now header.now.next }
 {
     let base = layout::balance_word(header.terms.get().accounts);
     let end = book_size(header.terms);
-    header.mssl_fits(book) & header.balances_fit(book) & slots_fit(header, &book[base..end])
+    header.mssl_fits(book)
+        & header.differences_fit(book)
+        & header.balances_fit(book)
+        & slots_fit(header, &book[base..end])
 }
 
 // "The book": "It is well formed if ..", of any words whatever. The header comes before the size, so a wild one is refused with no read past

@@ -38,11 +38,12 @@ fn settle(book: &mut [i64], statement: &mut [i64], formed: &FormedBook) -> Close
     requires { Settling book.old formed.now.terms formed.now.next × (formed.now.terms.accounts + 1 ≤ length statement.old) }
     ensures { ClosePromise book.old statement.old (Ok result) book.new statement.new }
 {
-    write_statement(statement, book, formed);
-    write_book(book, statement, formed);
+    let difference = write_statement(statement, book, formed);
+    write_book(book, statement, difference, formed);
     CloseFigures {
         day: formed.next,
         count: residual_count(formed),
+        difference,
     }
 }
 

@@ -1,4 +1,4 @@
-// Document 01, "Close": balances grow.
+// Document 01, "Close": balances grow, and the rounding differences' sum.
 ghost use Rattle.std.specs.Prelude.{◌≡◌, ◌+◌, ◌≤◌, ◌<◌, ◌^◌, nat_abs, ◌+ℤ◌, length, set};
 ghost use Rattle.integer.specs.Words.{word};
 ghost use Rattle.rulebook.specs.Shares.{most_accounts};
@@ -7,7 +7,7 @@ ghost use Rattle.closing.specs.Written.{BalancesRoom};
 
 use rulebook::layout::balance_word;
 
-// The balance at an index grows by an amount, an account's or the MSSL's: in one place, where the sum is proved to fit.
+// The sum at an index grows by an amount, an account's, the MSSL's or the rounding difference: in one place, where it is proved to fit.
 pub fn grow(book: &mut [i64], at: usize, amount: i64)
     requires { (at < length book.old) × (nat_abs (word book.old at) + nat_abs amount < 2 ^ 63) }
     ensures { book.new ≡ set book.old at (word book.old at +ℤ amount) }

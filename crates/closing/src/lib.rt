@@ -9,6 +9,6 @@
 pub mod search; // search.rt: the first absent datum
 pub mod slots; // slots.rt: r and its edition
 pub mod statement; // statement.rt: the amounts of a close
-pub mod ledger; // ledger.rt: balances grow
+pub mod ledger; // ledger.rt: balances and differences grow
 pub mod write; // write.rt: what an accepted close writes
 pub mod close; // close.rt: the close

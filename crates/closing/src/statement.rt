@@ -1,11 +1,11 @@
-// Document 01, "Close": the statement, N amounts and then the MSSL's, in cents.
+// Document 01, "Close": the statement, N amounts and then the MSSL's, in cents; document 02, P5: the rounding difference.
 ghost use Rattle.std.specs.Prelude.{◌≡◌, ◌≤◌, length};
 ghost use Rattle.std.specs.Option.{ForSome};
 ghost use Rattle.integer.specs.Below.{sum_ℤ};
 ghost use Rattle.integer.specs.Words.{word, filled};
 ghost use Rattle.rulebook.specs.Shares.{most_accounts};
 ghost use Rattle.rulebook.specs.DayAmount.{minus_sum};
-ghost use Rattle.amounts.specs.Day.{slot_posted};
+ghost use Rattle.amounts.specs.Day.{slot_cents, slot_difference};
 ghost use Rattle.closing.specs.Written.{Small};
 
 use amounts::day::posted_amount;
@@ -13,15 +13,20 @@ use amounts::settled::Settled;
 use amounts::slot::Slot;
 use rulebook::units::INTERVALS;
 
-// Posts the accounts' amounts, of today's slot and of the day that is settled.
-pub fn post_amounts(statement: &mut [i64], today: Slot, then: &Option<Settled>)
+// Posts the accounts' amounts, of today's slot and of the day that is settled; what they leave of the exact amounts, together.
+pub fn post_amounts(statement: &mut [i64], today: Slot, then: &Option<Settled>) -> i64
     requires { ForSome then.now (λ t. t.accounts ≡ today.accounts) × (today.accounts ≤ length statement.old) }
-    ensures { statement.new ≡ filled today.entry.accounts (slot_posted today.entry.accounts today.entry.words.now then.now) statement.old }
+    ensures statement { statement.new ≡ filled today.entry.accounts (slot_cents today.entry.accounts today.entry.words.now then.now) statement.old }
+    ensures difference { result ≡ sum_ℤ today.entry.accounts (slot_difference today.entry.accounts today.entry.words.now then.now) }
 {
     let mut sums = [0; INTERVALS];
+    let mut difference = 0;
     for (a, amount) in statement[..today.accounts].iter_mut().enumerate() {
-        *amount = posted_amount(today, then, &mut sums, a);
+        let posted = posted_amount(today, then, &mut sums, a);
+        *amount = posted.cents;
+        difference += posted.difference;
     }
+    difference
 }
 
 // The sum of the amounts.

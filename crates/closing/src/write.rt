@@ -2,7 +2,7 @@
 // Book and `formed` apart: the statement reads the book, the writing changes it; one struct would be lent by `&` and by `&mut`.
 ghost use Rattle.std.specs.Prelude.{◌≡◌, ◌+◌, ◌≤◌, length};
 ghost use Rattle.rulebook.specs.Layout.{size};
-ghost use Rattle.rulebook.specs.Close.{slot_blanked, day_closed, statement_written};
+ghost use Rattle.rulebook.specs.Close.{slot_blanked, day_difference, day_closed, statement_written};
 ghost use Rattle.amounts.specs.Day.{SlotRanged};
 ghost use Rattle.closing.specs.Slots.{slot_words, settled_then};
 ghost use Rattle.closing.specs.Written.{Settling, StatementOf};
@@ -43,16 +43,18 @@ fn settled_of<'a>(book: &'a [i64], formed: &FormedBook) -> Option<Settled<'a>>
     Some(Settled::new(then, edition, then.residuals()))
 }
 
-// N + 1 cents go to the statement, the MSSL's last; words beyond are kept.
-pub fn write_statement(statement: &mut [i64], book: &[i64], formed: &FormedBook)
+// N + 1 cents go to the statement, the MSSL's last; words beyond are kept. The result is the rounding difference.
+pub fn write_statement(statement: &mut [i64], book: &[i64], formed: &FormedBook) -> i64
     requires { Settling book.now formed.now.terms formed.now.next × (formed.now.terms.accounts + 1 ≤ length statement.old) }
-    ensures { statement.new ≡ statement_written formed.now.terms book.now formed.now.next statement.old }
+    ensures statement { statement.new ≡ statement_written formed.now.terms book.now formed.now.next statement.old }
+    ensures difference { result ≡ day_difference formed.now.terms book.now formed.now.next }
 {
     let today = slot_of(book, formed.terms, formed.next);
     let then = settled_of(book, formed);
-    post_amounts(statement, today, &then);
+    let difference = post_amounts(statement, today, &then);
     let n = today.accounts;
     statement[n] = mssl_amount(&statement[..n]);
+    difference
 }
 
 // r's slot is lent onward to be blanked, if r is not before F.
@@ -68,14 +70,17 @@ fn blank_settled(book: &mut [i64], formed: &FormedBook)
     }
 }
 
-// Balances grow by the statement, the MSSL's too; C rises by one; r's slot is blanked.
-pub fn write_book(book: &mut [i64], statement: &[i64], formed: &FormedBook)
-    requires { Settling book.old formed.now.terms formed.now.next × StatementOf book.old formed.now.terms formed.now.next statement.now }
+// Balances grow by the statement, the MSSL's too, and word 8 by the rounding difference; C rises by one; r's slot is blanked.
+pub fn write_book(book: &mut [i64], statement: &[i64], difference: i64, formed: &FormedBook)
+    requires settling { Settling book.old formed.now.terms formed.now.next }
+    requires statement { StatementOf book.old formed.now.terms formed.now.next statement.now }
+    requires difference { difference ≡ day_difference formed.now.terms book.old formed.now.next }
     ensures { book.new ≡ day_closed formed.now.terms book.old formed.now.next }
 {
     let n = formed.terms.get().accounts;
     grow_balances(book, &statement[..n]);
     grow(book, layout::MSSL, statement[n]);
+    grow(book, layout::DIFFERENCES, difference);
     // `as`: there is no From of a usize for i64.
     book[layout::NEXT_DAY] = formed.next as i64 + 1;
     blank_settled(book, formed);

@@ -10,15 +10,15 @@ use Rattle.rulebook.specs.Units.{nearest}
 use Rattle.rulebook.specs.ReferencePrice.{average, reference_price}
 use Rattle.rulebook.specs.Shares.{share, share_of, second_share, second_share_of, edition_share}
 use Rattle.rulebook.specs.Tranches.{tranche1, tranche2}
-use Rattle.rulebook.specs.DayAmount.{reference_price_of, vested_quantity, tender_amount, vesting_amount, share_amount, hedge_total, residual_load, rvq, residual_amount, settles_residual, residual_day, edition_of, interval_amount, exact_amount, posted_amount}
+use Rattle.rulebook.specs.DayAmount.{reference_price_of, vested_quantity, tender_amount, vesting_amount, share_amount, hedge_total, residual_load, rvq, residual_amount, settles_residual, residual_day, edition_of, interval_amount, exact_amount, posted_amount, mssl_amount, mssl_exact, rounding_difference}
 use Rattle.rulebook.specs.Layout.{base, ring, interval_size, slot, interval_word, row_word}
 use Rattle.rulebook.specs.File.{Row, num, value_at, row_end, row_pos, section_end, section_rows, file_rows, number_of, figure_of}
 use Rattle.rulebook.specs.Close.{searched, residual_count}
-use Rattle.rulebook.specs.History.{Event, closes, closing_day, RowsInForce, latest, last_for, accepted_rows, in_force, count_in, data_in_force, formula_amount}
+use Rattle.rulebook.specs.History.{Event, closes, closing_day, RowsInForce, latest, last_for, accepted_rows, in_force, count_in, data_in_force, formula_amount, formula_difference}
 use Rattle.rulebook.specs.Companion.{first_lacking, close_told}
-use Rattle.rulebook.proofs.laws.AmountLaws.{SameFigures, Agree, posted-same}
+use Rattle.rulebook.proofs.laws.AmountLaws.{SameFigures, Agree, posted-same, difference-same as data-difference}
 use Rattle.rulebook.proofs.examples.Examples.{zeros}
-use Rattle.rulebook.proofs.examples.HistoryExamples.{vesting, meter, taken, words, closed_day}
+use Rattle.rulebook.proofs.examples.HistoryExamples.{vesting, meter, taken, words, closed_day, Accepted}
 
 abbrev terms : Terms
 terms = record { accounts = 2; lag = 2; horizon = 1; first = 9497; change = 9498 }
@@ -31,9 +31,9 @@ vesting_file a day = 1 ∷ 0 ∷ vesting a day ++ zeros 6
 abbrev meter_file : ℕ → ℕ → List ℕ
 meter_file a day = zeros 2 ++ (1 ∷ 0 ∷ meter a day ++ zeros 4)
 
--- in interval 0: UEGQ 1, RVP2 100,000 cents per MWh, or hex 0186A0
+-- in interval 0: UEGQ 1, RVP2 100,400 cents per MWh, or hex 018830
 abbrev spare_file : ℕ → ℕ → List ℕ
-spare_file a day = zeros 4 ++ (1 ∷ 0 ∷ a ∷ day ∷ 0x25 ∷ 1 ∷ zeros 11 ++ (0xA0 ∷ 0x86 ∷ 0x01 ∷ 0x00 ∷ zeros 752) ++ zeros 2)
+spare_file a day = zeros 4 ++ (1 ∷ 0 ∷ a ∷ day ∷ 0x25 ∷ 1 ∷ zeros 11 ++ (0x30 ∷ 0x88 ∷ 0x01 ∷ 0x00 ∷ zeros 752) ++ zeros 2)
 
 -- a load of 1 kWh
 abbrev load_file : ℕ → List ℕ
@@ -57,11 +57,13 @@ abbrev fourth : List Event
 fourth = with_spare 0x1A (with_day 0x1C (closed_day 9499 96 ∷ third))
 
 pub record Crossing : Type 0 where
-  pub third_closes : close_told terms third (words 3) ≡ record { number = 0; position = 0; day = 9499; count = 96 }
-  pub fourth_closes : close_told terms fourth (words 3) ≡ record { number = 0; position = 0; day = 9500; count = 96 }
+  pub third_closes : Accepted terms third (words 3) 9499 96
+  pub fourth_closes : Accepted terms fourth (words 3) 9500 96
   -- before X the odd kWh is dropped, from X on account 1 has it
   pub before_change : (formula_amount terms third 0 ≡ pos 0) × (formula_amount terms third 1 ≡ pos 0)
   pub from_change : (formula_amount terms fourth 0 ≡ pos 0) × (formula_amount terms fourth 1 ≡ pos 100)
+  -- the 100,400 thousandths of account 1 leave 400
+  pub differences : (formula_difference terms third ≡ pos 0) × (formula_difference terms fourth ≡ pos 400)
 
 -- ---- The rows in force, of which the amounts are computed
 
@@ -72,7 +74,7 @@ row s a d count numbers = record { section = s; account = a; day = d; count = co
 abbrev force : ℕ → RowsInForce
 force r Vesting a d = Some (row Vesting a d 0 (replicate 96 (pos 0)))
 force r Meter a d = Some (row Meter a d 1 (replicate 96 (pos 0)))
-force r Residual a d = cond (eqb d r) (Some (row Residual a d 0 (pos 1 ∷ pos 0 ∷ pos 0 ∷ pos 100000 ∷ replicate 188 (pos 0)))) None
+force r Residual a d = cond (eqb d r) (Some (row Residual a d 0 (pos 1 ∷ pos 0 ∷ pos 0 ∷ pos 100400 ∷ replicate 188 (pos 0)))) None
 force r Ncc a d = cond (eqb d r) (Some (row Ncc a d 0 (pos 1 ∷ replicate 47 (pos 0)))) None
 
 -- those that the history has of a day
@@ -114,6 +116,11 @@ unfolding formula_amount
 amount-same past r now then a l = posted-same terms (data_in_force (in_force past)) (data_in_force (force r)) (closing_day terms past)
     (days-same past r _ now) (λ t. days-same past r _ then) a l
 
+difference-same : (past : List Event) (r : ℕ) → Same past r (closing_day terms past) → Same past r (residual_day terms (closing_day terms past))
+    → formula_difference terms past ≡ rounding_difference terms (data_in_force (force r)) (closing_day terms past)
+unfolding formula_difference
+difference-same past r now then = data-difference terms (data_in_force (in_force past)) (data_in_force (force r)) (closing_day terms past) (days-same past r _ now) (λ t. days-same past r _ then)
+
 third-rows : Same third 9497 9499 × Same third 9497 9497
 unfolding in_force latest last_for accepted_rows file_rows section_rows tabulate num row_end row_pos section_end turns value_at twos_complement
 third-rows = (
@@ -131,7 +138,7 @@ fourth-rows = (
 -- ---- All
 
 pub crossing : Crossing
-unfolding closes posted_amount exact_amount interval_amount tender_amount vesting_amount vested_quantity hedge_total residual_load rvq share share_of second_share second_share_of edition_share share_amount residual_amount tranche1 tranche2 settles_residual edition_of reference_price_of reference_price average nearest with_sign fold number_of figure_of in_force latest last_for accepted_rows file_rows section_rows tabulate num row_end row_pos section_end turns value_at twos_complement close_told residual_count first_lacking searched or_else base ring interval_size slot interval_word row_word
+unfolding closes rounding_difference mssl_amount mssl_exact posted_amount exact_amount interval_amount tender_amount vesting_amount vested_quantity hedge_total residual_load rvq share share_of second_share second_share_of edition_share share_amount residual_amount tranche1 tranche2 settles_residual edition_of reference_price_of reference_price average nearest with_sign fold number_of figure_of in_force latest last_for accepted_rows file_rows section_rows tabulate num row_end row_pos section_end turns value_at twos_complement close_told residual_count first_lacking searched or_else base ring interval_size slot interval_word row_word
 crossing = record {
   third_closes = refl;
   fourth_closes = refl;
@@ -143,4 +150,5 @@ crossing = record {
     amount-same fourth 9498 fourth-rows.0 fourth-rows.1 0 (omega arith) ∙ refl,
     amount-same fourth 9498 fourth-rows.0 fourth-rows.1 1 (omega arith) ∙ refl,
   );
+  differences = (difference-same third 9497 third-rows.0 third-rows.1 ∙ refl, difference-same fourth 9498 fourth-rows.0 fourth-rows.1 ∙ refl);
 }

@@ -1,12 +1,12 @@
-// Document 01, "The book": the header, the size, and the balances.
+// Document 01, "The book": the header, the size, and the sums over accounts and closed days.
 ghost use Rattle.std.specs.Prelude.{◌≡◌, ◌&&◌, ◌+◌, ◌-◌, ◌*◌, ◌≤◌, ◌<◌, suc, pos, cond, leb, nat_abs, length, drop, Some, None, IfSome, is_some};
 ghost use Rattle.std.specs.Int.Signed.{le_z};
 ghost use Rattle.integer.specs.Integer.{positive};
 ghost use Rattle.integer.specs.Words.{word, part};
 ghost use Rattle.rulebook.specs.Units.{last_day, between};
-ghost use Rattle.rulebook.specs.Layout.{size, header_words, book_mark, mark_word, balance_word, mssl_word};
+ghost use Rattle.rulebook.specs.Layout.{size, header_words, book_mark, mark_word, balance_word, mssl_word, differences_word};
 ghost use Rattle.rulebook.specs.BookData.{terms_of, next_day};
-ghost use Rattle.rulebook.specs.WellFormed.{day_bound, next_day_fits, terms_words_fit, header_fits, balance_fits, balances_fit};
+ghost use Rattle.rulebook.specs.WellFormed.{day_bound, next_day_fits, terms_words_fit, header_fits, sum_fits, balance_fits, differences_fit, balances_fit};
 ghost use Rattle.opening.specs.Blank.{blank};
 
 use crate::words::{is_blank, is_within};
@@ -51,7 +51,7 @@ fn is_mark(word: i64) -> bool
 
 // 395; C, which is F to 36,525; zeros.
 fn frame_fits(words: &[i64; HEADER_WORDS]) -> bool
-    ensures { result ≡ (between (pos book_mark) (pos book_mark) (word words.now mark_word) && next_day_fits words.now && blank (part words.now 8 56)) }
+    ensures { result ≡ (between (pos book_mark) (pos book_mark) (word words.now mark_word) && next_day_fits words.now && blank (part words.now 9 55)) }
 {
     is_mark(words[layout::MARK])
         & is_between(words[layout::FIRST_DAY], FINISHED, words[layout::NEXT_DAY])
@@ -68,7 +68,7 @@ pub struct Header {
 }
 
 impl Header {
-    // "The book": words 0 to 63, but for the MSSL's balance.
+    // "The book": words 0 to 63, but for the MSSL's balance and the rounding difference.
     pub fn of(book: &[i64]) -> Option<Header>
         ensures fits { is_some result ≡ (leb header_words (length book.now) && header_fits book.now) }
         ensures told { IfSome result (λ h. (h.terms ≡ terms_of book.now) × (h.next ≡ next_day book.now)) }
@@ -91,30 +91,47 @@ impl Header {
         self.next - self.terms.get().first
     }
 
-    // The most cents of an account's balance, either way: (C − F) × 4,800,000,000,000.
-    fn bound(&self) -> u64
-        ensures { (result ≡ (self.now.next - self.now.terms.first) * day_bound) × (result ≤ last_day * day_bound) }
+    // The most of an account's sum, either way, to which a closed day adds at most so much.
+    fn bound(&self, per_day: usize) -> u64
+        requires { per_day ≤ day_bound }
+        ensures { (result ≡ (self.now.next - self.now.terms.first) * per_day) × (result ≤ last_day * day_bound) }
     {
         // `as`: every usize fits u64, and there is no From between them.
-        (self.closes() * units::DAY_BOUND) as u64
+        (self.closes() * per_day) as u64
     }
 
-    // "The book": the MSSL's balance is within N times that.
+    // A sum over all accounts is within N times that.
+    fn sum_fits(&self, per_day: usize, sum: i64) -> bool
+        requires { per_day ≤ day_bound }
+        ensures { result ≡ sum_fits per_day self.now.terms.accounts (self.now.next - self.now.terms.first) sum }
+    {
+        // `as`: every usize fits u64, and there is no From between them.
+        let n = self.terms.get().accounts as u64;
+        is_within(sum, n * self.bound(per_day))
+    }
+
+    // "The book": the MSSL's balance is within N × (C − F) × 4,800,000,000,000.
     pub fn mssl_fits(&self, book: &[i64]) -> bool
         requires { mssl_word < length book.now }
         ensures { result ≡ balance_fits self.now.terms.accounts (self.now.next - self.now.terms.first) (word book.now mssl_word) }
     {
-        // `as`: every usize fits u64, and there is no From between them.
-        let n = self.terms.get().accounts as u64;
-        is_within(book[layout::MSSL], n * self.bound())
+        self.sum_fits(units::DAY_BOUND, book[layout::MSSL])
     }
 
-    // "The book": each account's balance is within that, and its seven zeros.
+    // Document 02, P5: the rounding difference is within 500 × N × (C − F).
+    pub fn differences_fit(&self, book: &[i64]) -> bool
+        requires { differences_word < length book.now }
+        ensures { result ≡ differences_fit self.now.terms.accounts (self.now.next - self.now.terms.first) (word book.now differences_word) }
+    {
+        self.sum_fits(units::DIFFERENCE_BOUND, book[layout::DIFFERENCES])
+    }
+
+    // "The book": each account's balance is within (C − F) × 4,800,000,000,000, and its seven zeros.
     pub fn balances_fit(&self, book: &[i64]) -> bool
         requires { balance_word self.now.terms.accounts ≤ length book.now }
         ensures { result ≡ balances_fit book.now (self.now.next - self.now.terms.first) self.now.terms.accounts }
     {
-        let bound = self.bound();
+        let bound = self.bound(units::DAY_BOUND);
         let end = balance_word(self.terms.get().accounts);
         let (balances, _) = book[HEADER_WORDS..end].as_chunks::<BALANCE_WORDS>();
         balances.iter().all(|words| balance_words_fit(words, bound))

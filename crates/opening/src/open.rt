@@ -9,7 +9,7 @@ use crate::words::clear;
 use rulebook::accepted::AcceptedTerms;
 use rulebook::{OpenError, Terms, layout};
 
-// 395, N, L, H, F, C = F, the MSSL's balance and X: the words before the header's zeros. No `From` makes words of numbers; `as` is proved to
+// 395, N, L, H, F, C = F, the MSSL's balance, X and the rounding difference: the words before the header's zeros. No `From` makes words of numbers; `as` is proved to
 // lose nothing.
 fn new_header(terms: AcceptedTerms) -> [i64; layout::HEADER_SPARES]
     ensures { result ≡ header terms }
@@ -25,6 +25,7 @@ fn new_header(terms: AcceptedTerms) -> [i64; layout::HEADER_SPARES]
         next,
         0,
         terms.change as i64,
+        0,
     ]
 }
 

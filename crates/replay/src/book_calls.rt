@@ -93,6 +93,7 @@ fn close_lent(lent: &mut [i64], statement: &mut [i64])
     output::figure(answer.position);
     output::figure(answer.day);
     output::figure(answer.count);
+    output::figure(answer.difference);
     output::digest(lent);
     output::words(statement);
     output::end();

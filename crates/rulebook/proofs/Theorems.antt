@@ -10,7 +10,7 @@ use Rattle.rulebook.specs.declared.Section.{Section}
 use Rattle.rulebook.specs.Units.{last_day, intervals, nearest}
 use Rattle.rulebook.specs.Shares.{share_of, share, second_share, ShareTotal, RuleShare, EveryKwh}
 use Rattle.rulebook.specs.Tranches.{TrancheSplit}
-use Rattle.rulebook.specs.DayAmount.{AccountData, SettlementData, exact_amount, posted_amount, mssl_amount, ReportFigures, IntervalShares, ResidualDayShares, PostedParts, mssl_exact}
+use Rattle.rulebook.specs.DayAmount.{AccountData, SettlementData, exact_amount, posted_amount, mssl_amount, ReportFigures, IntervalShares, ResidualDayShares, PostedParts, DifferenceParts, mssl_exact}
 use Rattle.rulebook.specs.Terms.{InTerms}
 use Rattle.rulebook.specs.Sections.{accounts_of}
 use Rattle.rulebook.specs.Layout.{ring, slot, size, width, row_word, InWindow}
@@ -38,8 +38,8 @@ use Rattle.rulebook.specs.Bounds.{CloseSized}
 use Rattle.rulebook.proofs.FileTheorems.{FileTheorems, file-theorems}
 use Rattle.rulebook.proofs.examples.Figures.{Right, starred, starred-right}
 use Rattle.rulebook.proofs.examples.WorkedDay.{WorkedDay, worked-day}
-use Rattle.rulebook.proofs.examples.Examples.{RowExamples, row-examples, Headers, headers, Balances, balances, AccountWords, account-words, Ranges, ranges}
-use Rattle.rulebook.proofs.examples.AmountExamples.{BoundReached, bound_reached, ResidualOfThree, residual-of_three, ReportOfThree, report-of_three, LagOfTwo, lag-of_two}
+use Rattle.rulebook.proofs.examples.Examples.{RowExamples, row-examples, Headers, headers, Balances, balances, Differences, differences, AccountWords, account-words, Ranges, ranges}
+use Rattle.rulebook.proofs.examples.AmountExamples.{BoundReached, bound_reached, DifferenceReached, difference_reached, ResidualOfThree, residual-of_three, ReportOfThree, report-of_three, LagOfTwo, lag-of_two}
 use Rattle.rulebook.proofs.examples.LayoutExamples.{Places, places, NewHeader, new_header, Windows, windows}
 use Rattle.rulebook.proofs.examples.BookExamples.{Days, days}
 use Rattle.rulebook.proofs.examples.FileExamples.{BytesRead, bytes_read, FiguresRead, figures-read}
@@ -57,7 +57,7 @@ use Rattle.rulebook.proofs.laws.SecondShareLaws.{every-kwh}
 use Rattle.rulebook.proofs.laws.CallsLaws.{shares-called}
 use Rattle.rulebook.proofs.laws.TranchesLaws.{tranche-split}
 use Rattle.rulebook.proofs.laws.ReportLaws.{report-figures}
-use Rattle.rulebook.proofs.laws.DayAmountLaws.{interval-shares, residual-day_shares, posted-parts, posted-within, mssl-within}
+use Rattle.rulebook.proofs.laws.DayAmountLaws.{interval-shares, residual-day_shares, posted-parts, difference-parts, posted-within, mssl-within}
 use Rattle.rulebook.proofs.laws.WalkLaws.{days-are_places}
 use Rattle.rulebook.proofs.laws.WindowLaws.{window-days_apart, slot-day}
 use Rattle.rulebook.proofs.laws.FormedBookLaws.{formed-book, book-formed}
@@ -81,7 +81,7 @@ pub record Theorems : Type 0 where
   -- what an opening answers and leaves; a new book is well formed
   pub opening : OpeningHolds
   pub new_formed : (o : Terms) → InTerms o → (lent : List ℤ) → size o ≤ length lent → T (well_formed (new_book o lent))
-  -- on every list of calls after an accepted opening: balances, total, residual counts, 11 exactly when
+  -- on every list of calls after an accepted opening: balances, total, rounding differences, residual counts, 11 exactly when
   pub demand3 : Demand3OnCalls
   -- the same on every run of calls that keep their promises; every list of calls is such a run, and its history has these calls
   pub demand3_on_runs : Demand3Holds
@@ -106,7 +106,7 @@ pub record Theorems : Type 0 where
       → (s : Section) (a d i j : ℕ) → InWindow (terms_of w) (next_day w - (terms_of w).first) d → a < accounts_of s (terms_of w).accounts → i < intervals → j < width s
       → word (submitted w file).words (row_word (terms_of w) s a d i j) ≡ entry_or (last_for (file_rows file) s a d) (entries_of (terms_of w) w s a d) i j
   -- every word that an accepted file or close leaves, by its index: what is replaced, what grows, what is blanked, and that all else is as it was; the close's
-  -- statement, day and count
+  -- statement, day, count and difference
   pub submit_leaves : (w : List ℤ) (file : List ℕ) → (of_submit (submitted w file).answer).number ≡ accepted → SubmitLeaves (terms_of w) (named_rows file) w (submitted w file).words
   pub close_leaves : (w statement : List ℤ) → (of_close (closed w statement).answer).number ≡ accepted
       → CloseLeaves (terms_of w) (next_day w) w statement (of_close (closed w statement).answer) (closed w statement).words (closed w statement).statement
@@ -120,7 +120,7 @@ pub record Theorems : Type 0 where
   pub close_refused : (w statement : List ℤ) → (of_close (closed w statement).answer).number ≢ accepted → ((closed w statement).words ≡ w) × ((closed w statement).statement ≡ statement)
   pub submit_beyond : (w : List ℤ) (file : List ℕ) → T (well_formed w) → KeptFrom (size (terms_of w)) w (submitted w file).words
   pub close_beyond : (w statement : List ℤ) → T (well_formed w) → CloseKeeps w statement
-  -- data and amounts in range, balances too
+  -- data and amounts in range, balances and the rounding differences' sum too
   pub close_sized : (w : List ℤ) → T (well_formed w) → next_day w ≤ last_day → CloseSized w
   -- of any book, a close returns 3 exactly if it is not well formed; else 9 and 10 exactly by the table
   pub close_table : (w statement : List ℤ) → CloseTable w statement
@@ -153,17 +153,20 @@ pub record Theorems : Type 0 where
   -- what the two calls write
   pub shares_called : (r : ℤ) (uegq output : List ℤ) → SharesCalled r uegq output
   pub tranches : (rvq bvq mq : ℕ) → TrancheSplit rvq bvq mq
-  -- what is posted: the nearest cent to the day's sum, of the residual day's shares by its edition
+  -- what is posted: the nearest cent to the day's sum, of the residual day's shares by its edition; and the exact amount, which is that sum
   pub posted_parts : (o : Terms) (x : SettlementData) (a D : ℕ) → PostedParts o x a D
+  -- the rounding difference is what rounding leaves of each account's amount, together, within N × 500 (document 02, P5)
+  pub difference_parts : (o : Terms) (x : SettlementData) (D : ℕ) → DifferenceParts o x D
   -- posted cents are within 500 thousandths of the exact amount, the MSSL's within N × 500
   pub posted_within : (o : Terms) (x : SettlementData) (D a : ℕ) → nat_abs (pos 1000 *ℤ posted_amount o x a D -ℤ exact_amount o x a D) ≤ 500
   pub mssl_within : (o : Terms) (x : SettlementData) (D : ℕ) → nat_abs (pos 1000 *ℤ mssl_amount o x D -ℤ mssl_exact o x D) ≤ o.accounts * 500
   -- ---- Figures and examples
 
-  -- the starred figures, a day worked by hand, the bound of a day reached
+  -- the starred figures, a day worked by hand, the bounds of a day reached
   pub starred_right : Each Right starred
   pub worked_day : WorkedDay
   pub bound_reached : BoundReached
+  pub difference_reached : DifferenceReached
   -- R of three accounts, and the figures of their report; the residual day two days back
   pub residual_of_three : ResidualOfThree
   pub report_of_three : ReportOfThree
@@ -179,6 +182,7 @@ pub record Theorems : Type 0 where
   pub places : Places
   pub windows : Windows
   pub balances : Balances
+  pub differences : Differences
   pub account_words : AccountWords
   pub days : Days
   pub bytes_read : BytesRead
@@ -243,11 +247,13 @@ theorems = record {
   shares_called = shares-called;
   tranches = tranche-split;
   posted_parts = posted-parts;
+  difference_parts = difference-parts;
   posted_within = posted-within;
   mssl_within = mssl-within;
   starred_right = starred-right;
   worked_day = worked-day;
   bound_reached = bound_reached;
+  difference_reached = difference_reached;
   residual_of_three = residual-of_three;
   report_of_three = report-of_three;
   lag_of_two = lag-of_two;
@@ -260,6 +266,7 @@ theorems = record {
   places = places;
   windows = windows;
   balances = balances;
+  differences = differences;
   account_words = account-words;
   days = days;
   bytes_read = bytes_read;

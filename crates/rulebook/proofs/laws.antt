@@ -5,6 +5,7 @@ pub mod SharesLaws
 pub mod SecondShareLaws
 pub mod TranchesLaws
 pub mod ReportLaws
+pub mod SumLaws
 pub mod DayAmountLaws
 pub mod CallsLaws
 pub mod ProfileLaws

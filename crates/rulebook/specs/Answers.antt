@@ -11,6 +11,6 @@ OpenAnswer = Result (Unit {0}) OpenError
 abbrev pub SubmitAnswer : Type 0
 SubmitAnswer = Result (Unit {0}) SubmitError
 
--- an accepted close's day and residual count
+-- an accepted close's day, residual count and rounding difference
 abbrev pub CloseAnswer : Type 0
 CloseAnswer = Result CloseFigures CloseError

@@ -7,10 +7,10 @@ use Rattle.rulebook.specs.ReferencePrice.{most_facilities}
 use Rattle.rulebook.specs.Shares.{most_accounts}
 use Rattle.rulebook.specs.Terms.{earliest_first_day}
 use Rattle.rulebook.specs.DayAmount.{AccountData, SettlementData, tenders, settles_residual, residual_day}
-use Rattle.rulebook.specs.Layout.{balance_word, mssl_word}
+use Rattle.rulebook.specs.Layout.{balance_word, mssl_word, differences_word}
 use Rattle.rulebook.specs.BookData.{book_data, terms_of, next_day}
-use Rattle.rulebook.specs.WellFormed.{day_bound}
-use Rattle.rulebook.specs.Close.{posted as amountPosted, posted_to_mssl}
+use Rattle.rulebook.specs.WellFormed.{day_bound, difference_bound}
+use Rattle.rulebook.specs.Close.{posted as amountPosted, posted_to_mssl, day_difference}
 
 -- an account's data in range
 pub record Sized (x : AccountData) : Type 0 where
@@ -43,6 +43,10 @@ pub record CloseSized (w : List ℤ) : Type 0 where
   -- the posted amounts, and the MSSL's
   pub posted : (a : ℕ) → a < (terms_of w).accounts → nat_abs (amountPosted (terms_of w) w (next_day w) a) ≤ day_bound
   pub mssl : nat_abs (posted_to_mssl (terms_of w) w (next_day w)) ≤ (terms_of w).accounts * day_bound
+  -- the rounding difference, and what its sum grows to: k days are closed, and one more
+  pub difference : nat_abs (day_difference (terms_of w) w (next_day w)) ≤ (terms_of w).accounts * difference_bound
+  pub differences : nat_abs (word w differences_word +ℤ day_difference (terms_of w) w (next_day w))
+      ≤ (terms_of w).accounts * (suc (next_day w - (terms_of w).first) * difference_bound)
   -- the grown balances
   pub balances : (a : ℕ) → a < (terms_of w).accounts
       → nat_abs (word w (balance_word a) +ℤ amountPosted (terms_of w) w (next_day w) a) ≤ most_days * day_bound

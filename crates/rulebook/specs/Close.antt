@@ -1,4 +1,4 @@
--- Document 01, "Close". Assumes nothing.
+-- Document 01, "Close"; document 02, P5: the rounding difference. Assumes nothing.
 use Rattle.std.specs.Prelude.{Bool, cond, List, ℕ, zero, suc, ◌+◌, ◌*◌, ℤ, pos, ◌+ℤ◌, ltb, length, set, Option, Some, None, Ok, Err}
 use Rattle.integer.specs.Below.{first, or_else}
 use Rattle.integer.specs.Words.{word}
@@ -9,8 +9,8 @@ use Rattle.rulebook.specs.declared.Terms.{Terms}
 use Rattle.rulebook.specs.declared.CloseFigures.{CloseFigures}
 use Rattle.rulebook.specs.declared.CloseError.TheVariants.{BookIllFormed, Finished, NoRoom, DatumMissing}
 use Rattle.rulebook.specs.Units.{last_day, intervals}
-use Rattle.rulebook.specs.DayAmount.{settles_residual, residual_day, posted_amount, mssl_amount}
-use Rattle.rulebook.specs.Layout.{stored, next_day_word, mssl_word, balance_word, slot_length, slot_start, flag_word}
+use Rattle.rulebook.specs.DayAmount.{settles_residual, residual_day, posted_amount, mssl_amount, rounding_difference}
+use Rattle.rulebook.specs.Layout.{stored, next_day_word, mssl_word, differences_word, balance_word, slot_length, slot_start, flag_word}
 use Rattle.rulebook.specs.BookData.{book_data, terms_of, next_day}
 use Rattle.rulebook.specs.WellFormed.{is_zero, well_formed}
 
@@ -69,12 +69,20 @@ module _ (o : Terms) (w : List ℤ) (D : ℕ) where
   unfoldable pub posted_to_mssl : ℤ
   posted_to_mssl = mssl_amount o (book_data o w) D
 
+  -- the rounding difference: 1,000 times that less the MSSL's exact amount
+  unfoldable pub day_difference : ℤ
+  day_difference = rounding_difference o (book_data o w) D
+
   -- by what is posted
   abbrev pub balances_grown : ℕ → List ℤ
   balances_grown = balances_grown_by w posted
 
+  -- every sum: the balances, the MSSL's, the rounding difference
+  unfoldable pub sums_grown : List ℤ
+  sums_grown = set (set (balances_grown o.accounts) mssl_word (word w mssl_word +ℤ posted_to_mssl)) differences_word (word w differences_word +ℤ day_difference)
+
   unfoldable pub day_closed : List ℤ
-  day_closed = slot_blanked o D (set (set (balances_grown o.accounts) mssl_word (word w mssl_word +ℤ posted_to_mssl)) next_day_word (pos (suc D)))
+  day_closed = slot_blanked o D (set sums_grown next_day_word (pos (suc D)))
 
   -- N amounts, then the MSSL's
   unfoldable pub statement_written : List ℤ → List ℤ
@@ -87,8 +95,8 @@ unfoldable pub residual_count : Terms → ℕ → ℕ
 residual_count o D = cond (settles_residual o D) (intervals * o.accounts) 0
 
 -- what an accepted close answers
-abbrev pub close_figures : Terms → ℕ → CloseFigures
-close_figures o D = record { day = D; count = residual_count o D }
+abbrev pub close_figures : Terms → List ℤ → ℕ → CloseFigures
+close_figures o w D = record { day = D; count = residual_count o D; difference = day_difference o w D }
 
 -- what a close answers, and the words of book and statement that it leaves
 pub record Closing : Type 0 where
@@ -102,7 +110,7 @@ close_refused w st answer = record { answer = answer; words = w; statement = st 
 -- by what the search found
 unfoldable pub settled : Terms → List ℤ → ℕ → List ℤ → Option ℕ → Closing
 settled o w D st (Some n) = close_refused w st (Err (DatumMissing n))
-settled o w D st None = record { answer = Ok (close_figures o D); words = day_closed o w D; statement = statement_written o w D st }
+settled o w D st None = record { answer = Ok (close_figures o w D); words = day_closed o w D; statement = statement_written o w D st }
 
 -- by whether the book is well formed, whether no day is left, whether the statement is too short, and what the search found
 abbrev pub closed_by : Terms → List ℤ → ℕ → List ℤ → Bool → Bool → Bool → Option ℕ → Closing

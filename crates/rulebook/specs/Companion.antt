@@ -14,7 +14,7 @@ use Rattle.rulebook.specs.File.{Row}
 use Rattle.rulebook.specs.Judging.{limits_of, judged}
 use Rattle.rulebook.specs.Close.{searched, needed_day, residual_count}
 use Rattle.rulebook.specs.Numbers.{Answer, numbered, accepted, outside_range, words_too_few, not_well_formed, book_finished, output_too_short, datum_absent, of_open, of_verdict, of_submit, of_close}
-use Rattle.rulebook.specs.History.{Event, closing_day, in_force, formula_amount}
+use Rattle.rulebook.specs.History.{Event, closing_day, in_force, formula_amount, formula_difference}
 use Rattle.rulebook.specs.Promises.{OpenPromise, Run, begun, then_submit, then_close}
 
 -- ---- A submission: what the judge says at C = F + k
@@ -22,7 +22,7 @@ use Rattle.rulebook.specs.Promises.{OpenPromise, Run, begun, then_submit, then_c
 abbrev pub submit_told : Terms → List Event → List ℕ → Answer
 submit_told o past file = of_verdict (judged (limits_of o (closing_day o past)) file)
 
--- ---- A close: 9 when no day is left, else 10 without room, else 11 when a needed row is missing, else 0 with day and count
+-- ---- A close: 9 when no day is left, else 10 without room, else 11 when a needed row is missing, else 0 with day, count and rounding difference
 
 -- a row that is not in force lacks all its flags, the first of them in interval 0
 abbrev pub flag_lacking : Option Row → ℕ → Option ℕ
@@ -39,7 +39,7 @@ module _ (o : Terms) (past : List Event) where
 
   abbrev pub search_answered : Option ℕ → Answer
   search_answered (Some at) = numbered datum_absent at
-  search_answered None = record { number = accepted; position = 0; day = closing_day o past; count = residual_count o (closing_day o past) }
+  search_answered None = record { number = accepted; position = 0; day = closing_day o past; count = residual_count o (closing_day o past); difference = formula_difference o past }
 
   unfoldable pub close_told : List ℤ → Answer
   close_told statement =
@@ -54,7 +54,7 @@ pub record KeptFrom (n : ℕ) (before after : List ℤ) : Type 0 where
   pub long : length after ≡ length before
   pub words : (m : ℕ) → n ≤ m → word after m ≡ word before m
 
--- an opening: 0 exactly if each parameter is in its range and the words suffice, and then 395, N, L, H, F, F, 0, X and zeros to the size;
+-- an opening: 0 exactly if each parameter is in its range and the words suffice, and then 395, N, L, H, F, F, 0, X, 0 and zeros to the size;
 -- 1 exactly if a parameter is out of range, else 2; every other figure is 0
 pub record OpenTells (o : Terms) (before : List ℤ) (answer : Answer) (after : List ℤ) : Type 0 where
   pub taken : (answer ≡ numbered accepted 0) ↔ (InTerms o × (size o ≤ length before))

@@ -1,6 +1,6 @@
 -- Document 01, "Day amount": the data by name, and the formula over them; document 02, P2: the edition of a residual day; P3: the figures of the holders'
--- reports. Assumes nothing.
-use Rattle.std.specs.Prelude.{◌≡◌, Bool, cond, not, ◌&&◌, ◌≢◌, ◌⊎◌, ℕ, ◌+◌, ◌-◌, ◌≤◌, ◌<◌, min, leb, eqb, ℤ, pos, neg_ℤ, ◌+ℤ◌, ◌-ℤ◌, ◌*ℤ◌}
+-- reports; P5: the rounding difference. Assumes nothing.
+use Rattle.std.specs.Prelude.{◌≡◌, Bool, cond, not, ◌&&◌, ◌≢◌, ◌⊎◌, ℕ, ◌+◌, ◌-◌, ◌*◌, ◌≤◌, ◌<◌, min, leb, eqb, ℤ, pos, neg_ℤ, nat_abs, ◌+ℤ◌, ◌-ℤ◌, ◌*ℤ◌}
 use Rattle.integer.specs.Below.{sum_ℕ, sum_ℤ}
 use Rattle.integer.specs.Nearest.{IsNearest}
 use Rattle.rulebook.specs.declared.Terms.{Terms}
@@ -151,6 +151,10 @@ module _ (o : Terms) where
   unfoldable pub mssl_exact : SettlementData → ℕ → ℤ
   mssl_exact x D = minus_sum o.accounts (λ a. exact_amount x a D)
 
+  -- 1,000 times what is posted to the MSSL less that, in thousandths of a cent (document 02, P5)
+  unfoldable pub rounding_difference : SettlementData → ℕ → ℤ
+  rounding_difference x D = pos thousandths_per_cent *ℤ mssl_amount x D -ℤ mssl_exact x D
+
   -- the shares of a residual day at an interval
   module _ (x : SettlementData) (r i : ℕ) where
     -- R, each UEGQ and each share
@@ -171,10 +175,24 @@ module _ (o : Terms) where
       pub changed_shares : o.change ≢ 0 → o.change ≤ r → (a : ℕ) → share_at a ≡ second_share residual_load_at o.accounts uegq_at a
       pub changed_total : o.change ≢ 0 → o.change ≤ r → sum_ℕ o.accounts share_at ≡ min (spare_of o.accounts uegq_at) (positive residual_load_at)
 
-  -- what a close of D posts to account a is the nearest cent to the sum over the intervals of vesting of D and, if it settles a residual day, of r's share by r's
-  -- edition, priced with r's own V, BVQ, MQ and prices
+  -- an account's amount for D by its parts: the sum over the intervals of vesting of D and, if its close settles a residual day, of r's share by r's edition, priced with
+  -- r's own V, BVQ, MQ and prices
+  abbrev pub parts_settled : SettlementData → ℕ → ℕ → ℤ
+  parts_settled x a D = sum_ℤ intervals (λ i. vesting_amount (x.account a D i)
+      +ℤ share_amount (x.account a (D - o.lag) i) (reference_price_of (x.account a (D - o.lag) i)) (share_at x (D - o.lag) i a))
+
+  abbrev pub parts_unsettled : SettlementData → ℕ → ℕ → ℤ
+  parts_unsettled x a D = sum_ℤ intervals (λ i. vesting_amount (x.account a D i))
+
+  -- what a close of D posts to account a is the nearest cent to that, and the exact amount is that
   pub record PostedParts (x : SettlementData) (a D : ℕ) : Type 0 where
-    pub settles : o.first + o.lag ≤ D
-        → IsNearest (sum_ℤ intervals (λ i. vesting_amount (x.account a D i)
-        +ℤ share_amount (x.account a (D - o.lag) i) (reference_price_of (x.account a (D - o.lag) i)) (share_at x (D - o.lag) i a))) 1000 (posted_amount x a D)
-    pub settles_none : D < o.first + o.lag → IsNearest (sum_ℤ intervals (λ i. vesting_amount (x.account a D i))) 1000 (posted_amount x a D)
+    pub settles : o.first + o.lag ≤ D → IsNearest (parts_settled x a D) 1000 (posted_amount x a D)
+    pub settles_none : D < o.first + o.lag → IsNearest (parts_unsettled x a D) 1000 (posted_amount x a D)
+    pub exact_settles : o.first + o.lag ≤ D → exact_amount x a D ≡ parts_settled x a D
+    pub exact_settles_none : D < o.first + o.lag → exact_amount x a D ≡ parts_unsettled x a D
+
+  -- the difference is what rounding leaves of each account's amount, together: exact less 1,000 times posted, of an account at most 500 either way
+  pub record DifferenceParts (x : SettlementData) (D : ℕ) : Type 0 where
+    pub accounts : rounding_difference x D ≡ sum_ℤ o.accounts (λ a. exact_amount x a D -ℤ pos 1000 *ℤ posted_amount x a D)
+    pub each : (a : ℕ) → nat_abs (exact_amount x a D -ℤ pos 1000 *ℤ posted_amount x a D) ≤ 500
+    pub within : nat_abs (rounding_difference x D) ≤ o.accounts * 500

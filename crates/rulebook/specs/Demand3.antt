@@ -8,10 +8,10 @@ use Rattle.rulebook.specs.declared.Section.TheVariants.{Vesting, Meter, Residual
 use Rattle.rulebook.specs.declared.Terms.{Terms}
 use Rattle.rulebook.specs.Units.{last_day, intervals}
 use Rattle.rulebook.specs.DayAmount.{settles_residual, residual_day}
-use Rattle.rulebook.specs.Layout.{balance_word, mssl_word}
+use Rattle.rulebook.specs.Layout.{balance_word, mssl_word, differences_word}
 use Rattle.rulebook.specs.Opening.{opened}
 use Rattle.rulebook.specs.Numbers.{Answer, accepted, datum_absent, of_open}
-use Rattle.rulebook.specs.History.{Call, submit, close, Event, closes, closing_day, in_force, formula_balance, residual_counts}
+use Rattle.rulebook.specs.History.{Call, submit, close, Event, closes, closing_day, in_force, formula_balance, residual_counts, formula_differences, returned_differences}
 use Rattle.rulebook.specs.Promises.{OpenPromise, Run, book_of, history_of}
 
 -- ---- A close reports a missing datum exactly when
@@ -51,11 +51,18 @@ EachReported o (e ∷ past) = Reported o e.call e.answer past × EachReported o 
 abbrev pub ResidualsCounted : Terms → List Event → Type 0
 ResidualsCounted o past = residual_counts past ≡ intervals * o.accounts * (closes past - o.lag)
 
+-- the rounding differences that the calls returned are those of the closed days
+abbrev pub DifferencesReturned : Terms → List Event → Type 0
+DifferencesReturned o past = returned_differences past ≡ formula_differences o past
+
 pub record Demand3 (o : Terms) (book : List ℤ) (past : List Event) : Type 0 where
   -- each balance is the sum of the account's formula amounts over the closed days
   pub balances : (a : ℕ) → a < o.accounts → word book (balance_word a) ≡ formula_balance o past a
   -- all balances and the MSSL's sum to zero
   pub total : sum_ℤ o.accounts (λ a. word book (balance_word a)) +ℤ word book mssl_word ≡ pos 0
+  -- word 8 is the sum of the closed days' rounding differences, and those returned add up to it (document 02, P5)
+  pub differences : word book differences_word ≡ formula_differences o past
+  pub returned : DifferencesReturned o past
   pub residuals : ResidualsCounted o past
   pub reported : EachReported o past
 

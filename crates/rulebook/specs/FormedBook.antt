@@ -1,4 +1,4 @@
--- Document 01, "The book": well formed, said in its own figures (document 02, P2: word 7); FormedBookLaws joins it with the test. Assumes nothing.
+-- Document 01, "The book": well formed, said in its own figures (document 02, P2: word 7; P5: word 8); FormedBookLaws joins it with the test. Assumes nothing.
 use Rattle.std.specs.Prelude.{◌≡◌, ◌≢◌, List, ℕ, ◌+◌, ◌-◌, ◌*◌, ◌≤◌, ◌<◌, ℤ, pos, nat_abs, length, ◌≤ℤ◌}
 use Rattle.integer.specs.Integer.{minus}
 use Rattle.integer.specs.Words.{word}
@@ -93,7 +93,8 @@ pub record FormedBook (o : Terms) (C : ℕ) (w : List ℤ) : Type 0 where
   pub next : word w 5 ≡ pos C
   pub mssl : nat_abs (word w 6) ≤ o.accounts * ((C - o.first) * 4800000000000)
   pub change : word w 7 ≡ pos o.change
-  pub header_zeros : (n : ℕ) → 8 ≤ n → n < 64 → word w n ≡ pos 0
+  pub differences : nat_abs (word w 8) ≤ 500 * o.accounts * (C - o.first)
+  pub header_zeros : (n : ℕ) → 9 ≤ n → n < 64 → word w n ≡ pos 0
   pub balances : (a : ℕ) → a < o.accounts → nat_abs (word w (64 + 8 * a)) ≤ (C - o.first) * 4800000000000
   pub balance_zeros : (a j : ℕ) → a < o.accounts → 1 ≤ j → j < 8 → word w (64 + 8 * a + j) ≡ pos 0
   pub terms : InTerms o

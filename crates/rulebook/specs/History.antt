@@ -4,7 +4,7 @@ use Rattle.std.specs.Prelude.{Bool, true, false, cond, ◌&&◌, List, [], ◌�
 use Rattle.rulebook.specs.declared.Section.{Section}
 use Rattle.rulebook.specs.declared.Section.TheVariants.{Meter}
 use Rattle.rulebook.specs.declared.Terms.{Terms}
-use Rattle.rulebook.specs.DayAmount.{AccountData, SettlementData, posted_amount}
+use Rattle.rulebook.specs.DayAmount.{AccountData, SettlementData, posted_amount, rounding_difference}
 use Rattle.rulebook.specs.Sections.{same_section, figure_section, account_by, load_by}
 use Rattle.rulebook.specs.File.{Row, file_rows, Figure, figure_of}
 use Rattle.rulebook.specs.Numbers.{Answer, accepted}
@@ -50,6 +50,11 @@ closing_day o past = o.first + closes past
 unfoldable pub residual_counts : List Event → ℕ
 residual_counts [] = 0
 residual_counts (e ∷ past) = cond (is_close e.call) (residual_counts past + e.answer.count) (residual_counts past)
+
+-- the rounding differences that the calls returned
+unfoldable pub returned_differences : List Event → ℤ
+returned_differences [] = pos 0
+returned_differences (e ∷ past) = returned_differences past +ℤ e.answer.difference
 
 -- ---- Rows in force
 
@@ -107,7 +112,7 @@ account_in_force rows a d i = account_by (figure_in_force rows a d i) (count_in 
 abbrev pub data_in_force : RowsInForce → SettlementData
 data_in_force rows = record { account = account_in_force rows; load = λ d i. load_by (figure_in_force rows 0 d i) }
 
--- ---- Formula amounts
+-- ---- Formula amounts, and the rounding difference
 
 module _ (o : Terms) where
   -- account a's, for the day that a close after this history is of
@@ -118,3 +123,11 @@ module _ (o : Terms) where
   unfoldable pub formula_balance : List Event → ℕ → ℤ
   formula_balance [] a = pos 0
   formula_balance (e ∷ past) a = cond (accepted_close e) (formula_balance past a +ℤ formula_amount past a) (formula_balance past a)
+
+  -- 1,000 times what that close posts to the MSSL less its exact amount, and the sum of these over the closed days
+  unfoldable pub formula_difference : List Event → ℤ
+  formula_difference past = rounding_difference o (data_in_force (in_force past)) (closing_day o past)
+
+  unfoldable pub formula_differences : List Event → ℤ
+  formula_differences [] = pos 0
+  formula_differences (e ∷ past) = cond (accepted_close e) (formula_differences past +ℤ formula_difference past) (formula_differences past)

@@ -45,16 +45,20 @@ mssl_word = 6
 abbrev pub change_day_word : ℕ
 change_day_word = 7
 
+-- the running sum of the rounding differences (document 02, P5)
+abbrev pub differences_word : ℕ
+differences_word = 8
+
 -- word 0 of every book
 abbrev pub book_mark : ℕ
 book_mark = 395
 
 -- the header's zeros, to word 63
 abbrev pub header_padding_words : ℕ
-header_padding_words = 56
+header_padding_words = 55
 
 abbrev pub header_padding : ℕ → ℕ
-header_padding n = 8 + n
+header_padding n = 9 + n
 
 -- ---- Accounts
 

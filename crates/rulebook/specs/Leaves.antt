@@ -1,12 +1,12 @@
 -- Document 01, "Close" and "A submission file": what an accepted call leaves of a lent book, word by word. Every index is in its figures, and every index
 -- is one of those named or among `others`; LeavesLaws joins this with the calls. Assumes nothing.
-use Rattle.std.specs.Prelude.{◌≡◌, ◌≢◌, List, [], ◌∷◌, ℕ, ◌+◌, ◌-◌, ◌*◌, ◌%◌, ◌≤◌, ◌<◌, ℤ, pos, neg_ℤ, ◌+ℤ◌, length}
+use Rattle.std.specs.Prelude.{◌≡◌, ◌≢◌, List, [], ◌∷◌, ℕ, ◌+◌, ◌-◌, ◌*◌, ◌%◌, ◌≤◌, ◌<◌, ℤ, pos, neg_ℤ, ◌+ℤ◌, ◌-ℤ◌, ◌*ℤ◌, length}
 use Rattle.integer.specs.Below.{sum_ℤ, Each}
 use Rattle.integer.specs.Words.{word}
 use Rattle.rulebook.specs.declared.Section.{Section}
 use Rattle.rulebook.specs.declared.Section.TheVariants.{Vesting, Meter, Residual, Ncc}
 use Rattle.rulebook.specs.declared.Terms.{Terms}
-use Rattle.rulebook.specs.DayAmount.{posted_amount}
+use Rattle.rulebook.specs.DayAmount.{posted_amount, mssl_exact}
 use Rattle.rulebook.specs.Sections.{Figure, BVQ, BVP, TVQ, TVP, MEP, IEQ, UEGQ, MQ, RVP1, RVP2, NccLoad}
 use Rattle.rulebook.specs.Layout.{size}
 use Rattle.rulebook.specs.BookData.{book_data, terms_of}
@@ -23,23 +23,26 @@ day_index o d i m = 64 + 8 * o.accounts + (((d - o.first) % (o.lag + o.horizon) 
 
 -- of a book with these terms, C the next day to close: its answer, the book after it, the statement as written
 pub record CloseLeaves (o : Terms) (C : ℕ) (before statement : List ℤ) (answer : Answer) (after written : List ℤ) : Type 0 where
-  -- 0, the day, and the residual count: 48N if r = C − L is not before F, else 0
+  -- 0, the day, the residual count: 48N if r = C − L is not before F, else 0; the rounding difference: 1,000 times what the MSSL's word of the statement says,
+  -- less its exact amount
   pub number : answer.number ≡ 0
   pub position : answer.position ≡ 0
   pub day : answer.day ≡ C
   pub residuals : o.first + o.lag ≤ C → answer.count ≡ 48 * o.accounts
   pub no_residuals : C < o.first + o.lag → answer.count ≡ 0
+  pub difference : answer.difference ≡ pos 1000 *ℤ word written o.accounts -ℤ mssl_exact o (book_data o before) C
   -- the statement: formula amounts, then the MSSL's, minus their sum; words beyond kept
   pub amounts : (a : ℕ) → a < o.accounts → word written a ≡ posted_amount o (book_data o before) a C
   pub mssl_amount : word written o.accounts ≡ neg_ℤ (sum_ℤ o.accounts (word written))
   pub beyond : KeptFrom (o.accounts + 1) statement written
-  -- C rises by one, balances grow by the statement's words, r's slot is blank if r is not before F
+  -- C rises by one, balances grow by the statement's words, word 8 by the difference returned, r's slot is blank if r is not before F
   pub next_day : word after 5 ≡ word before 5 +ℤ pos 1
   pub mssl : word after 6 ≡ word before 6 +ℤ word written o.accounts
+  pub differences : word after 8 ≡ word before 8 +ℤ answer.difference
   pub balances : (a : ℕ) → a < o.accounts → word after (64 + 8 * a) ≡ word before (64 + 8 * a) +ℤ word written a
   pub blank : o.first + o.lag ≤ C → (i m : ℕ) → i < 48 → m < 4 + 24 * o.accounts → word after (day_index o (C - o.lag) i m) ≡ pos 0
   -- every other word is as it was, and no word comes or goes
-  pub others : (n : ℕ) → n ≢ 5 → n ≢ 6 → ((a : ℕ) → a < o.accounts → n ≢ 64 + 8 * a)
+  pub others : (n : ℕ) → n ≢ 5 → n ≢ 6 → n ≢ 8 → ((a : ℕ) → a < o.accounts → n ≢ 64 + 8 * a)
       → (o.first + o.lag ≤ C → (i m : ℕ) → i < 48 → m < 4 + 24 * o.accounts → n ≢ day_index o (C - o.lag) i m) → word after n ≡ word before n
   pub long : length after ≡ length before
 

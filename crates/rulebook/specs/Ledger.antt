@@ -11,22 +11,23 @@ use Rattle.rulebook.specs.declared.Terms.{Terms}
 use Rattle.rulebook.specs.Units.{last_day, intervals}
 use Rattle.rulebook.specs.DayAmount.{minus_sum}
 use Rattle.rulebook.specs.Sections.{accounts_of, least_count, most_count, per_interval, value_in_range}
-use Rattle.rulebook.specs.Layout.{width, interval_size, ring, size, InWindow, interval_word, row_word, padding, is_padding, interval_table, account_table, account_place, interval_words, account_words, book_mark, mark_word, accounts_word, lag_word, horizon_word, first_day_word, next_day_word, mssl_word, change_day_word, balance_word, balance_padding, header_padding, header_padding_words, balance_padding_words}
+use Rattle.rulebook.specs.Layout.{width, interval_size, ring, size, InWindow, interval_word, row_word, padding, is_padding, interval_table, account_table, account_place, interval_words, account_words, book_mark, mark_word, accounts_word, lag_word, horizon_word, first_day_word, next_day_word, mssl_word, change_day_word, differences_word, balance_word, balance_padding, header_padding, header_padding_words, balance_padding_words}
 use Rattle.rulebook.specs.BookData.{Entries, terms_of, next_day, entries_of}
 use Rattle.rulebook.specs.WellFormed.{day_bound}
 use Rattle.rulebook.specs.WindowWalk.{window_slot}
 use Rattle.rulebook.specs.File.{Row}
 use Rattle.rulebook.specs.Submit.{entry, entry_or}
-use Rattle.rulebook.specs.History.{Event, closes, RowsInForce, is_for, in_force, formula_balance}
-use Rattle.rulebook.specs.Demand3.{ResidualsCounted, EachReported}
+use Rattle.rulebook.specs.History.{Event, closes, RowsInForce, is_for, in_force, formula_balance, formula_differences}
+use Rattle.rulebook.specs.Demand3.{ResidualsCounted, DifferencesReturned, EachReported}
 
 -- a book told apart from its words: how many days are closed, what stands in each row by section, account, day, interval and place, and the balances in
--- cents
+-- cents, and the rounding differences' sum
 pub record Ledger : Type 0 where
   pub closed : ℕ
   pub entries : Entries
   pub balance : ℕ → ℤ
   pub mssl : ℤ
+  pub differences : ℤ
 
 -- ---- Above: the ledger of a history
 
@@ -37,12 +38,13 @@ entry_of x = entry_or x (λ i j. pos 0)
 abbrev pub entries_in : RowsInForce → Entries
 entries_in rows s a d i j = entry_of (rows s a d) i j
 
--- of k closed days, rows in force and balances; the MSSL has minus their sum
-abbrev pub ledger : Terms → ℕ → RowsInForce → (ℕ → ℤ) → Ledger
-ledger o k rows balance = record { closed = k; entries = entries_in rows; balance = balance; mssl = minus_sum o.accounts balance }
+-- of k closed days, rows in force, balances and rounding differences; the MSSL has minus the balances' sum
+abbrev pub ledger : Terms → ℕ → RowsInForce → (ℕ → ℤ) → ℤ → Ledger
+ledger o k rows balance differences =
+    record { closed = k; entries = entries_in rows; balance = balance; mssl = minus_sum o.accounts balance; differences = differences }
 
 abbrev pub ledger_after : Terms → List Event → Ledger
-ledger_after o past = ledger o (closes past) (in_force past) (formula_balance o past)
+ledger_after o past = ledger o (closes past) (in_force past) (formula_balance o past) (formula_differences o past)
 
 -- ---- A submission to a ledger
 
@@ -56,10 +58,10 @@ overlaid (r ∷ rs) g = overlaid rs (replaced r g)
 
 -- all else stays
 abbrev pub filed : Row → Ledger → Ledger
-filed r b = record { closed = b.closed; entries = replaced r b.entries; balance = b.balance; mssl = b.mssl }
+filed r b = record { closed = b.closed; entries = replaced r b.entries; balance = b.balance; mssl = b.mssl; differences = b.differences }
 
 abbrev pub submitted_to : List Row → Ledger → Ledger
-submitted_to rs b = record { closed = b.closed; entries = overlaid rs b.entries; balance = b.balance; mssl = b.mssl }
+submitted_to rs b = record { closed = b.closed; entries = overlaid rs b.entries; balance = b.balance; mssl = b.mssl; differences = b.differences }
 
 -- ---- Below: the words that hold a ledger
 
@@ -80,6 +82,7 @@ pub record HoldsLedger (o : Terms) (b : Ledger) (w : List ℤ) : Type 0 where
   pub next : word w next_day_word ≡ pos (o.first + b.closed)
   pub mssl : word w mssl_word ≡ b.mssl
   pub change : word w change_day_word ≡ pos o.change
+  pub differences : word w differences_word ≡ b.differences
   pub header_zeros : (n : ℕ) → n < header_padding_words → word w (header_padding n) ≡ pos 0
   -- the accounts
   pub balances : (a : ℕ) → a < o.accounts → word w (balance_word a) ≡ b.balance a
@@ -92,7 +95,13 @@ pub record HoldsLedger (o : Terms) (b : Ledger) (w : List ℤ) : Type 0 where
 
 -- the ledger that a book's own words tell
 abbrev pub ledger_of : List ℤ → Ledger
-ledger_of w = record { closed = next_day w - (terms_of w).first; entries = entries_of (terms_of w) w; balance = λ a. word w (balance_word a); mssl = word w mssl_word }
+ledger_of w = record {
+  closed = next_day w - (terms_of w).first;
+  entries = entries_of (terms_of w) w;
+  balance = λ a. word w (balance_word a);
+  mssl = word w mssl_word;
+  differences = word w differences_word;
+}
 
 -- ---- What is true after a history
 
@@ -114,9 +123,10 @@ pub record Kept (o : Terms) (k : ℕ) (rows : RowsInForce) (balance : ℕ → �
   pub bounded : (a : ℕ) → a < o.accounts → nat_abs (balance a) ≤ k * day_bound
   pub begun : o.first + k ≤ suc last_day
 
--- the words hold the history's ledger; demand 3's counts and its 11 are as the history tells
+-- the words hold the history's ledger; demand 3's counts, differences returned and its 11 are as the history tells
 pub record State (o : Terms) (past : List Event) (w : List ℤ) : Type 0 where
   pub holds : HoldsLedger o (ledger_after o past) w
   pub kept : Kept o (closes past) (in_force past) (formula_balance o past)
   pub counted : ResidualsCounted o past
+  pub returned : DifferencesReturned o past
   pub reported : EachReported o past

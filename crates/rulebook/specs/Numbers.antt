@@ -87,11 +87,11 @@ packed_field_wrong = 16
 abbrev pub checked : {A : Type 0} → Bool → A → A → A
 checked met refusal rest = cond met rest refusal
 
--- ---- Open, submit, close: number, position of a refusal, an accepted close's day and residual count
+-- ---- Open, submit, close: number, position of a refusal, an accepted close's day, residual count and rounding difference
 
 -- every other figure is 0
 abbrev pub numbered : ℕ → ℕ → Answer
-numbered n p = record { number = n; position = p; day = 0; count = 0 }
+numbered n p = record { number = n; position = p; day = 0; count = 0; difference = pos 0 }
 
 abbrev pub why_number : Why → ℕ
 why_number NotWhole = field_not_whole
@@ -116,7 +116,7 @@ of_submit (Err IllFormed) = numbered not_well_formed 0
 of_submit (Err (FileRefused r)) = of_verdict (Err r)
 
 abbrev pub of_close : CloseAnswer → Answer
-of_close (Ok c) = record { number = accepted; position = 0; day = c.day; count = c.count }
+of_close (Ok c) = record { number = accepted; position = 0; day = c.day; count = c.count; difference = c.difference }
 of_close (Err BookIllFormed) = numbered not_well_formed 0
 of_close (Err Finished) = numbered book_finished 0
 of_close (Err NoRoom) = numbered output_too_short 0

@@ -8,7 +8,7 @@ use Rattle.rulebook.specs.Close.{closed}
 use Rattle.rulebook.specs.Numbers.{Answer, of_open, of_submit, of_close}
 use Rattle.rulebook.specs.History.{Call, Event, submit, close}
 
--- ---- The promises: number, position, day and count returned, and every lent word after, by the words before and the arguments
+-- ---- The promises: number, position, day, count and difference returned, and every lent word after, by the words before and the arguments
 
 pub record OpenPromise (o : Terms) (before : List ℤ) (answer : OpenAnswer) (after : List ℤ) : Type 0 where
   pub answered : of_open answer ≡ of_open (opened o before).answer

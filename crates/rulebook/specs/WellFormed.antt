@@ -9,12 +9,16 @@ use Rattle.rulebook.specs.declared.Terms.{Terms}
 use Rattle.rulebook.specs.Units.{last_day, intervals, between}
 use Rattle.rulebook.specs.Terms.{terms_fit}
 use Rattle.rulebook.specs.Sections.{value_in_range, per_interval, least_count, most_count, figure_place}
-use Rattle.rulebook.specs.Layout.{book_mark, mark_word, first_day_word, next_day_word, mssl_word, change_day_word, balance_word, header_padding_words, header_padding, balance_padding_words, balance_padding, Word, flag, figure, padding, is_padding, interval_table, account_table, account_place, present, width, word_name, table_place, flag_at, interval_length, ring, size, interval_word, slot, window_from, window_days}
+use Rattle.rulebook.specs.Layout.{book_mark, mark_word, first_day_word, next_day_word, mssl_word, change_day_word, differences_word, balance_word, header_padding_words, header_padding, balance_padding_words, balance_padding, Word, flag, figure, padding, is_padding, interval_table, account_table, account_place, present, width, word_name, table_place, flag_at, interval_length, ring, size, interval_word, slot, window_from, window_days}
 use Rattle.rulebook.specs.BookData.{terms_of, next_day}
 
 -- a day's amount is at most so many cents, either way, and can be (`BoundReached`)
 abbrev pub day_bound : ℕ
 day_bound = 4800000000000
+
+-- and its rounding leaves at most so many thousandths of a cent, either way, and can (`DifferenceReached`)
+abbrev pub difference_bound : ℕ
+difference_bound = 500
 
 abbrev pub is_zero : ℤ → Bool
 is_zero = between (pos 0) (pos 0)
@@ -102,9 +106,16 @@ module _ (o : Terms) (w : List ℤ) where
 
 -- ---- Balances and header
 
--- n accounts' balance z after k closed days
-unfoldable pub balance_fits : ℕ → ℕ → ℤ → Bool
-balance_fits n k z = leb (nat_abs z) (n * (k * day_bound))
+-- a sum z over n accounts and k closed days, of at most so much each
+unfoldable pub sum_fits : ℕ → ℕ → ℕ → ℤ → Bool
+sum_fits most n k z = leb (nat_abs z) (n * (k * most))
+
+-- n accounts' balance, and their rounding difference, after k closed days
+abbrev pub balance_fits : ℕ → ℕ → ℤ → Bool
+balance_fits = sum_fits day_bound
+
+abbrev pub differences_fit : ℕ → ℕ → ℤ → Bool
+differences_fit = sum_fits difference_bound
 
 -- account a's eight words: its balance, and zeros
 unfoldable pub balance_words_fit : List ℤ → ℕ → ℕ → Bool
@@ -128,9 +139,9 @@ header_fits w = between (pos book_mark) (pos book_mark) (word w mark_word) && te
 
 -- ---- The book
 
--- with its terms, C the next day to close: balances and days
+-- with its terms, C the next day to close: the MSSL's balance, the rounding difference, the accounts' balances, days
 unfoldable pub contents_fit : Terms → List ℤ → ℕ → Bool
-contents_fit o w C = balance_fits o.accounts (C - o.first) (word w mssl_word) && balances_fit w (C - o.first) o.accounts && days_fit o w C
+contents_fit o w C = balance_fits o.accounts (C - o.first) (word w mssl_word) && differences_fit o.accounts (C - o.first) (word w differences_word) && balances_fit w (C - o.first) o.accounts && days_fit o w C
 
 unfoldable pub fits : Terms → List ℤ → ℕ → Bool
 fits o w C = header_fits w && leb (size o) (length w) && contents_fit o w C

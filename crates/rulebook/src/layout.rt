@@ -22,7 +22,10 @@ pub const MSSL: usize = 6;
 
 pub const CHANGE_DAY: usize = 7;
 
-pub const HEADER_SPARES: usize = 8;
+// The running sum of the rounding differences (document 02, P5).
+pub const DIFFERENCES: usize = 8;
+
+pub const HEADER_SPARES: usize = 9;
 
 pub const HEADER_WORDS: usize = 64;
 

@@ -96,11 +96,12 @@ impl From<Refusal> for SubmitError {
     }
 }
 
-// The figures of an accepted close: its day and residual count.
+// The figures of an accepted close: its day, its residual count, and the rounding difference: 1,000 times the MSSL's cents less its exact amount.
 #[derive(Clone, Copy, PartialEq, Eq, Debug)]
 pub struct CloseFigures {
     pub day: usize,
     pub count: usize,
+    pub difference: i64,
 }
 
 // Why a close is refused; a missing datum with its flag's index.
@@ -128,7 +129,8 @@ pub struct Tranches {
     pub second: i64,
 }
 
-// What open, submit and close return: number, position of a refusal, an accepted close's day and residual count; every other figure is 0.
+// What open, submit and close return: number, position of a refusal, an accepted close's day, residual count and rounding difference; every
+// other figure is 0.
 // Programs in other languages get it, hence C's layout.
 #[repr(C)]
 #[derive(Clone, Copy)]
@@ -137,6 +139,7 @@ pub struct Answer {
     pub position: u64,
     pub day: u64,
     pub count: u64,
+    pub difference: i64,
 }
 
 // What the reference price call returns: number, and V in cents per MWh; refused, 0. In C's layout, as Answer.

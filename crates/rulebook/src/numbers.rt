@@ -78,6 +78,7 @@ fn numbered(n: u64, position: usize) -> Answer
         position: position as u64,
         day: 0,
         count: 0,
+        difference: 0,
     }
 }
 
@@ -115,6 +116,7 @@ impl From<Result<CloseFigures, CloseError>> for Answer {
                 position: 0,
                 day: figures.day as u64,
                 count: figures.count as u64,
+                difference: figures.difference,
             },
             Err(CloseError::BookIllFormed) => numbered(NOT_WELL_FORMED, 0),
             Err(CloseError::Finished) => numbered(BOOK_FINISHED, 0),

@@ -49,3 +49,6 @@ pub const EARLIEST_FIRST_DAY: usize = 9497;
 
 // A balance grows by no more cents a closed day, either way.
 pub const DAY_BOUND: usize = 4800000000000;
+
+// Document 02, P5: a closed day leaves no more thousandths of a cent of an account, either way.
+pub const DIFFERENCE_BOUND: usize = 500;

@@ -4,7 +4,8 @@
 
 use robijan::{
     balance, book_words, close, date, day, final_statement, missing, mssl_balance, numbers, open,
-    pack, residual_due, submit, unpack, Closed, Refusal, Terms, PACKED_FIELD_BYTES,
+    pack, residual_due, rounding_differences, submit, unpack, Closed, Refusal, Terms,
+    PACKED_FIELD_BYTES,
 };
 use std::error::Error;
 use std::io::Write;
@@ -48,11 +49,11 @@ fn contracts(day: u16) -> Vec<u8> {
     file.byte(0);
     file.all_day(&[400, 15_000]);
 
-    // Account 1: no base contract; 100 kWh at 9,000 cents per MWh under one tender contract.
+    // Account 1: no base contract; 100 kWh at 9,001 cents per MWh under one tender contract.
     file.byte(1);
     file.short(day);
     file.byte(1);
-    file.all_day(&[0, 0, 100, 9_000]);
+    file.all_day(&[0, 0, 100, 9_001]);
 
     file.short(2); // section 2: two meter rows
 
@@ -110,6 +111,7 @@ fn print_close(
                 println!("  account {account}: {cents} cents");
             }
             println!("  MSSL: {} cents", statement[ACCOUNTS]);
+            println!("  rounding difference: {} thousandths", closed.difference);
         }
         Err(refusal) => {
             println!(
@@ -132,6 +134,8 @@ fn print_balances(book: &[i64]) {
         print!(" {}", balance(book, account).unwrap_or(0));
     }
     println!(", MSSL {}", mssl_balance(book).unwrap_or(0));
+    let sum = rounding_differences(book).unwrap_or(0);
+    println!("  rounding differences so far: {sum} thousandths");
 }
 
 /// The statement for a ledger that takes packed decimal, a field an amount, and read back from there.
@@ -189,8 +193,9 @@ fn main() -> Result<(), Box<dyn Error>> {
     let due = residual_due(2026, 1, &[])?;
     print_date("residual data of January are due", due)?;
 
-    // 75 days with contracts and meter data alone: from (15,000 - 10,000) x 400 thousandths of a cent an interval, account 0 gets 2,000
-    // cents, account 1 pays 100.
+    // 75 days with contracts and meter data alone. An interval is (15,000 - 10,000) x 400 thousandths of a cent to account 0, 2,000 cents, and
+    // (9,001 - 10,000) x 100 to account 1, -99.9 cents. The day's 48 are 96,000 and -4,795.2, posted as 96,000 and -4,795; the MSSL is posted
+    // -91,205 for -91,204.8, a rounding difference of -200 thousandths a day.
     for day in first..first + LAG {
         submit(&mut book, &contracts(day as u16))?;
         let answer = close(&mut book, &mut statement);
@@ -210,7 +215,8 @@ fn main() -> Result<(), Box<dyn Error>> {
     print_close("closed", answer, &book, &statement)?;
 
     // With them, account 0 gets (12,000 - 10,000) x 20 + (11,000 - 10,000) x 30 thousandths an interval more, 70 cents; account 1
-    // (11,500 - 10,000) x 100, 150 cents. A look ahead is a close on a copy.
+    // (11,500 - 10,000) x 100, 150 cents. The day is 96,000 + 3,360 cents to account 0 and -4,795.2 + 7,200 = 2,404.8 to account 1, posted as
+    // 2,405; the MSSL is posted -101,765 for -101,764.8, -200 thousandths again. A look ahead is a close on a copy.
     submit(&mut book, &residuals(first as u16))?;
     keep(&path, &book)?;
     let mut copy = book.clone();

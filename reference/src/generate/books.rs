@@ -7,7 +7,7 @@ use crate::close::close;
 use crate::history::{History, Key};
 use crate::layout::{
     ACCOUNT_WORDS, CHANGE_DAY, ENTRY_WORDS, ENTRY_ZERO, HEADER_WORDS, METER_FLAG, MSSL_BALANCE,
-    NCC_FLAG, NCC_VALUE, NCC_WORDS, NEXT_DAY, RESIDUAL_FLAG, VESTING_FLAG,
+    NCC_FLAG, NCC_VALUE, NCC_WORDS, NEXT_DAY, RESIDUAL_FLAG, ROUNDING_DIFFERENCE, VESTING_FLAG,
 };
 use crate::submission::submit;
 use crate::units::{IEQ, NCC_LOAD, PRICE, QUANTITY};
@@ -80,7 +80,8 @@ pub fn word_case(book: &[i64], index: usize) -> WordCase {
     let (first_day, next_day) = (header.first_day(), header.next_day());
     let bound = (next_day - first_day) * DAY_BOUND;
     if index < HEADER_WORDS {
-        let mssl_bound = bound * layout.accounts() as i64;
+        let accounts = layout.accounts() as i64;
+        let mssl_bound = bound * accounts;
         return match index {
             0 => off(&[394, 396, 0, -395]),
             1 => off(&[0, 33, -1, i64::MIN, i64::MAX]),
@@ -90,6 +91,7 @@ pub fn word_case(book: &[i64], index: usize) -> WordCase {
             NEXT_DAY => off(&[first_day - 1, 36_526, 0, i64::MIN, i64::MAX]),
             MSSL_BALANCE => within(-mssl_bound..=mssl_bound),
             CHANGE_DAY => change_day_case(),
+            ROUNDING_DIFFERENCE => difference_case(500 * accounts * (next_day - first_day)),
             _ => zero(),
         };
     }
@@ -189,6 +191,11 @@ pub fn change_day_case() -> WordCase {
         ],
         fine: vec![0, 9_497, 9_498, 20_000, 36_523, 36_524],
     }
+}
+
+/// Word 8, of a book with this bound.
+pub fn difference_case(bound: i64) -> WordCase {
+    within(-bound..=bound)
 }
 
 pub(crate) fn off(values: &[i64]) -> WordCase {

@@ -47,6 +47,6 @@ module _ (w st : List ℤ) where
         unfolding settled
         missing n e = kept (closing-is ∙ rw (le-ltb last_day D left, le-ltb (length st) (o.accounts + 1) room, e))
 
-        pub accepted : first_missing o w D ≡ None → ClosePromise w st (Ok (close_figures o D)) (day_closed o w D) (statement_written o w D st)
+        pub accepted : first_missing o w D ≡ None → ClosePromise w st (Ok (close_figures o w D)) (day_closed o w D) (statement_written o w D st)
         unfolding settled
         accepted e = kept (closing-is ∙ rw (le-ltb last_day D left, le-ltb (length st) (o.accounts + 1) room, e))

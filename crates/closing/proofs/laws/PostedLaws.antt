@@ -6,11 +6,10 @@ use Rattle.integer.proofs.laws.BelowLaws.{sum_ℤ-cong}
 use Rattle.rulebook.specs.declared.Terms.{Terms}
 use Rattle.rulebook.specs.Units.{last_day, intervals}
 use Rattle.rulebook.specs.DayAmount as rule
-use Rattle.rulebook.specs.DayAmount.{spare_generation, residual_load, rvq, settles_residual, residual_day, edition_of, interval_amount, exact_amount, in_cents, posted_amount}
+use Rattle.rulebook.specs.DayAmount.{spare_generation, residual_load, rvq, settles_residual, residual_day, edition_of, interval_amount, exact_amount}
 use Rattle.rulebook.specs.Layout.{interval_of}
 use Rattle.rulebook.specs.BookData.{book_data, terms_of, next_day}
 use Rattle.rulebook.specs.WellFormed.{well_formed}
-use Rattle.rulebook.specs.Close.{posted}
 use Rattle.rulebook.specs.Bounds.{SizedDay}
 use Rattle.rulebook.proofs.laws.SecondShareLaws.{edition-by}
 use Rattle.rulebook.proofs.laws.AmountLaws.{SameFigures, vesting-same, residual-same}
@@ -18,6 +17,7 @@ use Rattle.rulebook.proofs.laws.BookSizeLaws.{close-sized}
 use Rattle.amounts.specs.Cell.{cell_data}
 use Rattle.amounts.proofs.laws.CellLaws.{sum_cong}
 use Rattle.amounts.specs.Interval.{load_in, data_in}
+use Rattle.amounts.specs.Total.{posted_of}
 use Rattle.amounts.specs.Day.{cell_at, sum_in, share_in, cell_residual, residual_amount, slot_amount, total_to, slot_posted}
 use Rattle.closing.specs.Slots.{slot_words, settled_day, then_of, settled_then}
 use Rattle.closing.proofs.laws.SlotDataLaws.{load_same, cell-alike}
@@ -61,11 +61,12 @@ module _ (o : Terms) (w : List ℤ) (a : ℕ) (ha : a < o.accounts) where
         go true s = sym (slot-residual (residual_day o D) (s tt) i hi)
         go false s = refl
 
-    slots-posted : slot_posted o.accounts (slot_words o w D) (settled_then o w D) a ≡ posted o w D a
-    unfolding slot_posted total_to posted posted_amount exact_amount
-    slots-posted = ap in_cents (sum_ℤ-cong intervals _ _ amount-same)
+    slots-posted : slot_posted o.accounts (slot_words o w D) (settled_then o w D) a ≡ posted_of (record { thousandths = exact_amount o (book_data o w) a D })
+    unfolding slot_posted total_to exact_amount
+    slots-posted = ap (λ (z : ℤ). posted_of (record { thousandths = z })) (sum_ℤ-cong intervals _ _ amount-same)
 
 module _ (w : List ℤ) (t : T (well_formed w)) (left : next_day w ≤ last_day) where
   pub slot-posted_same : (a : ℕ) → a < (terms_of w).accounts
-      → slot_posted (terms_of w).accounts (slot_words (terms_of w) w (next_day w)) (settled_then (terms_of w) w (next_day w)) a ≡ posted (terms_of w) w (next_day w) a
+      → slot_posted (terms_of w).accounts (slot_words (terms_of w) w (next_day w)) (settled_then (terms_of w) w (next_day w)) a
+      ≡ posted_of (record { thousandths = exact_amount (terms_of w) (book_data (terms_of w) w) a (next_day w) })
   slot-posted_same a ha = slots-posted (terms_of w) w a ha (next_day w) (close-sized w t left).now (close-sized w t left).then

@@ -5,24 +5,28 @@ use Rattle.std.proofs.Math.Path.{ap}
 use Rattle.std.proofs.Math.Numerals.{add-one}
 use Rattle.std.proofs.Math.IntN.{nat_abs}
 use Rattle.std.proofs.Math.ListN.{set}
+use Rattle.std.proofs.Math.Seq.{get_or-set_other}
 use Rattle.integer.specs.Below.{sum_ℤ, tabulate}
 use Rattle.integer.proofs.laws.BelowLaws.{sum_ℤ-cong}
 use Rattle.integer.specs.Words.{word, filled, on_part}
 use Rattle.rulebook.specs.declared.Terms.{Terms}
 use Rattle.rulebook.specs.Units.{last_day}
 use Rattle.rulebook.specs.Terms.{InTerms}
-use Rattle.rulebook.specs.DayAmount.{settles_residual, residual_day, posted_amount, mssl_amount}
-use Rattle.rulebook.specs.Layout.{stored, size, base, mssl_word, next_day_word, balance_word, slot_length, slot_start}
+use Rattle.rulebook.specs.DayAmount.{settles_residual, residual_day, exact_amount, posted_amount, mssl_amount}
+use Rattle.rulebook.specs.Layout.{stored, size, base, mssl_word, differences_word, next_day_word, balance_word, slot_length, slot_start}
 use Rattle.rulebook.specs.BookData.{book_data, terms_of, next_day}
 use Rattle.rulebook.specs.WellFormed.{well_formed, day_bound}
-use Rattle.rulebook.proofs.laws.BookSizeLaws.{close-amount, balance-room, mssl-room}
-use Rattle.rulebook.specs.Close.{first_missing, posted, posted_to_mssl, balances_grown_by, slot_blanked, day_closed, statement_written}
+use Rattle.rulebook.proofs.laws.BookSizeLaws.{close-amount, balance-room, mssl-room, difference-room}
+use Rattle.rulebook.specs.Close.{first_missing, posted, posted_to_mssl, day_difference, balances_grown_by, sums_grown, slot_blanked, day_closed, statement_written}
+use Rattle.rulebook.proofs.laws.DayAmountLaws.{difference-parts}
 use Rattle.rulebook.proofs.laws.StoreLaws.{stored-filled, stored-part}
 use Rattle.rulebook.proofs.laws.ListLaws.{tabulate-cong}
 use Rattle.rulebook.proofs.laws.CloseLaws.{grown-cong}
 use Rattle.rulebook.proofs.laws.BeyondLaws.{statement-beyond, statement-amount, statement-mssl}
 use Rattle.rulebook.proofs.laws.WordLaws.{length-stored, stored-in}
-use Rattle.amounts.specs.Day.{SlotRanged, slot_posted}
+use Rattle.amounts.specs.declared.total.Posted.{Posted}
+use Rattle.amounts.specs.Total.{posted_of}
+use Rattle.amounts.specs.Day.{SlotRanged, slot_posted, slot_cents, slot_difference}
 use Rattle.closing.specs.Slots.{slot_words, settled_then}
 use Rattle.closing.proofs.laws.SlotsLaws.{slot-sized}
 use Rattle.closing.proofs.laws.PostedLaws.{slot-posted_same}
@@ -62,11 +66,20 @@ module _ (w : List ℤ) (o : Terms) (D : ℕ) (s : Settling w o D) where
   pub settled_ranged : settles_residual o D ≡ true → SlotRanged o.accounts (slot_words o w (residual_day o D))
   settled_ranged e = at (λ (o : Terms) (D : ℕ). T (settles_residual o D) → SlotRanged o.accounts (slot_words o w (residual_day o D))) (settled-ranged w formed left) (subst T (sym e) tt)
 
-  -- the amounts posted are the rule book's
-  settling_posted : (a : ℕ) → a < o.accounts → slot_posted o.accounts (slot_words o w D) (settled_then o w D) a ≡ posted o w D a
-  settling_posted =
-      at (λ (o : Terms) (D : ℕ). (a : ℕ) → a < o.accounts → slot_posted o.accounts (slot_words o w D) (settled_then o w D) a ≡ posted o w D a)
+  -- what is posted, and what it leaves, are the rule book's
+  settling : (a : ℕ) → a < o.accounts → slot_posted o.accounts (slot_words o w D) (settled_then o w D) a ≡ posted_of (record { thousandths = exact_amount o (book_data o w) a D })
+  settling =
+      at (λ (o : Terms) (D : ℕ). (a : ℕ) → a < o.accounts
+      → slot_posted o.accounts (slot_words o w D) (settled_then o w D) a ≡ posted_of (record { thousandths = exact_amount o (book_data o w) a D }))
       (slot-posted_same w formed left)
+
+  settling_posted : (a : ℕ) → a < o.accounts → slot_cents o.accounts (slot_words o w D) (settled_then o w D) a ≡ posted o w D a
+  unfolding posted posted_amount
+  settling_posted a h = ap (λ (p : Posted). p.cents) (settling a h)
+
+  pub settling_difference : sum_ℤ o.accounts (slot_difference o.accounts (slot_words o w D) (settled_then o w D)) ≡ day_difference o w D
+  unfolding day_difference posted_amount
+  settling_difference = sum_ℤ-cong o.accounts _ _ (λ a h. ap (λ (p : Posted). p.difference) (settling a h)) ∙ sym (difference-parts o (book_data o w) D).accounts
 
   sized : (a : ℕ) → a < o.accounts → nat_abs (posted o w D a) ≤ day_bound
   unfolding posted
@@ -77,7 +90,7 @@ module _ (w : List ℤ) (o : Terms) (D : ℕ) (s : Settling w o D) where
   module _ (st : List ℤ) (room : o.accounts + 1 ≤ length st) where
     -- the amounts written
     abbrev amounts : List ℤ
-    amounts = filled o.accounts (slot_posted o.accounts (slot_words o w D) (settled_then o w D)) st
+    amounts = filled o.accounts (slot_cents o.accounts (slot_words o w D) (settled_then o w D)) st
 
     amounts-same : amounts ≡ stored st 0 o.accounts (posted o w D)
     amounts-same = ap (λ (xs : List ℤ). xs ++ drop o.accounts st) (tabulate-cong o.accounts _ _ settling_posted) ∙ sym (stored-filled st o.accounts (posted o w D) (omega arith))
@@ -137,6 +150,19 @@ module _ (w : List ℤ) (o : Terms) (D : ℕ) (s : Settling w o D) where
     unfolding posted_to_mssl
     credit-room = rw (grown-header w (word st) o.accounts mssl_word (omega arith), h.mssl) (omega (arith, at Mssl (mssl-room w formed left)))
 
-    pub book-same : slot_blanked o D (set (set (balances_grown_by w (word st) o.accounts) mssl_word (word (balances_grown_by w (word st) o.accounts) mssl_word +ℤ word st o.accounts)) next_day_word (pos (D + 1))) ≡ day_closed o w D
-    unfolding day_closed
-    book-same = ap (slot_blanked o D) (rw (grown-header w (word st) o.accounts mssl_word (omega arith), h.mssl, grown-cong w (word st) (posted o w D) o.accounts h.accounts, add-one D))
+    abbrev Differences : Terms → ℕ → Type 0
+    Differences o D = nat_abs (word w differences_word) + nat_abs (day_difference o w D) ≤ 432448000
+
+    -- the book with the MSSL's balance grown; the differences' sum, untouched so far, has room too
+    abbrev pub credited : List ℤ
+    credited = set (balances_grown_by w (word st) o.accounts) mssl_word (word (balances_grown_by w (word st) o.accounts) mssl_word +ℤ word st o.accounts)
+
+    untouched : word credited differences_word ≡ word w differences_word
+    untouched = get_or-set_other (balances_grown_by w (word st) o.accounts) mssl_word differences_word _ (pos 0) (omega arith) ∙ grown-header w (word st) o.accounts differences_word (omega arith)
+
+    pub rounding-room : nat_abs (word credited differences_word) + nat_abs (day_difference o w D) < 2 ^ 63
+    rounding-room = rw untouched (omega (arith, at Differences (difference-room w formed left)))
+
+    pub book-same : slot_blanked o D (set (set credited differences_word (word credited differences_word +ℤ day_difference o w D)) next_day_word (pos (D + 1))) ≡ day_closed o w D
+    unfolding day_closed sums_grown
+    book-same = ap (slot_blanked o D) (rw (untouched, grown-header w (word st) o.accounts mssl_word (omega arith), h.mssl, grown-cong w (word st) (posted o w D) o.accounts h.accounts, add-one D))

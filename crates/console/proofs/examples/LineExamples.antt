@@ -35,11 +35,11 @@ pub record LinesTold : Type 0 where
   -- `close 11 76`, `close 9 0`, whatever the amounts
   pub missing : close_line (of_close (Err (DatumMissing 76))) [] ≡ close' (49 ∷ 49 ∷ 32 ∷ 55 ∷ 54 ∷ 10 ∷ [])
   pub finished : close_line (of_close (Err Finished)) (pos 5 ∷ []) ≡ close' (57 ∷ 32 ∷ 48 ∷ 10 ∷ [])
-  -- `close 0 9498 48 -2000 2000`: 0, day, count, amounts
-  pub closed : close_line (of_close (Ok (record { day = 9498; count = 48 }))) (negsuc 1999 ∷ pos 2000 ∷ [])
+  -- `close 0 9498 48 -2000 2000`: 0, day, count, amounts, and no rounding difference
+  pub closed : close_line (of_close (Ok (record { day = 9498; count = 48; difference = pos 499 }))) (negsuc 1999 ∷ pos 2000 ∷ [])
       ≡ close' (48 ∷ 32 ∷ 57 ∷ 52 ∷ 57 ∷ 56 ∷ 32 ∷ 52 ∷ 56 ∷ 32 ∷ 45 ∷ 50 ∷ 48 ∷ 48 ∷ 48 ∷ 32 ∷ 50 ∷ 48 ∷ 48 ∷ 48 ∷ 10 ∷ [])
   -- `close 0 9497 0 0 -7 7`: two accounts, and the MSSL
-  pub closed_first : close_line (of_close (Ok (record { day = 9497; count = 0 }))) (pos 0 ∷ minus 7 ∷ pos 7 ∷ [])
+  pub closed_first : close_line (of_close (Ok (record { day = 9497; count = 0; difference = minus 500 }))) (pos 0 ∷ minus 7 ∷ pos 7 ∷ [])
       ≡ close' (48 ∷ 32 ∷ 57 ∷ 52 ∷ 57 ∷ 55 ∷ 32 ∷ 48 ∷ 32 ∷ 48 ∷ 32 ∷ 45 ∷ 55 ∷ 32 ∷ 55 ∷ 10 ∷ [])
   -- `bad 5`, `bad 16389`
   pub bad : bad_line 5 ≡ bad' (53 ∷ 10 ∷ [])

@@ -21,7 +21,7 @@ use Rattle.rulebook.specs.Close.{closed}
 use Rattle.rulebook.specs.declared.Answer.{Answer}
 use Rattle.rulebook.specs.Close.{searched, residual_count}
 use Rattle.rulebook.specs.Numbers.{numbered}
-use Rattle.rulebook.specs.History.{Event, submit, closes, latest, last_for, accepted_rows, in_force, formula_amount}
+use Rattle.rulebook.specs.History.{Event, submit, closes, latest, last_for, accepted_rows, in_force, formula_amount, formula_difference}
 use Rattle.rulebook.specs.Companion.{submit_told, first_lacking, close_told}
 use Rattle.rulebook.proofs.examples.Examples.{one, two, in_one, in_two, zeros}
 use Rattle.rulebook.proofs.examples.LayoutExamples.{places}
@@ -134,7 +134,7 @@ day-state = subst (λ (a : Answer). State two (record { call = submit day_file; 
     ((submit-tells two in_two [] book_of_two new_two day_file).answered ∙ day-judged) (submit-step two in_two [] book_of_two new_two day_file)
 
 abbrev day_answer : Answer
-day_answer = record { number = 0; position = 0; day = 9497; count = 0 }
+day_answer = record { number = 0; position = 0; day = 9497; count = 0; difference = formula_difference two history }
 
 day-closed : close_told two history new_statement ≡ day_answer
 unfolding close_told first_lacking searched residual_count in_force latest last_for accepted_rows closes settles_residual fold or_else file_rows section_rows tabulate num row_end row_pos section_end turns value_at twos_complement number_of figure_of base ring interval_size slot interval_word row_word

@@ -18,7 +18,7 @@ use Rattle.rulebook.proofs.laws.HeaderLaws.{HeaderSays, header-says}
 use Rattle.opening.specs.Blank.{blank}
 use Rattle.opening.proofs.laws.LoopLaws.{word-part}
 use Rattle.opening.proofs.laws.BlankLaws.{blank_part}
-use Rattle.rulebook.specs.WellFormed.{day_bound, is_zero, balance_fits, balance_words_fit, balances_fit, terms_words_fit, next_day_fits, header_fits}
+use Rattle.rulebook.specs.WellFormed.{day_bound, is_zero, sum_fits, balance_words_fit, balances_fit, terms_words_fit, next_day_fits, header_fits}
 
 pub header-true : (w : List ℤ) → header_fits w ≡ true → HeaderSays (terms_of w) (next_day w) w
 header-true w e = header-says w (subst T (sym e) tt)
@@ -53,11 +53,11 @@ module _ (w : List ℤ) (l : header_words ≤ length w) where
   unfolding terms_words_fit
   terms-words-first = ap₂ ◌&&◌ (ap terms_fit terms-first) (ap (le_z (pos 0)) (first-word 7 (omega arith)))
 
-  zeros-first : blank (part (take header_words w) 8 56) ≡ all header_padding_words (λ n. is_zero (word w (header_padding n)))
-  zeros-first = blank_part (take header_words w) 8 56 (simp length-take (omega arith)) ∙ all_same header_padding_words _ _ (λ k h. ap is_zero (first-word (8 + k) (omega arith)))
+  zeros-first : blank (part (take header_words w) 9 55) ≡ all header_padding_words (λ n. is_zero (word w (header_padding n)))
+  zeros-first = blank_part (take header_words w) 9 55 (simp length-take (omega arith)) ∙ all_same header_padding_words _ _ (λ k h. ap is_zero (first-word (9 + k) (omega arith)))
 
   -- by its words, terms first
-  pub header-by_first : header_fits w ≡ (terms_words_fit (take header_words w) && (between (pos book_mark) (pos book_mark) (word (take header_words w) mark_word) && next_day_fits (take header_words w) && blank (part (take header_words w) 8 56)))
+  pub header-by_first : header_fits w ≡ (terms_words_fit (take header_words w) && (between (pos book_mark) (pos book_mark) (word (take header_words w) mark_word) && next_day_fits (take header_words w) && blank (part (take header_words w) 9 55)))
   unfolding header_fits
   header-by_first =
       turned (between (pos book_mark) (pos book_mark) (word w mark_word)) (terms_words_fit w) (next_day_fits w) (all header_padding_words (λ n. is_zero (word w (header_padding n))))
@@ -68,7 +68,7 @@ module _ (w : List ℤ) (l : header_words ≤ length w) where
 -- account a's eight words, as they are lent
 pub account-balance : (w : List ℤ) (k a : ℕ) → header_words + a * balance_words + balance_words ≤ length w
     → (leb (nat_abs (word (part w (header_words + a * balance_words) balance_words) 0)) (k * day_bound) && blank (drop 1 (part w (header_words + a * balance_words) balance_words))) ≡ balance_words_fit w k a
-unfolding balance_words_fit balance_fits
+unfolding balance_words_fit sum_fits
 account-balance w k a l =
     let i = header_words + a * balance_words in
     let first : i + 0 ≡ balance_word a = omega arith in

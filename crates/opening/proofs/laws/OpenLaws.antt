@@ -23,23 +23,23 @@ unfolding stored
 stored_more w m zero f g e = rw add-zero
 stored_more w m (suc n) f g e = rw (add-suc, stored_more w m n f g e, zero-add, e n)
 
--- the header's eight words, copied over the first eight
-pub header-copied : (o : Terms) (w : List ℤ) → 8 ≤ length w → header o ++ drop 8 w ≡ stored w 0 8 (word (header o))
+-- the header's nine words, copied over the first nine
+pub header-copied : (o : Terms) (w : List ℤ) → 9 ≤ length w → header o ++ drop 9 w ≡ stored w 0 9 (word (header o))
 unfolding tabulate
 header-copied o w l =
-    let n : length (take 8 w) ≡ 8 = simp length-take (omega arith) in
-    ap (λ (k : ℕ). tabulate k (word (header o)) ++ drop 8 w) (sym n) ∙ sym (stored-part w 0 8 (word (header o)) (omega arith))
+    let n : length (take 9 w) ≡ 9 = simp length-take (omega arith) in
+    ap (λ (k : ℕ). tabulate k (word (header o)) ++ drop 9 w) (sym n) ∙ sym (stored-part w 0 9 (word (header o)) (omega arith))
 
--- the header's eight words, then the part from there to the size cleared
-pub header-then_zeros : (o : Terms) (w : List ℤ) → size o ≤ length w → on_part 8 (size o) (λ p. tabulate (length p) (λ k. pos 0)) (stored w 0 8 (word (header o))) ≡ new_book o w
+-- the header's nine words, then the part from there to the size cleared
+pub header-then_zeros : (o : Terms) (w : List ℤ) → size o ≤ length w → on_part 9 (size o) (λ p. tabulate (length p) (λ k. pos 0)) (stored w 0 9 (word (header o))) ≡ new_book o w
 unfolding new_book
 header-then_zeros o w l =
-    let v = stored w 0 8 (word (header o)) in
-    let e : 8 + (size o - 8) ≡ size o = omega (arith, header-inside o) in
-    let m = length-stored w 0 8 (word (header o)) in
-    let p = stored-part v 8 (size o - 8) (λ k. pos 0) (omega arith) in
+    let v = stored w 0 9 (word (header o)) in
+    let e : 9 + (size o - 9) ≡ size o = omega (arith, header-inside o) in
+    let m = length-stored w 0 9 (word (header o)) in
+    let p = stored-part v 9 (size o - 9) (λ k. pos 0) (omega arith) in
     sym (rw e at p)
-    ∙ stored_more w 8 (size o - 8) (word (header o)) (λ k. pos 0) (λ j. sym (get_or-eq_default (header o) (pos 0) {n = 8 + j} (omega arith)))
+    ∙ stored_more w 9 (size o - 9) (word (header o)) (λ k. pos 0) (λ j. sym (get_or-eq_default (header o) (pos 0) {n = 9 + j} (omega arith)))
     ∙ ap (λ (n : ℕ). stored w 0 n (word (header o))) e
 
 -- what the test of an opening's terms found, by what it gave for the terms or for their refusal

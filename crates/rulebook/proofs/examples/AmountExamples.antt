@@ -1,18 +1,19 @@
--- Document 01, "Day amount" and "The book": the bound of a day's amount is reached, either way; R of three accounts, and the figures of their report
--- (document 02, P3); r with L = 2. Computed.
+-- Document 01, "Day amount" and "The book": the bound of a day's amount is reached, either way; so is that of the rounding difference (document 02, P5); R of three
+-- accounts, and the figures of their report (P3); r with L = 2. Computed.
 -- Assumes nothing.
 use Rattle.std.specs.Prelude.{◌≡◌, refl, true, false, cond, List, [], ◌∷◌, ℕ, ◌*◌, ◌^◌, eqb, ltb, ℤ, pos, get_or}
 use Rattle.integer.specs.Integer.{minus, with_sign}
 use Rattle.integer.specs.Below.{fold, tabulate}
+use Rattle.integer.specs.Words.{word}
 use Rattle.rulebook.specs.declared.Terms.{Terms}
 use Rattle.rulebook.specs.Units.{nearest}
 use Rattle.rulebook.specs.ReferencePrice.{average, reference_price}
 use Rattle.rulebook.specs.Shares.{most_accounts, share, share_of, edition_share}
 use Rattle.rulebook.specs.Tranches.{tranche1, tranche2}
-use Rattle.rulebook.specs.DayAmount.{AccountData, SettlementData, reference_price_of, vested_quantity, tender_amount, vesting_amount, share_amount, hedge_total, report_figure, spare_generation, residual_load, rvq, residual_amount, settles_residual, edition_of, interval_amount, exact_amount, posted_amount, mssl_amount}
+use Rattle.rulebook.specs.DayAmount.{AccountData, SettlementData, reference_price_of, vested_quantity, tender_amount, vesting_amount, share_amount, hedge_total, report_figure, spare_generation, residual_load, rvq, residual_amount, settles_residual, edition_of, interval_amount, exact_amount, posted_amount, mssl_amount, mssl_exact, rounding_difference}
 use Rattle.rulebook.specs.WellFormed.{day_bound}
 use Rattle.rulebook.specs.Bounds.{most_days}
-use Rattle.rulebook.proofs.examples.Figures.{account_data, nothing}
+use Rattle.rulebook.proofs.examples.Figures.{account_data, nothing, accounts}
 use Rattle.rulebook.proofs.examples.Examples.{one}
 
 -- every quantity and price at its end, V at the other
@@ -33,6 +34,40 @@ pub record BoundReached : Type 0 where
 pub bound_reached : BoundReached
 unfolding fold share share_of edition_share tranche1 tranche2 reference_price average nearest with_sign mssl_amount posted_amount exact_amount interval_amount settles_residual edition_of tender_amount vesting_amount vested_quantity hedge_total spare_generation residual_load rvq share_amount residual_amount reference_price_of
 bound_reached = record { most = refl; least = refl; mssl = refl; fits_word = refl }
+
+-- 1 kWh in interval 0 at this price, V 0: so many thousandths of a cent
+abbrev exactly : ℤ → AccountData
+exactly price = account_data 1 price [] [] (pos 0 ∷ []) (pos 0 ∷ []) 0 0 (pos 0) (pos 0)
+
+abbrev in_first_interval : (ℕ → AccountData) → SettlementData
+in_first_interval x = record { account = λ a d i. cond (eqb i 0) (x a) nothing; load = λ d i. 0 }
+
+abbrev difference_of : ℤ → ℤ
+difference_of price = rounding_difference one (in_first_interval (λ a. exactly price)) 9497
+
+pub record DifferenceReached : Type 0 where
+  -- one account: below half a cent no cent is posted for the rest of its amount, and the rest is the difference; from half a cent on it is the rest less 1,000
+  pub below_half : (difference_of (pos 499) ≡ pos 499) × (difference_of (minus 499) ≡ minus 499) × (difference_of (pos 1499) ≡ pos 499)
+  pub half : (difference_of (pos 500) ≡ minus 500) × (difference_of (minus 500) ≡ pos 500)
+  pub above_half : difference_of (pos 501) ≡ minus 499
+  pub whole : (difference_of (pos 0) ≡ pos 0) × (difference_of (pos 7000) ≡ pos 0)
+  -- three accounts: 100 + 499 − 400
+  pub of_three : rounding_difference (accounts 3) (in_first_interval (λ a. exactly (word (pos 100 ∷ pos 499 ∷ pos 600 ∷ []) a))) 9497 ≡ pos 199
+  -- the bound of three accounts, either way
+  pub most : rounding_difference (accounts 3) (in_first_interval (λ a. exactly (minus 500))) 9497 ≡ pos 1500
+  pub least : rounding_difference (accounts 3) (in_first_interval (λ a. exactly (pos 500))) 9497 ≡ minus 1500
+
+pub difference_reached : DifferenceReached
+unfolding fold reference_price average nearest with_sign rounding_difference mssl_exact mssl_amount posted_amount exact_amount interval_amount settles_residual tender_amount vesting_amount reference_price_of
+difference_reached = record {
+  below_half = (refl, refl, refl);
+  half = (refl, refl);
+  above_half = refl;
+  whole = (refl, refl);
+  of_three = refl;
+  most = refl;
+  least = refl;
+}
 
 -- an account of which only the hedges count
 abbrev hedged : ℕ → List ℕ → AccountData

@@ -9,7 +9,7 @@ use Rattle.rulebook.specs.declared.Terms.{Terms}
 use Rattle.rulebook.specs.Terms.{terms_fit, InTerms}
 use Rattle.rulebook.specs.Sections.{value_in_range}
 use Rattle.rulebook.specs.Layout.{base, balance_word}
-use Rattle.rulebook.specs.WellFormed.{row_fits, row_blank, row_counts, terms_words_fit, header_fits, balance_fits, balance_words_fit}
+use Rattle.rulebook.specs.WellFormed.{row_fits, row_blank, row_counts, terms_words_fit, header_fits, sum_fits, balance_fits, differences_fit, balance_words_fit}
 use Rattle.rulebook.proofs.examples.Figures.{accounts}
 
 -- ---- Terms
@@ -141,9 +141,9 @@ pub record Headers : Type 0 where
   pub no_changes : (changing (pos 1) ≡ false) × (changing (pos 9496) ≡ false) × (changing (pos 36525) ≡ false)
   pub change_below_zero : (changing (minus 1) ≡ false) × (changing (minus 20000) ≡ false)
   pub last_padding_used : headed (pos 395) (pos 2) (pos 1) (pos 1) (pos 9497) (pos 9497) (replicate 57 (pos 0) ++ (pos 1 ∷ [])) ≡ false
-  -- words 6 and 64 are balances
-  pub balances : headed (pos 395) (pos 2) (pos 1) (pos 1) (pos 9497) (pos 9497) (pos 1 ∷ replicate 57 (pos 0) ++ (pos 1 ∷ [])) ≡ true
-  pub padding_used : headed (pos 395) (pos 2) (pos 1) (pos 1) (pos 9497) (pos 9497) (pos 0 ∷ pos 0 ∷ pos 1 ∷ []) ≡ false
+  -- words 6, 8 and 64 are sums
+  pub balances : headed (pos 395) (pos 2) (pos 1) (pos 1) (pos 9497) (pos 9497) (pos 1 ∷ pos 0 ∷ pos 1 ∷ replicate 55 (pos 0) ++ (pos 1 ∷ [])) ≡ true
+  pub padding_used : headed (pos 395) (pos 2) (pos 1) (pos 1) (pos 9497) (pos 9497) (pos 0 ∷ pos 0 ∷ pos 0 ∷ pos 1 ∷ []) ≡ false
 
 pub headers : Headers
 unfolding header_fits terms_words_fit terms_fit fold
@@ -175,8 +175,22 @@ pub record Balances : Type 0 where
   pub mssl : (balance_fits 2 3 (pos 28800000000000) ≡ true) × (balance_fits 2 3 (pos 28800000000001) ≡ false)
 
 pub balances : Balances
-unfolding balance_fits
+unfolding sum_fits
 balances = record { new_book = (refl, refl); one_day = (refl, refl); below = (refl, refl); mssl = (refl, refl) }
+
+-- ---- The rounding difference: 500 × N × (C − F) either way (document 02, P5)
+
+pub record Differences : Type 0 where
+  pub new_book : (differences_fit 1 0 (pos 0) ≡ true) × (differences_fit 32 0 (pos 1) ≡ false) × (differences_fit 32 0 (minus 1) ≡ false)
+  pub one_day : (differences_fit 1 1 (pos 500) ≡ true) × (differences_fit 1 1 (pos 501) ≡ false)
+  pub below : (differences_fit 1 1 (minus 500) ≡ true) × (differences_fit 1 1 (minus 501) ≡ false)
+  pub more : (differences_fit 2 3 (pos 3000) ≡ true) × (differences_fit 2 3 (pos 3001) ≡ false)
+  -- of the most accounts, when every day is closed
+  pub most : (differences_fit 32 27028 (minus 432448000) ≡ true) × (differences_fit 32 27028 (minus 432448001) ≡ false)
+
+pub differences : Differences
+unfolding sum_fits
+differences = record { new_book = (refl, refl, refl); one_day = (refl, refl); below = (refl, refl); more = (refl, refl); most = (refl, refl) }
 
 -- ---- Accounts: 8 words each from 64 on, a balance and seven zeros
 
@@ -195,5 +209,5 @@ pub record AccountWords : Type 0 where
   pub last : tabulate 10 (λ n. used 31 (311 + n)) ≡ true ∷ true ∷ false ∷ false ∷ false ∷ false ∷ false ∷ false ∷ false ∷ true ∷ []
 
 pub account-words : AccountWords
-unfolding tabulate fold balance_words_fit balance_fits base
+unfolding tabulate fold balance_words_fit sum_fits base
 account-words = record { balances = (refl, refl); slots = (refl, refl, refl); first = refl; second = refl; last = refl }

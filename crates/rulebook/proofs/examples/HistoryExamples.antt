@@ -1,18 +1,22 @@
 -- Closes after short histories: what is searched in which order, which rows are in force, what an accepted close returns. Computed. Assumes nothing.
 use Rattle.std.specs.Prelude.{◌≡◌, refl, true, false, List, [], ◌∷◌, ◌++◌, ℕ, ◌≤◌, ltb, ℤ, pos, length, replicate}
 use Rattle.std.proofs.Common.{◌∙◌, arith, lt-ltb, le-ltb}
-use Rattle.integer.specs.Integer.{twos_complement}
+use Rattle.integer.specs.Integer.{minus, with_sign, twos_complement}
 use Rattle.integer.specs.Below.{fold, or_else, tabulate, turns}
 use Rattle.rulebook.specs.declared.Section.TheVariants.{Ncc}
 use Rattle.rulebook.specs.declared.Terms.{Terms}
-use Rattle.rulebook.specs.DayAmount.{settles_residual}
+use Rattle.rulebook.specs.Units.{nearest}
+use Rattle.rulebook.specs.ReferencePrice.{average, reference_price}
+use Rattle.rulebook.specs.Shares.{share, share_of, edition_share}
+use Rattle.rulebook.specs.Tranches.{tranche1, tranche2}
+use Rattle.rulebook.specs.DayAmount.{reference_price_of, vested_quantity, tender_amount, vesting_amount, share_amount, hedge_total, residual_load, rvq, residual_amount, settles_residual, edition_of, interval_amount, exact_amount, posted_amount, mssl_amount, mssl_exact, rounding_difference}
 use Rattle.rulebook.specs.Terms.{InTerms}
 use Rattle.rulebook.specs.Layout.{size, base, ring, interval_size, slot, interval_word, row_word}
 use Rattle.rulebook.specs.Opening.{new_book}
 use Rattle.rulebook.specs.File.{num, value_at, row_end, row_pos, section_end, section_rows, file_rows, number_of, figure_of, NccLoad}
 use Rattle.rulebook.specs.Close.{searched, residual_count, closed}
 use Rattle.rulebook.specs.Numbers.{numbered, of_close}
-use Rattle.rulebook.specs.History.{Event, submit, close, closes, latest, last_for, accepted_rows, in_force, figure_in}
+use Rattle.rulebook.specs.History.{Event, submit, close, closes, latest, last_for, accepted_rows, in_force, figure_in, formula_difference, returned_differences}
 use Rattle.rulebook.specs.Companion.{first_lacking, close_told}
 use Rattle.rulebook.proofs.examples.Examples.{one, two, in_one, in_two, zeros}
 use Rattle.rulebook.proofs.examples.LayoutExamples.{places}
@@ -62,11 +66,22 @@ abbrev refused : List ℕ → Event
 refused file = record { call = submit file; answer = numbered 8 0 }
 
 abbrev pub closed_day : ℕ → ℕ → Event
-closed_day day count = record { call = close (words 3); answer = record { number = 0; position = 0; day = day; count = count } }
+closed_day day count = record { call = close (words 3); answer = record { number = 0; position = 0; day = day; count = count; difference = pos 0 } }
+
+-- the first day closed with this rounding difference, and a close that lacked a datum
+abbrev differing : ℤ → Event
+differing z = record { call = close (words 3); answer = record { number = 0; position = 0; day = 9497; count = 0; difference = z } }
+
+abbrev lacking : Event
+lacking = record { call = close (words 3); answer = numbered 11 84 }
 
 -- two accounts: the first day closed, the second day's own rows, the load of the first
 abbrev both_ready : List Event
 both_ready = taken (ncc_file 0) ∷ taken (both_file 1 second) ∷ taken (both_file 0 second) ∷ closed_day 9497 0 ∷ []
+
+-- a close is accepted, of this day and count, with the rounding difference of the rows in force
+abbrev pub Accepted : Terms → List Event → List ℤ → ℕ → ℕ → Type 0
+Accepted o past statement day count = close_told o past statement ≡ record { number = 0; position = 0; day = day; count = count; difference = formula_difference o past }
 
 -- ---- Closes
 
@@ -82,27 +97,37 @@ pub record Closes : Type 0 where
   -- a refused file counts for nothing
   pub refused_file : close_told two (refused vesting_file ∷ []) (words 3) ≡ numbered 11 84
   -- the first day is closed without residual
-  pub accepted : close_told one (taken (both_file 0 first) ∷ []) (words 2) ≡ record { number = 0; position = 0; day = 9497; count = 0 }
+  pub accepted : Accepted one (taken (both_file 0 first) ∷ []) (words 2) 9497 0
   -- the second: its own rows, then NCC and residual of r
   pub own_first : close_told one (taken (ncc_file 0) ∷ closed_day 9497 0 ∷ []) (words 2) ≡ numbered 11 1420
   pub ncc_lacks : close_told one (taken (residual_file 0) ∷ taken (both_file 0 second) ∷ closed_day 9497 0 ∷ []) (words 2) ≡ numbered 11 73
   pub residual_lacks : close_told one (taken (ncc_file 0) ∷ taken (both_file 0 second) ∷ closed_day 9497 0 ∷ []) (words 2) ≡ numbered 11 94
-  pub accepted_again : close_told one (taken (residual_file 0) ∷ taken (ncc_file 0) ∷ taken (both_file 0 second) ∷ closed_day 9497 0 ∷ []) (words 2)
-      ≡ record { number = 0; position = 0; day = 9498; count = 48 }
+  pub accepted_again : Accepted one (taken (residual_file 0) ∷ taken (ncc_file 0) ∷ taken (both_file 0 second) ∷ closed_day 9497 0 ∷ []) (words 2) 9498 48
   -- the same of two accounts: 96, each account's residual row being there
-  pub accepted_two : close_told two (taken (residual_file 1) ∷ taken (residual_file 0) ∷ both_ready) (words 3)
-      ≡ record { number = 0; position = 0; day = 9498; count = 96 }
+  pub accepted_two : Accepted two (taken (residual_file 1) ∷ taken (residual_file 0) ∷ both_ready) (words 3) 9498 96
   pub second_lacks : close_told two (taken (residual_file 0) ∷ both_ready) (words 3) ≡ numbered 11 126
+  -- no amounts, no rounding difference
+  pub no_differences : (formula_difference one (taken (both_file 0 first) ∷ []) ≡ pos 0)
+      × (formula_difference one (taken (residual_file 0) ∷ taken (ncc_file 0) ∷ taken (both_file 0 second) ∷ closed_day 9497 0 ∷ []) ≡ pos 0)
+      × (formula_difference two (taken (residual_file 1) ∷ taken (residual_file 0) ∷ both_ready) ≡ pos 0)
   -- the count alone, of a day before the lag is over and of the next
   pub counts : (residual_count two 9497 ≡ 0) × (residual_count two 9498 ≡ 96)
   -- the last day of all is closed, and no statement is asked for
   pub finished : close_told (record { accounts = 1; lag = 1; horizon = 1; first = 36524; change = 0 }) (closed_day 36524 0 ∷ []) [] ≡ numbered 9 0
+  -- the rounding differences returned, together
+  pub differences : returned_differences (differing (minus 500) ∷ lacking ∷ refused vesting_file ∷ differing (pos 83) ∷ []) ≡ minus 417
   -- the last row accepted is in force
   pub revised : figure_in (in_force (taken (ncc_file 5) ∷ taken (ncc_file 3) ∷ []) Ncc 0 9497) 0 NccLoad ≡ pos 5
   pub not_revised : figure_in (in_force (refused (ncc_file 5) ∷ taken (ncc_file 3) ∷ []) Ncc 0 9497) 0 NccLoad ≡ pos 3
 
+differences-none : (formula_difference one (taken (both_file 0 first) ∷ []) ≡ pos 0)
+    × (formula_difference one (taken (residual_file 0) ∷ taken (ncc_file 0) ∷ taken (both_file 0 second) ∷ closed_day 9497 0 ∷ []) ≡ pos 0)
+    × (formula_difference two (taken (residual_file 1) ∷ taken (residual_file 0) ∷ both_ready) ≡ pos 0)
+unfolding formula_difference rounding_difference mssl_amount mssl_exact posted_amount exact_amount interval_amount tender_amount vesting_amount vested_quantity hedge_total residual_load rvq edition_share share share_of share_amount residual_amount tranche1 tranche2 settles_residual edition_of reference_price_of reference_price average nearest with_sign in_force latest last_for accepted_rows closes fold file_rows section_rows tabulate num row_end row_pos section_end turns value_at twos_complement number_of figure_of
+differences-none = (refl, refl, refl)
+
 pub closes-told : Closes
-unfolding close_told residual_count first_lacking searched in_force latest last_for accepted_rows closes settles_residual fold or_else file_rows section_rows tabulate num row_end row_pos section_end turns value_at twos_complement number_of figure_of base ring interval_size slot interval_word row_word
+unfolding close_told residual_count returned_differences first_lacking searched in_force latest last_for accepted_rows closes settles_residual fold or_else file_rows section_rows tabulate num row_end row_pos section_end turns value_at twos_complement number_of figure_of base ring interval_size slot interval_word row_word
 closes-told = record {
   no_room = refl;
   nothing = refl;
@@ -117,9 +142,11 @@ closes-told = record {
   residual_lacks = refl;
   accepted_again = refl;
   accepted_two = refl;
+  no_differences = differences-none;
   second_lacks = refl;
   counts = (refl, refl);
   finished = refl;
+  differences = refl;
   revised = refl;
   not_revised = refl;
 }

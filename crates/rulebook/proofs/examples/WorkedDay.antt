@@ -19,9 +19,9 @@
 -- Account 0: 7,157,410 + 990 − 234,000 + 1,000 − 1,900 = 6,923,500 thousandths, just half: 6924 cents.
 --   All is rounded once. Apart, base contract 6,998,190, tenders 160,210 and residual −234,900 would give 6998 + 160 − 235 = 6923, and any two of them
 --   together with the third apart 6923 too: 7158 − 235, 6998 − 75, 6763 + 160.
--- Account 1: 595 − 494 + 3,000 − 4,316 − 200 − 85 = −1,500, just half: −2 cents. The MSSL: −6922.
+-- Account 1: 595 − 494 + 3,000 − 4,316 − 200 − 85 = −1,500, just half: −2 cents. The MSSL: −6922, as is its exact amount: −500 and +500 leave no rounding difference.
 -- By the second edition (X = 9,497) account 1 has the odd kWh of interval 0: 210 × 300 / 400 = 157.5 for account 0, 157, and 210 − 157 = 53 for account 1. All else is the
---   same: −83 × 53 = −4,399, and −1,583 in all.
+--   same: −83 × 53 = −4,399, and −1,583 in all: −2 cents leave +417, and the rounding difference is −83.
 use Rattle.std.specs.Prelude.{◌≡◌, refl, cond, [], ◌∷◌, ℕ, eqb, pos, ◌+ℤ◌}
 use Rattle.integer.specs.Integer.{minus, with_sign}
 use Rattle.integer.specs.Below.{fold, sum_ℤ, tabulate}
@@ -31,7 +31,7 @@ use Rattle.rulebook.specs.Units.{nearest}
 use Rattle.rulebook.specs.ReferencePrice.{average, reference_price}
 use Rattle.rulebook.specs.Shares.{share, share_of, second_share, second_share_of, edition_share}
 use Rattle.rulebook.specs.Tranches.{tranche1, tranche2}
-use Rattle.rulebook.specs.DayAmount.{AccountData, SettlementData, reference_price_of, vested_quantity, tender_amount, vesting_amount, share_amount, hedge_total, spare_generation, residual_load, rvq, residual_amount, settles_residual, edition_of, interval_amount, exact_amount, posted_amount, mssl_amount}
+use Rattle.rulebook.specs.DayAmount.{AccountData, SettlementData, reference_price_of, vested_quantity, tender_amount, vesting_amount, share_amount, hedge_total, spare_generation, residual_load, rvq, residual_amount, settles_residual, edition_of, interval_amount, exact_amount, posted_amount, mssl_amount, mssl_exact, rounding_difference}
 use Rattle.rulebook.proofs.examples.Figures.{account_data, nothing, accounts}
 
 -- data at intervals 0, 20 and 47, none between
@@ -85,12 +85,17 @@ pub record WorkedDay : Type 0 where
   -- the second edition
   pub changed0 : exact_amount changed worked 0 9498 ≡ pos 6923500
   pub changed1 : exact_amount changed worked 1 9498 ≡ minus 1583
+  -- the rounding difference, of either edition
+  pub difference : rounding_difference (accounts 2) worked 9498 ≡ pos 0
+  pub changed_difference : rounding_difference changed worked 9498 ≡ minus 83
   pub changed_shares : (tabulate 2 (rvq 600 2 (λ b. residual b 0) Second) ≡ 157 ∷ 53 ∷ []) × (tabulate 2 (rvq 1000 2 (λ b. residual b 20) Second) ≡ 40 ∷ 25 ∷ [])
   -- r is F: its own close settles no residual. Account 1: 4897 × 200 − 700 × 15 + 500 × 8 = 972,900
   pub first_day : posted_amount (accounts 2) worked 1 9497 ≡ pos 973
+  -- account 0 has 130,000 then
+  pub first_difference : rounding_difference (accounts 2) worked 9497 ≡ minus 100
 
 pub worked-day : WorkedDay
-unfolding fold tabulate share share_of second_share second_share_of edition_share tranche1 tranche2 reference_price average nearest with_sign mssl_amount posted_amount exact_amount interval_amount settles_residual edition_of tender_amount vesting_amount vested_quantity hedge_total spare_generation residual_load rvq share_amount residual_amount reference_price_of
+unfolding fold tabulate share share_of second_share second_share_of edition_share tranche1 tranche2 reference_price average nearest with_sign rounding_difference mssl_exact mssl_amount posted_amount exact_amount interval_amount settles_residual edition_of tender_amount vesting_amount vested_quantity hedge_total spare_generation residual_load rvq share_amount residual_amount reference_price_of
 worked-day = record {
   exact0 = refl;
   exact1 = refl;
@@ -103,6 +108,9 @@ worked-day = record {
   apart = refl;
   changed0 = refl;
   changed1 = refl;
+  difference = refl;
+  changed_difference = refl;
   changed_shares = (refl, refl);
   first_day = refl;
+  first_difference = refl;
 }

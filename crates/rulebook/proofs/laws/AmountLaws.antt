@@ -7,9 +7,8 @@ use Rattle.std.proofs.Math.IntN.{pos}
 use Rattle.integer.proofs.laws.BelowLaws.{sum_ℤ-cong, sum_ℕ-cong}
 use Rattle.rulebook.specs.declared.Terms.{Terms}
 use Rattle.rulebook.specs.declared.Edition.{Edition}
-use Rattle.rulebook.specs.Units.{nearest}
 use Rattle.rulebook.specs.ReferencePrice.{reference_price}
-use Rattle.rulebook.specs.DayAmount.{AccountData, SettlementData, reference_price_of, vested_quantity, tender_amount, vesting_amount, share_amount, hedge_total, residual_load, rvq, residual_amount, settles_residual, residual_day, edition_of, interval_amount, exact_amount, posted_amount}
+use Rattle.rulebook.specs.DayAmount.{AccountData, SettlementData, reference_price_of, vested_quantity, tender_amount, vesting_amount, share_amount, hedge_total, residual_load, rvq, residual_amount, settles_residual, residual_day, edition_of, interval_amount, exact_amount, in_cents, posted_amount, mssl_amount, mssl_exact, rounding_difference}
 use Rattle.rulebook.proofs.laws.ReferencePriceLaws.{price-cong}
 use Rattle.rulebook.proofs.laws.SecondShareLaws.{edition-cong}
 
@@ -73,10 +72,10 @@ pub record Agree (n : ℕ) (g g' : SettlementData) (d : ℕ) : Type 0 where
   pub loads : (i : ℕ) → i < 48 → g.load d i ≡ g'.load d i
 
 module _ (o : Terms) (g g' : SettlementData) (D : ℕ) (now : Agree o.accounts g g' D) (then : T (settles_residual o D) → Agree o.accounts g g' (residual_day o D)) where
-  pub posted-same : (a : ℕ) → a < o.accounts → posted_amount o g a D ≡ posted_amount o g' a D
-  unfolding posted_amount exact_amount interval_amount
-  posted-same a ha = ap (λ (x : ℤ). nearest x 1000) (sum_ℤ-cong 48 _ _
-      (λ i hi. rw (vesting-same (g.account a D i) (g'.account a D i) (now.accounts a i ha hi)) (go i hi (settles_residual o D) then)))
+  exact-same : (a : ℕ) → a < o.accounts → exact_amount o g a D ≡ exact_amount o g' a D
+  unfolding exact_amount interval_amount
+  exact-same a ha = sum_ℤ-cong 48 _ _
+      (λ i hi. rw (vesting-same (g.account a D i) (g'.account a D i) (now.accounts a i ha hi)) (go i hi (settles_residual o D) then))
     where
       go : (i : ℕ) → i < 48 → (b : Bool) → (T b → Agree o.accounts g g' (residual_day o D))
           → vesting_amount (g'.account a D i) +ℤ cond b (residual_amount (g.load (residual_day o D) i) o.accounts (λ b. g.account b (residual_day o D) i) (edition_of o (residual_day o D)) a) (pos 0)
@@ -88,3 +87,11 @@ module _ (o : Terms) (g g' : SettlementData) (D : ℕ) (now : Agree o.accounts g
           ap (λ (y : ℤ). vesting_amount (g'.account a D i) +ℤ y)
           (x ∙ ap (λ (y : ℕ). residual_amount y o.accounts (λ b. g'.account b (residual_day o D) i) (edition_of o (residual_day o D)) a) l)
       go i hi false t = refl
+
+  pub posted-same : (a : ℕ) → a < o.accounts → posted_amount o g a D ≡ posted_amount o g' a D
+  unfolding posted_amount
+  posted-same a ha = ap in_cents (exact-same a ha)
+
+  pub difference-same : rounding_difference o g D ≡ rounding_difference o g' D
+  unfolding rounding_difference mssl_amount mssl_exact
+  difference-same = rw (sum_ℤ-cong o.accounts _ _ posted-same, sum_ℤ-cong o.accounts _ _ exact-same)

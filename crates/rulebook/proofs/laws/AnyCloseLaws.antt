@@ -1,6 +1,6 @@
 -- A close leaves any well-formed book well formed. Assumes nothing.
-use Rattle.std.specs.Prelude.{◌≡◌, refl, ◌⊎◌, Bool, true, false, cond, not, List, ℕ, suc, ◌+◌, ◌-◌, ◌*◌, ◌≤◌, ◌<◌, ℤ, pos, ◌+ℤ◌, nat_abs, T, ltb, length, Option, Some, None}
-use Rattle.std.proofs.Common.{sym, ◌∙◌, subst, inl, inr, add-sub_of_le, suc-mul, mul-add, arith, lt-ltb, le-ltb, nltb→le}
+use Rattle.std.specs.Prelude.{◌≡◌, refl, ◌⊎◌, Bool, true, false, cond, not, List, ℕ, suc, ◌+◌, ◌-◌, ◌*◌, ◌≤◌, ◌<◌, ℤ, pos, nat_abs, T, ltb, length, Option, Some, None}
+use Rattle.std.proofs.Common.{sym, ◌∙◌, subst, inl, inr, add-sub_of_le, suc-mul, arith, lt-ltb, le-ltb, nltb→le}
 use Rattle.integer.proofs.laws.IntegerLaws.{abs-add, abs_neg}
 use Rattle.integer.proofs.laws.BelowLaws.{abs-sum_ℤ}
 use Rattle.integer.specs.Words.{word}
@@ -9,13 +9,15 @@ use Rattle.rulebook.specs.declared.Section.TheVariants.{Vesting, Meter}
 use Rattle.rulebook.specs.declared.Terms.{Terms}
 use Rattle.rulebook.specs.Units.{last_day}
 use Rattle.rulebook.specs.DayAmount.{mssl_amount}
-use Rattle.rulebook.specs.Layout.{flag_index, flag_word, balance_word, mssl_word, InWindow}
-use Rattle.rulebook.specs.BookData.{Entries, entries_of, terms_of, next_day}
-use Rattle.rulebook.specs.WellFormed.{is_zero, row_fits, well_formed, day_bound}
-use Rattle.rulebook.specs.Close.{closed_by, closed, settled, first_missing, posted, posted_to_mssl, day_closed}
+use Rattle.rulebook.specs.Layout.{flag_index, flag_word, balance_word, mssl_word, differences_word, InWindow}
+use Rattle.rulebook.specs.BookData.{Entries, entries_of, book_data, terms_of, next_day}
+use Rattle.rulebook.specs.WellFormed.{is_zero, row_fits, well_formed, day_bound, difference_bound}
+use Rattle.rulebook.specs.Close.{closed_by, closed, settled, first_missing, posted, posted_to_mssl, day_difference, day_closed}
 use Rattle.rulebook.specs.Demand3.{vesting_of, meter_of}
 use Rattle.rulebook.specs.Ledger.{Ledger, HoldsLedger}
 use Rattle.rulebook.proofs.laws.TestLaws.{below_suc, T-path}
+use Rattle.rulebook.proofs.laws.DayAmountLaws.{difference-parts}
+use Rattle.rulebook.proofs.laws.SumLaws.{sum-grown}
 use Rattle.rulebook.proofs.laws.KeptLaws.{absent-fits}
 use Rattle.rulebook.proofs.laws.FitsLaws.{row_same}
 use Rattle.rulebook.proofs.laws.FormLaws.{Fit, ring-pos, well_formed_lem}
@@ -37,13 +39,13 @@ module _ (w : List ℤ) (t : T (well_formed w)) (k : ℕ) (day : (terms_of w).fi
   last = o.first + k + o.horizon
 
   abbrev old : Ledger
-  old = record { closed = k; entries = before o w last; balance = λ a. word w (balance_word a); mssl = word w mssl_word }
+  old = record { closed = k; entries = before o w last; balance = λ a. word w (balance_word a); mssl = word w mssl_word; differences = word w differences_word }
 
-  formed : Fit o (record { closed = k; entries = entries_of o w; balance = λ a. word w (balance_word a); mssl = word w mssl_word })
-  formed = subst (λ (n : ℕ). Fit o (record { closed = n; entries = entries_of o w; balance = λ a. word w (balance_word a); mssl = word w mssl_word })) closes (formed-fit w t)
+  formed : Fit o (record { closed = k; entries = entries_of o w; balance = λ a. word w (balance_word a); mssl = word w mssl_word; differences = word w differences_word })
+  formed = subst (λ (n : ℕ). Fit o (record { closed = n; entries = entries_of o w; balance = λ a. word w (balance_word a); mssl = word w mssl_word; differences = word w differences_word })) closes (formed-fit w t)
 
-  held : HoldsLedger o (record { closed = k; entries = entries_of o w; balance = λ a. word w (balance_word a); mssl = word w mssl_word }) w
-  held = subst (λ (n : ℕ). HoldsLedger o (record { closed = n; entries = entries_of o w; balance = λ a. word w (balance_word a); mssl = word w mssl_word }) w) closes (formed-holds w t)
+  held : HoldsLedger o (record { closed = k; entries = entries_of o w; balance = λ a. word w (balance_word a); mssl = word w mssl_word; differences = word w differences_word }) w
+  held = subst (λ (n : ℕ). HoldsLedger o (record { closed = n; entries = entries_of o w; balance = λ a. word w (balance_word a); mssl = word w mssl_word; differences = word w differences_word }) w) closes (formed-holds w t)
 
   within : (s : Section) (a d i j : ℕ) → d < last → before o w last s a d i j ≡ entries_of o w s a d i j
   within s a d i j h = rw (lt-ltb d last h)
@@ -62,6 +64,7 @@ module _ (w : List ℤ) (t : T (well_formed w)) (k : ℕ) (day : (terms_of w).fi
     next = held.next;
     mssl = refl;
     change = held.change;
+    differences = refl;
     header_zeros = held.header_zeros;
     balances = λ a x. refl;
     balance_zeros = held.balance_zeros;
@@ -111,8 +114,9 @@ module _ (w : List ℤ) (t : T (well_formed w)) (k : ℕ) (day : (terms_of w).fi
     vestings = λ a d i x l ha hi. flags_there Vesting a d i ha x l (opened_of w t).horizon_from (λ y z. formed.vestings a d i z y ha hi) (needed-there o w (next_day w) complete Vesting a (next_day w) i (vesting_of ha) hi);
     meters = λ a d i x l ha hi. flags_there Meter a d i ha x l (opened_of w t).horizon_from (λ y z. formed.meters a d i z y ha hi) (needed-there o w (next_day w) complete Meter a (next_day w) i (meter_of ha) hi);
     bounded = λ a ha. omega (arith, abs-add (word w (balance_word a)) (posted o w (o.first + k) a), formed.bounded a ha, amount a ha, suc-mul k day_bound);
-    mssl = rw (suc-mul k day_bound, mul-add o.accounts (k * day_bound) day_bound)
-        (omega (arith, abs-add (word w mssl_word) (posted_to_mssl o w (o.first + k)), formed.mssl, mssl-size));
+    mssl = sum-grown day_bound o.accounts k (word w mssl_word) (posted_to_mssl o w (o.first + k)) formed.mssl mssl-size;
+    differences = sum-grown difference_bound o.accounts k (word w differences_word) (day_difference o w (o.first + k)) formed.differences
+        (unfold day_difference in (difference-parts o (book_data o w) (o.first + k)).within);
     begun = omega arith;
   }
 

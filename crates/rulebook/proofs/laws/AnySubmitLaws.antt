@@ -47,6 +47,7 @@ module _ (o : Terms) (b : Ledger) (q : Fit o b) (h : 1 ≤ o.horizon) (rs : List
     meters = λ a d i hd l ha hi. there Meter a d i (q.meters a d i hd l ha hi);
     bounded = q.bounded;
     mssl = q.mssl;
+    differences = q.differences;
     begun = q.begun;
   }
 

@@ -1,5 +1,5 @@
 -- Words beyond the book's size, and beyond the statement's N + 1, are kept; what a statement holds. Assumes nothing.
-use Rattle.std.specs.Prelude.{◌≡◌, refl, Bool, cond, ℕ, zero, suc, ◌+◌, ◌*◌, ◌≤◌, ◌<◌, ◌+ℤ◌, length, set}
+use Rattle.std.specs.Prelude.{◌≡◌, refl, Bool, cond, ℕ, zero, suc, ◌+◌, ◌*◌, ◌≤◌, ◌<◌, length, set}
 use Rattle.std.proofs.Math.Path.{sym, ap, subst}
 use Rattle.std.proofs.Common.{◌∙◌, zero-add, mul_assoc, mul_comm, arith}
 use Rattle.std.proofs.Math.Bool.{true, false}
@@ -12,16 +12,16 @@ use Rattle.integer.specs.Below.{Each}
 use Rattle.integer.specs.Words.{word}
 use Rattle.rulebook.specs.declared.Terms.{Terms}
 use Rattle.rulebook.specs.DayAmount.{settles_residual, residual_day}
-use Rattle.rulebook.specs.Layout.{stored, base, ring, size, interval_size, slot_length, slot, slot_start, interval_word, next_day_word, mssl_word}
+use Rattle.rulebook.specs.Layout.{stored, base, ring, size, interval_size, slot_length, slot, slot_start, interval_word, next_day_word}
 use Rattle.rulebook.specs.Opening.{header, new_book}
 use Rattle.rulebook.specs.File.{Row}
 use Rattle.rulebook.specs.Submit.{row_stored, rows_stored}
-use Rattle.rulebook.specs.Close.{posted, posted_to_mssl, balances_grown, slot_blanked, day_closed, statement_written}
+use Rattle.rulebook.specs.Close.{posted, posted_to_mssl, sums_grown, slot_blanked, day_closed, statement_written}
 use Rattle.rulebook.specs.Companion.{KeptFrom}
 use Rattle.rulebook.proofs.laws.LayoutLaws.{slot-inside}
 use Rattle.rulebook.proofs.laws.WordLaws.{stored-in, stored-out, length-stored, row_out, length-row_stored, row_word-inside}
 use Rattle.rulebook.proofs.laws.LedgerLaws.{Storable}
-use Rattle.rulebook.proofs.laws.CloseLaws.{slot-form, length-grown, grown-out}
+use Rattle.rulebook.proofs.laws.CloseLaws.{slot-form, length-sums, sums-out}
 
 pub kept-all : (n : ℕ) (w : List ℤ) → KeptFrom n w w
 kept-all n w = record { long = refl; words = λ m h. refl }
@@ -73,15 +73,12 @@ module _ (o : Terms) where
     pub closed-beyond : (w : List ℤ) (D : ℕ) → KeptFrom (size o) w (day_closed o w D)
     unfolding day_closed size base
     closed-beyond w D =
-        let grown : List ℤ = balances_grown o w D o.accounts in
-        let credit : ℤ = word w mssl_word +ℤ posted_to_mssl o w D in
-        kept_then (size o) w (set (set grown mssl_word credit) next_day_word (pos (suc D))) _
+        kept_then (size o) w (set (sums_grown o w D) next_day_word (pos (suc D))) _
         (record {
-          long = length-set (set grown mssl_word credit) next_day_word (pos (suc D)) ∙ length-set grown mssl_word credit ∙ length-grown w (posted o w D) o.accounts;
-          words = λ m h. get_or-set_other (set grown mssl_word credit) next_day_word m (pos (suc D)) (pos 0) (omega arith) ∙ get_or-set_other grown mssl_word m credit (pos 0) (omega arith)
-              ∙ grown-out w (posted o w D) o.accounts m (λ a x e. omega arith);
+          long = length-set (sums_grown o w D) next_day_word (pos (suc D)) ∙ length-sums o w D;
+          words = λ m h. get_or-set_other (sums_grown o w D) next_day_word m (pos (suc D)) (pos 0) (omega arith) ∙ sums-out o w D m (omega arith) (omega arith) (λ a x e. omega arith);
         })
-        (blanked_beyond D (set (set grown mssl_word credit) next_day_word (pos (suc D))))
+        (blanked_beyond D (set (sums_grown o w D) next_day_word (pos (suc D))))
 
 -- ---- The statement
 

@@ -18,9 +18,9 @@ use Rattle.rulebook.specs.declared.Section.{Section}
 use Rattle.rulebook.specs.declared.Terms.{Terms}
 use Rattle.rulebook.specs.DayAmount.{settles_residual}
 use Rattle.rulebook.specs.Sections.{accounts_of}
-use Rattle.rulebook.specs.Layout.{stored, width, place, interval_size, slot_length, ring, base, size, slot, interval_word, slot_start, row_word, interval_words, account_words, mark_word, accounts_word, lag_word, horizon_word, first_day_word, next_day_word, mssl_word, change_day_word, balance_word, balance_padding, header_padding, InWindow}
+use Rattle.rulebook.specs.Layout.{stored, width, place, interval_size, slot_length, ring, base, size, slot, interval_word, slot_start, row_word, interval_words, account_words, mark_word, accounts_word, lag_word, horizon_word, first_day_word, next_day_word, mssl_word, change_day_word, differences_word, balance_word, balance_padding, header_padding, InWindow}
 use Rattle.rulebook.specs.WindowWalk.{window_slot}
-use Rattle.rulebook.specs.Close.{posted, posted_to_mssl, balances_grown_by, balances_grown, slot_blanked, day_closed}
+use Rattle.rulebook.specs.Close.{posted, posted_to_mssl, day_difference, balances_grown_by, balances_grown, sums_grown, slot_blanked, day_closed}
 use Rattle.rulebook.specs.Ledger.{Ledger, HoldsLedger, Padding}
 use Rattle.rulebook.proofs.laws.TestLaws.{below_suc}
 use Rattle.rulebook.proofs.laws.LayoutLaws.{days-apart, interval-apart, interval-inside, row_inside, slot-inside, remainder}
@@ -101,36 +101,56 @@ module _ (o : Terms) where
     abbrev credit : ℤ
     credit = word w mssl_word +ℤ posted_to_mssl o w D
 
+    abbrev rounded : ℤ
+    rounded = word w differences_word +ℤ day_difference o w D
+
     -- the words before r's slot is blanked
     unfoldable pub counted : List ℤ
-    counted = set (set grown mssl_word credit) next_day_word (pos (suc D))
+    counted = set (sums_grown o w D) next_day_word (pos (suc D))
+
+    pub length-sums : length (sums_grown o w D) ≡ length w
+    unfolding sums_grown
+    length-sums = simp length-set (length-grown w (posted o w D) o.accounts)
+
+    pub sums-out : (m : ℕ) → m ≢ mssl_word → m ≢ differences_word → ((a : ℕ) → a < o.accounts → m ≢ balance_word a) → word (sums_grown o w D) m ≡ word w m
+    unfolding sums_grown
+    sums-out m f g h = get_or-set_other (set grown mssl_word credit) differences_word m rounded (pos 0) g
+        ∙ get_or-set_other grown mssl_word m credit (pos 0) f ∙ grown-out w (posted o w D) o.accounts m h
 
     length-counted : length counted ≡ length w
     unfolding counted
-    length-counted = simp length-set (length-grown w (posted o w D) o.accounts)
+    length-counted = simp (length-set, length-sums)
 
     pub counted_next : base o ≤ length w → word counted next_day_word ≡ pos (suc D)
     unfolding counted base
-    counted_next l = get_or-set_same (set grown mssl_word credit) next_day_word (pos (suc D)) (pos 0) (omega (arith, length-set grown mssl_word credit, length-grown w (posted o w D) o.accounts))
+    counted_next l = get_or-set_same (sums_grown o w D) next_day_word (pos (suc D)) (pos 0) (omega (arith, length-sums))
+
+    -- but for the next day's, the sums' words
+    counted-sum : (m : ℕ) → m ≢ next_day_word → word counted m ≡ word (sums_grown o w D) m
+    unfolding counted
+    counted-sum m f = get_or-set_other (sums_grown o w D) next_day_word m (pos (suc D)) (pos 0) f
 
     pub counted-mssl : base o ≤ length w → word counted mssl_word ≡ word w mssl_word +ℤ posted_to_mssl o w D
-    unfolding counted base
-    counted-mssl l = get_or-set_other (set grown mssl_word credit) next_day_word mssl_word (pos (suc D)) (pos 0) (omega arith)
+    unfolding sums_grown base
+    counted-mssl l = counted-sum mssl_word (omega arith) ∙ get_or-set_other (set grown mssl_word credit) differences_word mssl_word rounded (pos 0) (omega arith)
         ∙ get_or-set_same grown mssl_word credit (pos 0) (omega (arith, length-grown w (posted o w D) o.accounts))
 
+    pub counted-difference : base o ≤ length w → word counted differences_word ≡ word w differences_word +ℤ day_difference o w D
+    unfolding sums_grown base
+    counted-difference l = counted-sum differences_word (omega arith)
+        ∙ get_or-set_same (set grown mssl_word credit) differences_word rounded (pos 0) (omega (arith, length-set grown mssl_word credit, length-grown w (posted o w D) o.accounts))
+
     pub counted-balance : base o ≤ length w → (a : ℕ) → a < o.accounts → word counted (balance_word a) ≡ word w (balance_word a) +ℤ posted o w D a
-    unfolding counted base
-    counted-balance l a h = get_or-set_other (set grown mssl_word credit) next_day_word (balance_word a) (pos (suc D)) (pos 0) (omega arith)
+    unfolding sums_grown base
+    counted-balance l a h = counted-sum (balance_word a) (omega arith) ∙ get_or-set_other (set grown mssl_word credit) differences_word (balance_word a) rounded (pos 0) (omega arith)
         ∙ get_or-set_other grown mssl_word (balance_word a) credit (pos 0) (omega arith) ∙ grown-in w (posted o w D) o.accounts a h (omega arith)
 
-    pub counted-out : (m : ℕ) → m ≢ next_day_word → m ≢ mssl_word → ((a : ℕ) → a < o.accounts → m ≢ balance_word a) → word counted m ≡ word w m
-    unfolding counted
-    counted-out m f g h = get_or-set_other (set grown mssl_word credit) next_day_word m (pos (suc D)) (pos 0) f
-        ∙ get_or-set_other grown mssl_word m credit (pos 0) g ∙ grown-out w (posted o w D) o.accounts m h
+    pub counted-out : (m : ℕ) → m ≢ next_day_word → m ≢ mssl_word → m ≢ differences_word → ((a : ℕ) → a < o.accounts → m ≢ balance_word a) → word counted m ≡ word w m
+    counted-out m f g d h = counted-sum m f ∙ sums-out m g d h
 
     counted-slot : (t i m : ℕ) → word counted (interval_word o t i m) ≡ word w (interval_word o t i m)
     unfolding interval_word base
-    counted-slot t i m = counted-out (interval_word o t i m) (omega arith) (omega arith) (λ a x e. omega arith)
+    counted-slot t i m = counted-out (interval_word o t i m) (omega arith) (omega arith) (omega arith) (λ a x e. omega arith)
 
     -- what the close leaves outside r's slot, below the intervals, in r's slot, and in every other
     pub closed-elsewhere : (n : ℕ) → (T (settles_residual o D) → (i m : ℕ) → i < 48 → m < interval_size o → n ≢ interval_word o (slot o (D - o.lag)) i m)
@@ -174,13 +194,14 @@ module _ (o : Terms) (p : zero < ring o) (before : Ledger) (w : List ℤ) (h : H
   abbrev k : ℕ
   k = before.closed
 
-  -- one closed day more, and each balance grown by what is posted
+  -- one closed day more, each balance grown by what is posted, and the differences by the day's
   abbrev pub after_close : Ledger
   after_close = record {
     closed = suc k;
     entries = before.entries;
     balance = λ a. before.balance a +ℤ posted o w (o.first + k) a;
     mssl = before.mssl +ℤ posted_to_mssl o w (o.first + k);
+    differences = before.differences +ℤ day_difference o w (o.first + k);
   }
 
   residual-begun : T (settles_residual o (o.first + k)) → o.lag ≤ k
@@ -247,17 +268,18 @@ module _ (o : Terms) (p : zero < ring o) (before : Ledger) (w : List ℤ) (h : H
     unfolding base
     day-held = record {
       long = omega (arith, closed-length o w D, h.long);
-      mark = front mark_word (omega arith) (omega arith) (omega arith) (omega arith) ∙ h.mark;
-      accounts = front accounts_word (omega arith) (omega arith) (omega arith) (omega arith) ∙ h.accounts;
-      lag = front lag_word (omega arith) (omega arith) (omega arith) (omega arith) ∙ h.lag;
-      horizon = front horizon_word (omega arith) (omega arith) (omega arith) (omega arith) ∙ h.horizon;
-      first = front first_day_word (omega arith) (omega arith) (omega arith) (omega arith) ∙ h.first;
+      mark = front mark_word (omega arith) (omega arith) (omega arith) (omega arith) (omega arith) ∙ h.mark;
+      accounts = front accounts_word (omega arith) (omega arith) (omega arith) (omega arith) (omega arith) ∙ h.accounts;
+      lag = front lag_word (omega arith) (omega arith) (omega arith) (omega arith) (omega arith) ∙ h.lag;
+      horizon = front horizon_word (omega arith) (omega arith) (omega arith) (omega arith) (omega arith) ∙ h.horizon;
+      first = front first_day_word (omega arith) (omega arith) (omega arith) (omega arith) (omega arith) ∙ h.first;
       next = closed-front o w D next_day_word (omega arith) ∙ counted_next o w D longer ∙ ap pos (sym (add-suc o.first k));
       mssl = closed-front o w D mssl_word (omega arith) ∙ counted-mssl o w D longer ∙ ap (λ (x : ℤ). x +ℤ posted_to_mssl o w D) h.mssl;
-      change = front change_day_word (omega arith) (omega arith) (omega arith) (omega arith) ∙ h.change;
-      header_zeros = λ n x. front (header_padding n) (omega arith) (omega arith) (omega arith) (λ a y e. omega arith) ∙ h.header_zeros n x;
+      differences = closed-front o w D differences_word (omega arith) ∙ counted-difference o w D longer ∙ ap (λ (x : ℤ). x +ℤ day_difference o w D) h.differences;
+      change = front change_day_word (omega arith) (omega arith) (omega arith) (omega arith) (omega arith) ∙ h.change;
+      header_zeros = λ n x. front (header_padding n) (omega arith) (omega arith) (omega arith) (omega arith) (λ a y e. omega arith) ∙ h.header_zeros n x;
       balances = λ a x. closed-front o w D (balance_word a) (omega arith) ∙ counted-balance o w D longer a x ∙ ap (λ (y : ℤ). y +ℤ posted o w D a) (h.balances a x);
-      balance_zeros = λ a j x y. front (balance_padding a j) (omega arith) (omega arith) (omega arith)
+      balance_zeros = λ a j x y. front (balance_padding a j) (omega arith) (omega arith) (omega arith) (omega arith)
           (λ b z e. let q = remainder a b {m = 8} {r = 1 + j} {r' = 0} (omega arith) (omega arith) (omega arith) in omega arith) ∙ h.balance_zeros a j x y;
       held = closed-held;
       early = λ u i m x hi hm. closed-out o w D (window_slot o (suc k) u) i m hi hm (λ t e. omega (arith, residual-begun t))
@@ -274,5 +296,5 @@ module _ (o : Terms) (p : zero < ring o) (before : Ledger) (w : List ℤ) (h : H
         later : (u : ℕ) → window_slot o k (suc u) ≡ window_slot o (suc k) u
         later u = window-next o k u
 
-        front : (n : ℕ) → n < base o → n ≢ next_day_word → n ≢ mssl_word → ((a : ℕ) → a < o.accounts → n ≡ balance_word a → ⊥) → word (day_closed o w D) n ≡ word w n
-        front n b f g c = closed-front o w D n b ∙ counted-out o w D n f g c
+        front : (n : ℕ) → n < base o → n ≢ next_day_word → n ≢ mssl_word → n ≢ differences_word → ((a : ℕ) → a < o.accounts → n ≡ balance_word a → ⊥) → word (day_closed o w D) n ≡ word w n
+        front n b f g d c = closed-front o w D n b ∙ counted-out o w D n f g d c

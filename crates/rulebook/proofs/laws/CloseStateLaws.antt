@@ -5,7 +5,7 @@ use Rattle.std.proofs.Common.{◌∙◌, subst, inl, inr, mul-suc, add-zero, ltb
 use Rattle.std.proofs.Math.Bool.{true, false, cond}
 use Prim.Native.Nat.{ℕ, suc, ◌+◌, ◌-◌, ◌*◌, ◌≤◌, ◌<◌}
 use native.Mathlib.Omega.{arith}
-use Rattle.std.proofs.Math.IntN.{neg_ℤ, neg_ℤ-+ℤ}
+use Rattle.std.proofs.Math.IntN.{neg_ℤ, neg_ℤ-+ℤ, +ℤ_idr}
 use Rattle.std.proofs.Math.Dec.{T, leb, leb→le, nleb→lt}
 use Rattle.integer.specs.Below.{sum_ℤ}
 use Rattle.integer.proofs.laws.BelowLaws.{sum_ℤ-cong, sum_ℤ-add}
@@ -20,12 +20,12 @@ use Rattle.rulebook.specs.Layout.{flag_index, InWindow}
 use Rattle.rulebook.specs.BookData.{entries_of, book_data, data_of}
 use Rattle.rulebook.specs.WellFormed.{day_bound}
 use Rattle.rulebook.specs.File.{Row}
-use Rattle.rulebook.specs.Close.{first_missing, settled, closed, posted, posted_to_mssl, residual_count, day_closed, Closing, closed_by}
+use Rattle.rulebook.specs.Close.{first_missing, settled, closed, posted, posted_to_mssl, day_difference, residual_count, day_closed, Closing, closed_by}
 use Rattle.rulebook.specs.Numbers.{of_close}
-use Rattle.rulebook.specs.History.{latest, close, Event, closes, in_force, accepted_rows, last_for, formula_balance, formula_amount, residual_counts, closing_day, data_in_force}
+use Rattle.rulebook.specs.History.{latest, close, Event, closes, in_force, accepted_rows, last_for, formula_balance, formula_amount, formula_difference, formula_differences, residual_counts, returned_differences, closing_day, data_in_force}
 use Rattle.rulebook.specs.Demand3.{vesting_of, meter_of}
 use Rattle.rulebook.specs.Ledger.{entries_in, entry_of, ledger_after, State}
-use Rattle.rulebook.proofs.laws.AmountLaws.{Agree, posted-same}
+use Rattle.rulebook.proofs.laws.AmountLaws.{Agree, posted-same, difference-same as data-difference}
 use Rattle.rulebook.proofs.laws.RowWordLaws.{flag-inside}
 use Rattle.rulebook.proofs.laws.LedgerLaws.{held_same}
 use Rattle.rulebook.proofs.laws.KeptLaws.{none_or}
@@ -41,19 +41,19 @@ use Rattle.rulebook.proofs.laws.StateLaws.{unchanged, formed, terms, next}
 module _ (o : Terms) (t : InTerms o) (past : List Event) (w : List ℤ) (h : State o past w) where
   -- refused with 9, 10 or 11: nothing changes
   finished : (st : List ℤ) → last_day < closing_day o past → State o (record { call = close st; answer = of_close (Err Finished) } ∷ past) w
-  unfolding closes in_force accepted_rows formula_balance residual_counts latest last_for
-  finished st x = unchanged o past w h _ refl refl refl (add-zero (residual_counts past)) (λ y. absurd (omega arith), λ m. absurd (omega (arith, m.day_left)))
+  unfolding closes in_force accepted_rows formula_balance formula_differences residual_counts returned_differences latest last_for
+  finished st x = unchanged o past w h _ refl refl refl refl (add-zero (residual_counts past)) (+ℤ_idr (returned_differences past)) (λ y. absurd (omega arith), λ m. absurd (omega (arith, m.day_left)))
 
   cramped : (st : List ℤ) → length st < o.accounts + 1 → State o (record { call = close st; answer = of_close (Err NoRoom) } ∷ past) w
-  unfolding closes in_force accepted_rows formula_balance residual_counts latest last_for
-  cramped st x = unchanged o past w h _ refl refl refl (add-zero (residual_counts past)) (λ y. absurd (omega arith), λ m. absurd (omega (arith, m.room)))
+  unfolding closes in_force accepted_rows formula_balance formula_differences residual_counts returned_differences latest last_for
+  cramped st x = unchanged o past w h _ refl refl refl refl (add-zero (residual_counts past)) (+ℤ_idr (returned_differences past)) (λ y. absurd (omega arith), λ m. absurd (omega (arith, m.room)))
 
   missed : (st : List ℤ) (n : ℕ) → closing_day o past ≤ last_day → o.accounts + 1 ≤ length st → first_missing o w (closing_day o past) ≡ Some n
       → State o (record { call = close st; answer = of_close (Err (DatumMissing n)) } ∷ past) w
-  unfolding closes in_force accepted_rows formula_balance residual_counts latest last_for
+  unfolding closes in_force accepted_rows formula_balance formula_differences residual_counts returned_differences latest last_for
   missed st n left room e =
       let m = some_missing o t past w h n e in
-      unchanged o past w h _ refl refl refl (add-zero (residual_counts past)) (λ y. record { day_left = left; room = room; missing = m }, λ y. refl)
+      unchanged o past w h _ refl refl refl refl (add-zero (residual_counts past)) (+ℤ_idr (returned_differences past)) (λ y. record { day_left = left; room = room; missing = m }, λ y. refl)
 
   -- accepted
   now : InWindow o (closes past) (closing_day o past)
@@ -80,6 +80,15 @@ module _ (o : Terms) (t : InTerms o) (past : List Event) (w : List ℤ) (h : Sta
   unfolding posted
   amount-same a ha = posted-same o (book_data o w) (data_of (entries_in (in_force past))) (closing_day o past)
       (book-agrees (closing_day o past) now) (λ x. book-agrees (residual_day o (closing_day o past)) (then x)) a ha ∙ rows_same a ha
+
+  pub difference-same : day_difference o w (closing_day o past) ≡ formula_difference o past
+  unfolding day_difference formula_difference
+  difference-same =
+      data-difference o (book_data o w) (data_of (entries_in (in_force past))) (closing_day o past)
+      (book-agrees (closing_day o past) now) (λ x. book-agrees (residual_day o (closing_day o past)) (then x))
+      ∙ data-difference o (data_of (entries_in (in_force past))) (data_in_force (in_force past)) (closing_day o past)
+      (rows_agree o (closes past) (in_force past) (formula_balance o past) h.kept (closing_day o past))
+      (λ x. rows_agree o (closes past) (in_force past) (formula_balance o past) h.kept (residual_day o (closing_day o past)))
 
   amount-size : (a : ℕ) → a < o.accounts → nat_abs (formula_amount o past a) ≤ day_bound
   amount-size a ha = subst (λ (x : ℤ). nat_abs x ≤ day_bound) (rows_same a ha)
@@ -120,16 +129,17 @@ module _ (o : Terms) (t : InTerms o) (past : List Event) (w : List ℤ) (h : Sta
 
   accepted-close : (st : List ℤ) → closing_day o past ≤ last_day → first_missing o w (closing_day o past) ≡ None
       → State o (record { call = close st; answer = of_close (settled o w (closing_day o past) st None).answer } ∷ past) (day_closed o w (closing_day o past))
-  unfolding closes in_force accepted_rows formula_balance residual_counts latest last_for settled
+  unfolding closes in_force accepted_rows formula_balance formula_differences residual_counts returned_differences latest last_for settled
   accepted-close st left e =
       let all = all_there_lem o t past w h e in
       record {
-        holds = held_same refl (λ s a d i j. refl) (λ a ha. ap (λ (x : ℤ). formula_balance o past a +ℤ x) (amount-same a ha)) mssl-grown
+        holds = held_same refl (λ s a d i j. refl) (λ a ha. ap (λ (x : ℤ). formula_balance o past a +ℤ x) (amount-same a ha)) mssl-grown (ap (λ (x : ℤ). formula_differences o past +ℤ x) difference-same)
             (day-held o (ring-pos o t) (ledger_after o past) w h.holds
             (λ s a i j. ap (λ (x : Option Row). entry_of x i j) (unsent s a)));
         kept = day-kept o (closes past) (in_force past) (formula_balance o past) (formula_amount o past) h.kept left
             (λ a ha. all Vesting a (closing_day o past) (vesting_of ha)) (λ a ha. all Meter a (closing_day o past) (meter_of ha)) amount-size;
         counted = count-grown;
+        returned = rw (h.returned, difference-same) refl;
         reported = ((λ y. absurd (omega arith), λ m. absurd (all m.missing.section m.missing.account m.missing.day m.missing.needed m.missing.absent)), h.reported);
       }
 

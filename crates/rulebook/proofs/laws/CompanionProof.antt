@@ -20,9 +20,9 @@ use Rattle.rulebook.specs.Layout.{size}
 use Rattle.rulebook.specs.File.{file_rows}
 use Rattle.rulebook.specs.Judging.{limits_of, judged}
 use Rattle.rulebook.specs.Submit.{Submission, submitted, taken}
-use Rattle.rulebook.specs.Close.{Closing, close_refused, closed_by, closed, settled, posted, posted_to_mssl, first_missing}
-use Rattle.rulebook.specs.Numbers.{accepted, not_well_formed, why_number, of_verdict, of_submit, of_close}
-use Rattle.rulebook.specs.History.{Event, closes, in_force, formula_balance, closing_day, formula_amount}
+use Rattle.rulebook.specs.Close.{Closing, close_refused, closed_by, closed, settled, posted, posted_to_mssl, first_missing, residual_count}
+use Rattle.rulebook.specs.Numbers.{Answer, accepted, not_well_formed, why_number, of_verdict, of_submit, of_close}
+use Rattle.rulebook.specs.History.{Event, closes, closing_day, formula_amount}
 use Rattle.rulebook.specs.Promises.{SubmitPromise, ClosePromise, Run, begun, then_submit, then_close}
 use Rattle.rulebook.specs.Companion.{first_lacking, search_answered, close_told, SubmitTells, CloseTells, EachTold, CompanionHolds}
 use Rattle.rulebook.specs.Ledger.{State}
@@ -32,7 +32,7 @@ use Rattle.rulebook.proofs.laws.SearchLaws.{search_is}
 use Rattle.rulebook.proofs.laws.StepLaws.{storable}
 use Rattle.rulebook.proofs.laws.BeyondLaws.{kept-all, rows-beyond, closed-beyond, statement-beyond, statement-amount, statement-mssl}
 use Rattle.rulebook.proofs.laws.StateLaws.{terms, submit-is}
-use Rattle.rulebook.proofs.laws.CloseStateLaws.{close-is, amount-same}
+use Rattle.rulebook.proofs.laws.CloseStateLaws.{close-is, amount-same, difference-same}
 use Rattle.rulebook.proofs.laws.Demand3Proof.{run_state, opening-state}
 
 not_3 : (why : Why) → why_number why ≢ not_well_formed
@@ -87,7 +87,7 @@ module _ (o : Terms) (t : InTerms o) (past : List Event) (w : List ℤ) (h : Sta
   settled-by : (st : List ℤ) → o.accounts + 1 ≤ length st → (x : Option ℕ) → close_told o past st ≡ search_answered o past x → Tells st (settled o w (closing_day o past) st x)
   unfolding settled
   settled-by st room None e = record {
-    answered = sym e;
+    answered = sym (e ∙ ap answered (sym (difference-same o t past w h)));
     well_formed = λ x. omega arith;
     refused = λ x. absurd (x refl);
     amounts = λ x a ha. statement-amount o w (closing_day o past) st room a ha ∙ amount-same o t past w h a ha;
@@ -96,6 +96,10 @@ module _ (o : Terms) (t : InTerms o) (past : List Event) (w : List ℤ) (h : Sta
     statement_beyond = statement-beyond o w (closing_day o past) st;
   }
     where
+      -- with the rounding difference of the book
+      answered : ℤ → Answer
+      answered z = record { number = accepted; position = 0; day = closing_day o past; count = residual_count o (closing_day o past); difference = z }
+
       mssl-is : posted_to_mssl o w (closing_day o past) ≡ neg_ℤ (sum_ℤ o.accounts (formula_amount o past))
       mssl-is = unfold posted_to_mssl posted mssl_amount in ap neg_ℤ (sum_ℤ-cong o.accounts (posted o w (closing_day o past)) (formula_amount o past) (amount-same o t past w h))
   settled-by st room (Some n) e = refused-tells st (Err (DatumMissing n)) (sym e) (λ x. omega arith) (λ x. omega arith)

@@ -48,6 +48,8 @@ demanded o past book h = record {
   balances = h.holds.balances;
   total = rw h.holds.mssl (ap (λ (x : ℤ). x +ℤ neg_ℤ (sum_ℤ o.accounts (formula_balance o past)))
       (sum_ℤ-cong o.accounts (λ a. word book (balance_word a)) (formula_balance o past) h.holds.balances) ∙ +ℤ_invr (sum_ℤ o.accounts (formula_balance o past)));
+  differences = h.holds.differences;
+  returned = h.returned;
   residuals = h.counted;
   reported = h.reported;
 }

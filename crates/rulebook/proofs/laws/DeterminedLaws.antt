@@ -1,11 +1,13 @@
 -- Leaves says every word: two books that an accepted call can leave by it, of one book before, are the same. Assumes nothing.
-use Rattle.std.specs.Prelude.{◌≡◌, ◌≢◌, ◌⊎◌, List, [], ◌∷◌, ℕ, zero, suc, ◌+◌, ◌-◌, ◌*◌, ◌≤◌, ◌<◌, ℤ, pos, neg_ℤ, ◌+ℤ◌}
+use Rattle.std.specs.Prelude.{◌≡◌, ◌≢◌, ◌⊎◌, List, [], ◌∷◌, ℕ, zero, suc, ◌+◌, ◌-◌, ◌*◌, ◌≤◌, ◌<◌, ℤ, pos, neg_ℤ, ◌+ℤ◌, ◌-ℤ◌, ◌*ℤ◌}
 use Rattle.std.proofs.Common.{sym, ap, ◌∙◌, subst, inl, inr, not-suc-le-zero, arith, ext_get_or}
 use Rattle.std.proofs.Math.Decide.{ℕ_discrete, dec_le}
 use Rattle.integer.specs.Below.{Each}
 use Rattle.integer.proofs.laws.BelowLaws.{lt_or_le, sum_ℤ-cong}
 use Rattle.integer.specs.Words.{word}
 use Rattle.rulebook.specs.declared.Terms.{Terms}
+use Rattle.rulebook.specs.DayAmount.{mssl_exact}
+use Rattle.rulebook.specs.BookData.{book_data}
 use Rattle.rulebook.specs.Numbers.{Answer}
 use Rattle.rulebook.specs.NamedRows.{NamedRow}
 use Rattle.rulebook.specs.Leaves.{day_index, CloseLeaves, word_count, row_index, Replaced, NotNamed, SubmitLeaves}
@@ -56,23 +58,26 @@ submit-determined o rows before after after' x y = ext_get_or (pos 0) after afte
 
 -- ---- A close
 
-answer-same : (x y : Answer) → x.number ≡ y.number → x.position ≡ y.position → x.day ≡ y.day → x.count ≡ y.count → x ≡ y
-answer-same x y a b c d = λ i. record { number = a i; position = b i; day = c i; count = d i }
+answer-same : (x y : Answer) → x.number ≡ y.number → x.position ≡ y.position → x.day ≡ y.day → x.count ≡ y.count → x.difference ≡ y.difference → x ≡ y
+answer-same x y a b c d e = λ i. record { number = a i; position = b i; day = c i; count = d i; difference = e i }
 
 module _ (o : Terms) (C : ℕ) (before statement : List ℤ) (answer answer' : Answer) (after after' written written' : List ℤ)
     (x : CloseLeaves o C before statement answer after written) (y : CloseLeaves o C before statement answer' after' written') where
-  answers : answer ≡ answer'
-  answers = answer-same answer answer' (x.number ∙ sym y.number) (x.position ∙ sym y.position) (x.day ∙ sym y.day) (go (lt_or_le C (o.first + o.lag)))
-    where
-      go : (C < o.first + o.lag) ⊎ (o.first + o.lag ≤ C) → answer.count ≡ answer'.count
-      go (inl h) = x.no_residuals h ∙ sym (y.no_residuals h)
-      go (inr h) = x.residuals h ∙ sym (y.residuals h)
-
   amounts : (a : ℕ) → a < o.accounts → word written a ≡ word written' a
   amounts a h = x.amounts a h ∙ sym (y.amounts a h)
 
   mssl : word written o.accounts ≡ word written' o.accounts
   mssl = x.mssl_amount ∙ ap neg_ℤ (sum_ℤ-cong o.accounts (word written) (word written') amounts) ∙ sym y.mssl_amount
+
+  differences : answer.difference ≡ answer'.difference
+  differences = x.difference ∙ ap (λ (v : ℤ). pos 1000 *ℤ v -ℤ mssl_exact o (book_data o before) C) mssl ∙ sym y.difference
+
+  answers : answer ≡ answer'
+  answers = answer-same answer answer' (x.number ∙ sym y.number) (x.position ∙ sym y.position) (x.day ∙ sym y.day) (go (lt_or_le C (o.first + o.lag))) differences
+    where
+      go : (C < o.first + o.lag) ⊎ (o.first + o.lag ≤ C) → answer.count ≡ answer'.count
+      go (inl h) = x.no_residuals h ∙ sym (y.no_residuals h)
+      go (inr h) = x.residuals h ∙ sym (y.residuals h)
 
   statements : written ≡ written'
   statements = ext_get_or (pos 0) written written' (x.beyond.long ∙ sym y.beyond.long) (λ n h. go n (lt_or_le n o.accounts) (lt_or_le o.accounts n))
@@ -82,31 +87,32 @@ module _ (o : Terms) (C : ℕ) (before statement : List ℤ) (answer answer' : A
       go n (inr h) (inl l) = x.beyond.words n (omega arith) ∙ sym (y.beyond.words n (omega arith))
       go n (inr h) (inr l) = let e : n ≡ o.accounts = omega arith in rw e mssl
 
-  others : (n : ℕ) → n ≢ 5 → n ≢ 6 → (SomeBelow o.accounts (λ a. n ≡ 64 + 8 * a) → ⊥)
+  others : (n : ℕ) → n ≢ 5 → n ≢ 6 → n ≢ 8 → (SomeBelow o.accounts (λ a. n ≡ 64 + 8 * a) → ⊥)
       → (o.first + o.lag ≤ C → SomeBelow 48 (λ i. SomeBelow (4 + 24 * o.accounts) (λ m. n ≡ day_index o (C - o.lag) i m)) → ⊥) → word after n ≡ word after' n
-  others n a b c d = x.others n a b balance slot ∙ sym (y.others n a b balance slot)
+  others n a b e c d = x.others n a b e balance slot ∙ sym (y.others n a b e balance slot)
     where
       balance : (a : ℕ) → a < o.accounts → n ≢ 64 + 8 * a
-      balance a h e = c (record { at = a; below = h; holds = e })
+      balance a h f = c (record { at = a; below = h; holds = f })
 
       slot : o.first + o.lag ≤ C → (i m : ℕ) → i < 48 → m < 4 + 24 * o.accounts → n ≢ day_index o (C - o.lag) i m
       slot h i m hi hm e = d h (record { at = i; below = hi; holds = record { at = m; below = hm; holds = e } })
 
   books : after ≡ after'
   books = ext_get_or (pos 0) after after' (x.long ∙ sym y.long)
-      (λ n h. go n (ℕ_discrete n 5) (ℕ_discrete n 6) (some_below o.accounts (λ a. n ≡ 64 + 8 * a) (λ a. ℕ_discrete n (64 + 8 * a)))
+      (λ n h. go n (ℕ_discrete n 5) (ℕ_discrete n 6) (ℕ_discrete n 8) (some_below o.accounts (λ a. n ≡ 64 + 8 * a) (λ a. ℕ_discrete n (64 + 8 * a)))
       (dec_le (o.first + o.lag) C) (one_of 48 (4 + 24 * o.accounts) n (day_index o (C - o.lag))))
     where
-      go : (n : ℕ) → Dec (n ≡ 5) → Dec (n ≡ 6) → Dec (SomeBelow o.accounts (λ a. n ≡ 64 + 8 * a)) → Dec (o.first + o.lag ≤ C)
+      go : (n : ℕ) → Dec (n ≡ 5) → Dec (n ≡ 6) → Dec (n ≡ 8) → Dec (SomeBelow o.accounts (λ a. n ≡ 64 + 8 * a)) → Dec (o.first + o.lag ≤ C)
           → Dec (SomeBelow 48 (λ i. SomeBelow (4 + 24 * o.accounts) (λ m. n ≡ day_index o (C - o.lag) i m))) → word after n ≡ word after' n
-      go n (yes e) b c d z = rw e (x.next_day ∙ sym y.next_day)
-      go n (no a) (yes e) c d z = rw e (x.mssl ∙ ap (λ (v : ℤ). word before 6 +ℤ v) mssl ∙ sym y.mssl)
-      go n (no a) (no b) (yes p) d z = rw p.holds
+      go n (yes e) b f c d z = rw e (x.next_day ∙ sym y.next_day)
+      go n (no a) (yes e) f c d z = rw e (x.mssl ∙ ap (λ (v : ℤ). word before 6 +ℤ v) mssl ∙ sym y.mssl)
+      go n (no a) (no b) (yes e) c d z = rw e (x.differences ∙ ap (λ (v : ℤ). word before 8 +ℤ v) differences ∙ sym y.differences)
+      go n (no a) (no b) (no f) (yes p) d z = rw p.holds
           (x.balances p.at p.below ∙ ap (λ (v : ℤ). word before (64 + 8 * p.at) +ℤ v) (amounts p.at p.below) ∙ sym (y.balances p.at p.below))
-      go n (no a) (no b) (no c) (yes d) (yes z) = rw z.holds.holds
+      go n (no a) (no b) (no f) (no c) (yes d) (yes z) = rw z.holds.holds
           (x.blank d z.at z.holds.at z.below z.holds.below ∙ sym (y.blank d z.at z.holds.at z.below z.holds.below))
-      go n (no a) (no b) (no c) (yes d) (no z) = others n a b c (λ q. z)
-      go n (no a) (no b) (no c) (no d) z = others n a b c (λ q. absurd (d q))
+      go n (no a) (no b) (no f) (no c) (yes d) (no z) = others n a b f c (λ q. z)
+      go n (no a) (no b) (no f) (no c) (no d) z = others n a b f c (λ q. absurd (d q))
 
   pub close-determined : (after ≡ after') × (written ≡ written') × (answer ≡ answer')
   close-determined = (books, statements, answers)

@@ -14,7 +14,7 @@ use Rattle.rulebook.specs.Terms.{InTerms}
 use Rattle.rulebook.specs.Sections.{accounts_of}
 use Rattle.rulebook.specs.Layout.{width, place, interval_length, interval_size, ring, slot, interval_word, row_word, interval_table, account_table, interval_words, account_words, account_place, flag_index, InWindow}
 use Rattle.rulebook.specs.BookData.{terms_of, next_day}
-use Rattle.rulebook.specs.WellFormed.{is_zero, row_fits, padding_zero, rows_there, account_fits, ncc_fits, interval_fits, interval_blank, interval_at, slot_blank, dated_fits, well_formed, day_bound}
+use Rattle.rulebook.specs.WellFormed.{is_zero, row_fits, padding_zero, rows_there, account_fits, ncc_fits, interval_fits, interval_blank, interval_at, slot_blank, dated_fits, well_formed, day_bound, difference_bound}
 use Rattle.rulebook.specs.WindowWalk.{window_slot, place_dated, window_slot_fits}
 use Rattle.rulebook.specs.Ledger.{Ledger, HoldsLedger, Padding, of_interval, of_account}
 use Rattle.rulebook.proofs.laws.TestLaws.{all_yes, cond_yes, and_both, zero-yes}
@@ -36,6 +36,7 @@ pub record Fit (o : Terms) (b : Ledger) : Type 0 where
   pub meters : (a d i : ℕ) → InWindow o b.closed d → d < o.first + b.closed → a < o.accounts → i < 48 → T (not (is_zero (b.entries Meter a d i (flag_index Meter))))
   pub bounded : (a : ℕ) → a < o.accounts → nat_abs (b.balance a) ≤ b.closed * day_bound
   pub mssl : nat_abs b.mssl ≤ o.accounts * (b.closed * day_bound)
+  pub differences : nat_abs b.differences ≤ o.accounts * (b.closed * difference_bound)
   pub begun : o.first + b.closed ≤ suc last_day
 
 module _ (o : Terms) (t : InTerms o) (b : Ledger) (w : List ℤ) (h : HoldsLedger o b w) (q : Fit o b) where
@@ -137,5 +138,5 @@ module _ (o : Terms) (t : InTerms o) (b : Ledger) (w : List ℤ) (h : HoldsLedge
   pub well_formed_lem : T (well_formed w)
   well_formed_lem =
       let n : o.first + k - o.first ≡ k = add-sub_cancel_left o.first k in
-      book-passes o (o.first + k) w header-held h.long (rw (h.mssl, n) q.mssl) (λ a ha. rw (h.balances a ha, n) (q.bounded a ha)) h.balance_zeros
+      book-passes o (o.first + k) w header-held h.long (rw (h.mssl, n) q.mssl) (rw (h.differences, n) q.differences) (λ a ha. rw (h.balances a ha, n) (q.bounded a ha)) h.balance_zeros
       (walk-days o w k t.horizon_from (all_yes (ring o) (window_slot_fits o w k) window-fits))

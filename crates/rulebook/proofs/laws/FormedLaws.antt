@@ -14,9 +14,9 @@ use Rattle.rulebook.specs.declared.Terms.{Terms}
 use Rattle.rulebook.specs.Units.{last_day}
 use Rattle.rulebook.specs.Terms.{InTerms}
 use Rattle.rulebook.specs.Sections.{accounts_of}
-use Rattle.rulebook.specs.Layout.{width, place, ring, size, interval_length, interval_size, slot, interval_word, row_word, next_day_word, mssl_word, balance_word, balance_padding, balance_padding_words, InWindow}
+use Rattle.rulebook.specs.Layout.{width, place, ring, size, interval_length, interval_size, slot, interval_word, row_word, next_day_word, mssl_word, differences_word, balance_word, balance_padding, balance_padding_words, InWindow}
 use Rattle.rulebook.specs.BookData.{terms_of, next_day, entries_of}
-use Rattle.rulebook.specs.WellFormed.{is_zero, row_fits, interval_fits, interval_blank, interval_at, slot_blank, dated_fits, balance_words_fit, balance_fits, contents_fit, fits, well_formed, day_bound, days_fit}
+use Rattle.rulebook.specs.WellFormed.{is_zero, row_fits, interval_fits, interval_blank, interval_at, slot_blank, dated_fits, sum_fits, balance_words_fit, balance_fits, contents_fit, fits, well_formed, day_bound, difference_bound, days_fit}
 use Rattle.rulebook.specs.WindowWalk.{window_slot, window_place, place_dated, window_slot_fits}
 use Rattle.rulebook.specs.Ledger.{Padding, HoldsLedger, ledger_of}
 use Rattle.rulebook.proofs.laws.TestLaws.{and_left, and_right, is_zero_lem, all_at}
@@ -61,14 +61,19 @@ module _ (w : List ℤ) (t : T (well_formed w)) where
       (and_right (balance_fits 1 (next_day w - (terms_of w).first) (word w (balance_word a))) (all balance_padding_words (λ j. is_zero (word w (balance_padding a j)))) (account-of a ha)) j hj)
 
   pub balance-at : (a : ℕ) → a < (terms_of w).accounts → nat_abs (word w (balance_word a)) ≤ (next_day w - (terms_of w).first) * day_bound
-  unfolding balance_words_fit balance_fits
+  unfolding balance_words_fit sum_fits
   balance-at a ha = let x = leb→le (nat_abs (word w (balance_word a))) (1 * ((next_day w - (terms_of w).first) * day_bound))
       (and_left (balance_fits 1 (next_day w - (terms_of w).first) (word w (balance_word a))) (all balance_padding_words (λ j. is_zero (word w (balance_padding a j)))) (account-of a ha)) in
       rw one-mul at x
 
   pub mssl-at : nat_abs (word w mssl_word) ≤ (terms_of w).accounts * ((next_day w - (terms_of w).first) * day_bound)
-  unfolding fits contents_fit balance_fits
+  unfolding fits contents_fit sum_fits
   mssl-at = let x = all_fits in leb→le (nat_abs (word w mssl_word)) ((terms_of w).accounts * ((next_day w - (terms_of w).first) * day_bound)) (search (and_left, and_right) depth 6)
+
+  pub differences-at : nat_abs (word w differences_word) ≤ (terms_of w).accounts * ((next_day w - (terms_of w).first) * difference_bound)
+  unfolding fits contents_fit sum_fits
+  differences-at = let x = all_fits in
+      leb→le (nat_abs (word w differences_word)) ((terms_of w).accounts * ((next_day w - (terms_of w).first) * difference_bound)) (search (and_left, and_right) depth 6)
 
   -- the days of the window, place by place
   pub walk_of : T (all (ring (terms_of w)) (window_slot_fits (terms_of w) w (next_day w - (terms_of w).first)))
@@ -117,6 +122,7 @@ module _ (w : List ℤ) (t : T (well_formed w)) where
     next = (next_of w t).0 ∙ ap pos (omega (arith, (next_of w t).1));
     mssl = refl;
     change = (header_of w t).change;
+    differences = refl;
     header_zeros = (header_of w t).zeros;
     balances = λ a x. refl;
     balance_zeros = balance-zeros w t;
@@ -135,6 +141,7 @@ module _ (w : List ℤ) (t : T (well_formed w)) where
     meters = λ a d i hd x ha hi. (closed-there (terms_of w) w (next_day w - (terms_of w).first) (walk_of w t) d hd (before d x) x a i ha hi).1;
     bounded = balance-at w t;
     mssl = mssl-at w t;
+    differences = differences-at w t;
     begun = omega (arith, (next_of w t).1, (next_of w t).2);
   }
     where

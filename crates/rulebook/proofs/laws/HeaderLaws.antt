@@ -11,9 +11,9 @@ use Rattle.rulebook.specs.declared.Terms.{Terms}
 use Rattle.rulebook.specs.Units.{last_day, between, positive}
 use Rattle.rulebook.specs.Shares.{most_accounts}
 use Rattle.rulebook.specs.Terms.{most_lag, most_horizon, earliest_first_day, change_fits, terms_fit, InTerms}
-use Rattle.rulebook.specs.Layout.{book_mark, mark_word, accounts_word, lag_word, horizon_word, first_day_word, next_day_word, mssl_word, change_day_word, balance_word, header_padding_words, header_padding, balance_padding_words, balance_padding, size}
+use Rattle.rulebook.specs.Layout.{book_mark, mark_word, accounts_word, lag_word, horizon_word, first_day_word, next_day_word, mssl_word, change_day_word, differences_word, balance_word, header_padding_words, header_padding, balance_padding_words, balance_padding, size}
 use Rattle.rulebook.specs.BookData.{terms_of, next_day}
-use Rattle.rulebook.specs.WellFormed.{day_bound, is_zero, balance_fits, balance_words_fit, days_fit, next_day_fits, terms_words_fit, header_fits, contents_fit, fits, well_formed}
+use Rattle.rulebook.specs.WellFormed.{day_bound, difference_bound, is_zero, sum_fits, balance_fits, balance_words_fit, days_fit, next_day_fits, terms_words_fit, header_fits, contents_fit, fits, well_formed}
 use Rattle.rulebook.proofs.laws.TestLaws.{and_left, and_right, and_both, or_left, or_right, or_cases, and_then, by_twos, tests_same, between-yes, is_natural, is_number, is_zero_lem, zero-yes, above_zero, not_below, between-positive, all_yes, all_at}
 
 -- ---- Terms
@@ -145,20 +145,22 @@ module _ (o : Terms) (C : ℕ) (w : List ℤ) (h : HeaderSays o C w) where
 
   -- account a's eight words
   account-passes : (k a : ℕ) → nat_abs (word w (balance_word a)) ≤ k * day_bound → ((j : ℕ) → j < balance_padding_words → word w (balance_padding a j) ≡ pos 0) → T (balance_words_fit w k a)
-  unfolding balance_words_fit balance_fits
+  unfolding balance_words_fit sum_fits
   account-passes k a b z = and_both (balance_fits 1 k (word w (balance_word a))) (all balance_padding_words (λ j. is_zero (word w (balance_padding a j))))
       (le→leb (nat_abs (word w (balance_word a))) (1 * (k * day_bound)) (rw one-mul b)) (all_yes balance_padding_words (λ j. is_zero (word w (balance_padding a j))) (λ j l. zero-yes (z j l)))
 
-  -- its size, balances, zeros and days
+  -- its size, sums, zeros and days
   module _ (long : size o ≤ length w) (mssl : nat_abs (word w mssl_word) ≤ o.accounts * ((C - o.first) * day_bound))
+      (difference : nat_abs (word w differences_word) ≤ o.accounts * ((C - o.first) * difference_bound))
       (balances : (a : ℕ) → a < o.accounts → nat_abs (word w (balance_word a)) ≤ (C - o.first) * day_bound)
       (zeros : (a j : ℕ) → a < o.accounts → j < balance_padding_words → word w (balance_padding a j) ≡ pos 0) (days : T (days_fit o w C)) where
     all_pass : T (fits o w C)
-    unfolding fits contents_fit balance_fits
+    unfolding fits contents_fit sum_fits
     all_pass =
         let a = header-passes in
         let l = le→leb (size o) (length w) long in
         let m = le→leb (nat_abs (word w mssl_word)) (o.accounts * ((C - o.first) * day_bound)) mssl in
+        let d = le→leb (nat_abs (word w differences_word)) (o.accounts * ((C - o.first) * difference_bound)) difference in
         let b = all_yes o.accounts (balance_words_fit w (C - o.first)) (λ a h. account-passes (C - o.first) a (balances a h) (λ j. zeros a j h)) in
         search and_both depth 6
 

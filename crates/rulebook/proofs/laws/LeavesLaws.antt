@@ -1,5 +1,5 @@
 -- An accepted close, and an accepted file, leave every word of any lent book as Leaves says. Assumes nothing.
-use Rattle.std.specs.Prelude.{◌≡◌, refl, Bool, true, false, cond, List, [], ◌∷◌, map, ℕ, zero, suc, ◌+◌, ◌-◌, ◌*◌, ◌≤◌, ◌<◌, ℤ, ◌+ℤ◌, T, eqb, ltb, length, get_or, Option, Some, None, Ok, Err}
+use Rattle.std.specs.Prelude.{◌≡◌, refl, Bool, true, false, cond, List, [], ◌∷◌, map, ℕ, zero, suc, ◌+◌, ◌-◌, ◌*◌, ◌≤◌, ◌<◌, ℤ, ◌+ℤ◌, ◌-ℤ◌, ◌*ℤ◌, T, eqb, ltb, length, get_or, Option, Some, None, Ok, Err}
 use Rattle.std.proofs.Math.Path.{sym, ap}
 use Rattle.std.proofs.Common.{◌∙◌, subst, arith, le-leb, ltb-false, leb→le, le→leb, nltb→le}
 use Rattle.std.proofs.lemmas.Bool.{lt-leb}
@@ -14,14 +14,14 @@ use Rattle.rulebook.specs.declared.Terms.{Terms}
 use Rattle.rulebook.specs.declared.SubmitError.TheVariants.{IllFormed}
 use Rattle.rulebook.specs.Judging.{Verdict}
 use Rattle.rulebook.specs.Units.{last_day}
-use Rattle.rulebook.specs.DayAmount.{settles_residual, mssl_amount}
+use Rattle.rulebook.specs.DayAmount.{settles_residual, mssl_amount, mssl_exact, rounding_difference}
 use Rattle.rulebook.specs.Layout.{base, ring, interval_size, slot, interval_word, row_word, width, place, row_table, padding}
-use Rattle.rulebook.specs.BookData.{terms_of, next_day}
+use Rattle.rulebook.specs.BookData.{book_data, terms_of, next_day}
 use Rattle.rulebook.specs.WellFormed.{well_formed}
 use Rattle.rulebook.specs.File.{Row, file_rows, figure_of}
 use Rattle.rulebook.specs.Judging.{limits_of, judged}
 use Rattle.rulebook.specs.Submit.{word_of, entry, row_stored, rows_stored, taken, submitted}
-use Rattle.rulebook.specs.Close.{Closing, closed_by, closed, settled, first_missing, posted, posted_to_mssl, day_closed, statement_written, residual_count, close_figures}
+use Rattle.rulebook.specs.Close.{Closing, closed_by, closed, settled, first_missing, posted, posted_to_mssl, day_difference, day_closed, statement_written, residual_count, close_figures}
 use Rattle.rulebook.specs.Numbers.{accepted, of_submit, of_close}
 use Rattle.rulebook.specs.NamedRows.{NamedRow, named, named_rows}
 use Rattle.rulebook.specs.Proper.{same_key, Once}
@@ -36,7 +36,7 @@ use Rattle.rulebook.proofs.laws.ListLaws.{each_map, each_both}
 use Rattle.rulebook.proofs.laws.AcceptedLaws.{rows-once}
 use Rattle.rulebook.proofs.laws.FormLaws.{ring-pos}
 use Rattle.rulebook.proofs.laws.FormedLaws.{formed-holds, opened_of, next_of}
-use Rattle.rulebook.proofs.laws.CloseLaws.{base-fits, counted, counted_next, counted-mssl, counted-balance, counted-out, closed-elsewhere, closed-front, closed_in}
+use Rattle.rulebook.proofs.laws.CloseLaws.{base-fits, counted, counted_next, counted-mssl, counted-difference, counted-balance, counted-out, closed-elsewhere, closed-front, closed_in}
 use Rattle.rulebook.proofs.laws.BeyondLaws.{closed-beyond, statement-beyond, statement-amount, statement-mssl}
 use Rattle.rulebook.proofs.laws.LentLaws.{rows-storable, stored-words, submitted-rows, submitted-beyond}
 use Rattle.rulebook.proofs.laws.StateLaws.{never-accepted}
@@ -87,22 +87,24 @@ module _ (w st : List ℤ) (t : T (well_formed w)) (room : (terms_of w).accounts
   unfolding base
   front n h = closed-front o w D n h
 
-  close-leaves : CloseLeaves o D w st (of_close (Ok (close_figures o D))) (day_closed o w D) (statement_written o w D st)
-  unfolding posted posted_to_mssl mssl_amount residual_count settles_residual interval_word base interval_size slot ring
+  close-leaves : CloseLeaves o D w st (of_close (Ok (close_figures o w D))) (day_closed o w D) (statement_written o w D st)
+  unfolding posted posted_to_mssl day_difference rounding_difference mssl_amount residual_count settles_residual interval_word base interval_size slot ring
   close-leaves = record {
     number = refl;
     position = refl;
     day = refl;
     residuals = λ h. rw (le-leb (o.first + o.lag) D h) refl;
     no_residuals = λ h. rw (lt-leb (o.first + o.lag) D h) refl;
+    difference = ap (λ (x : ℤ). pos 1000 *ℤ x -ℤ mssl_exact o (book_data o w) D) (sym (statement-mssl o w D st room));
     amounts = amount;
     mssl_amount = statement-mssl o w D st room ∙ ap neg_ℤ (sum_ℤ-cong o.accounts (posted o w D) (word (statement_written o w D st)) (λ a h. sym (amount a h)));
     beyond = statement-beyond o w D st;
     next_day = front 5 (omega arith) ∙ counted_next o w D longer ∙ rw (next_of w t).0 (ap pos (omega arith));
     mssl = front 6 (omega arith) ∙ counted-mssl o w D longer ∙ ap (λ (x : ℤ). word w 6 +ℤ x) (sym (statement-mssl o w D st room));
+    differences = front 8 (omega arith) ∙ counted-difference o w D longer;
     balances = λ a h. front (64 + 8 * a) (omega arith) ∙ counted-balance o w D longer a h ∙ ap (λ (x : ℤ). word w (64 + 8 * a) +ℤ x) (sym (amount a h));
     blank = λ h i m hi hm. closed_in o w D i m hi hm (formed-holds w t).long (ring-pos o (opened_of w t)) (le→leb (o.first + o.lag) D h);
-    others = λ n f g h k. closed-elsewhere o w D n (λ x. k (leb→le (o.first + o.lag) D x)) ∙ counted-out o w D n f g h;
+    others = λ n f g d h k. closed-elsewhere o w D n (λ x. k (leb→le (o.first + o.lag) D x)) ∙ counted-out o w D n f g d h;
     long = (closed-beyond o (ring-pos o (opened_of w t)) w D).long;
   }
 

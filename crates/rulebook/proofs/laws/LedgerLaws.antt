@@ -11,7 +11,7 @@ use Rattle.rulebook.specs.declared.Section.{Section}
 use Rattle.rulebook.specs.declared.Section.TheVariants.{Vesting, Meter, Residual, Ncc}
 use Rattle.rulebook.specs.declared.Terms.{Terms}
 use Rattle.rulebook.specs.Sections.{accounts_of}
-use Rattle.rulebook.specs.Layout.{width, place, interval_size, ring, base, slot, interval_word, row_word, Word, padding, is_padding, table_of, account_table, table_place, account_place, interval_words, account_words, mark_word, accounts_word, lag_word, horizon_word, first_day_word, next_day_word, mssl_word, change_day_word, balance_word, balance_padding, header_padding, InWindow}
+use Rattle.rulebook.specs.Layout.{width, place, interval_size, ring, base, slot, interval_word, row_word, Word, padding, is_padding, table_of, account_table, table_place, account_place, interval_words, account_words, mark_word, accounts_word, lag_word, horizon_word, first_day_word, next_day_word, mssl_word, change_day_word, differences_word, balance_word, balance_padding, header_padding, InWindow}
 use Rattle.rulebook.specs.WindowWalk.{window_slot}
 use Rattle.rulebook.specs.File.{Row}
 use Rattle.rulebook.specs.Submit.{entry, row_stored, rows_stored}
@@ -25,8 +25,8 @@ use Rattle.rulebook.proofs.laws.WordLaws.{row_out, row_in, length-row_stored}
 
 -- figures that agree, and balances that agree for the book's accounts
 pub held_same : {o : Terms} {b c : Ledger} {w : List ℤ} → b.closed ≡ c.closed → ((s : Section) (a d i j : ℕ) → b.entries s a d i j ≡ c.entries s a d i j)
-    → ((a : ℕ) → a < o.accounts → b.balance a ≡ c.balance a) → b.mssl ≡ c.mssl → HoldsLedger o b w → HoldsLedger o c w
-held_same {o} {b} {c} {w} k f e m h = record {
+    → ((a : ℕ) → a < o.accounts → b.balance a ≡ c.balance a) → b.mssl ≡ c.mssl → b.differences ≡ c.differences → HoldsLedger o b w → HoldsLedger o c w
+held_same {o} {b} {c} {w} k f e m x h = record {
   long = h.long;
   mark = h.mark;
   accounts = h.accounts;
@@ -36,6 +36,7 @@ held_same {o} {b} {c} {w} k f e m h = record {
   next = h.next ∙ ap (λ (x : ℕ). pos (o.first + x)) k;
   mssl = h.mssl ∙ m;
   change = h.change;
+  differences = h.differences ∙ x;
   header_zeros = h.header_zeros;
   balances = λ a x. h.balances a x ∙ e a x;
   balance_zeros = h.balance_zeros;
@@ -133,6 +134,7 @@ module _ (o : Terms) (p : zero < ring o) where
       next = front w next_day_word (omega arith) ∙ h.next;
       mssl = front w mssl_word (omega arith) ∙ h.mssl;
       change = front w change_day_word (omega arith) ∙ h.change;
+      differences = front w differences_word (omega arith) ∙ h.differences;
       header_zeros = λ n x. front w (header_padding n) (omega arith) ∙ h.header_zeros n x;
       balances = λ a x. front w (balance_word a) (omega arith) ∙ h.balances a x;
       balance_zeros = λ a j x y. front w (balance_padding a j) (omega arith) ∙ h.balance_zeros a j x y;

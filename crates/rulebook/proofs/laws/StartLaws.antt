@@ -11,7 +11,7 @@ use Rattle.rulebook.specs.Layout.{size}
 use Rattle.rulebook.specs.WellFormed.{well_formed}
 use Rattle.rulebook.specs.Opening.{new_book, opened, Opening}
 use Rattle.rulebook.specs.Numbers.{Answer, accepted, of_open}
-use Rattle.rulebook.specs.History.{closes, in_force, formula_balance, residual_counts}
+use Rattle.rulebook.specs.History.{closes, in_force, formula_balance, formula_differences, residual_counts, returned_differences}
 use Rattle.rulebook.specs.Companion.{OpenTells, OpeningHolds}
 use Rattle.rulebook.specs.Ledger.{State}
 use Rattle.rulebook.proofs.laws.LedgerLaws.{held_same}
@@ -24,9 +24,9 @@ use Rattle.rulebook.proofs.laws.StateLaws.{formed}
 
 module _ (o : Terms) (t : InTerms o) (lent : List ℤ) (l : size o ≤ length lent) where
   pub new_state : State o [] (new_book o lent)
-  unfolding closes in_force formula_balance residual_counts
+  unfolding closes in_force formula_balance formula_differences residual_counts returned_differences
   new_state = record {
-    holds = held_same refl (λ s a d i j. refl) (λ a ha. refl) (sym (ap neg_ℤ (sum_zero o.accounts))) (book-new o lent (ring-pos o t) l);
+    holds = held_same refl (λ s a d i j. refl) (λ a ha. refl) (sym (ap neg_ℤ (sum_zero o.accounts))) refl (book-new o lent (ring-pos o t) l);
     kept = record {
       section = λ s a d r e. some_none (sym e);
       ranged = λ s a d r e. some_none (sym e);
@@ -38,6 +38,7 @@ module _ (o : Terms) (t : InTerms o) (lent : List ℤ) (l : size o ≤ length le
       begun = omega arith;
     };
     counted = sym (ap (λ (x : ℕ). 48 * o.accounts * x) (zero-sub o.lag) ∙ mul-zero (48 * o.accounts));
+    returned = refl;
     reported = tt;
   }
 

@@ -12,7 +12,7 @@ use Rattle.rulebook.specs.declared.Terms.{Terms}
 use Rattle.rulebook.specs.Units.{last_day}
 use Rattle.rulebook.specs.Layout.{flag_index, InWindow}
 use Rattle.rulebook.specs.BookData.{Entries}
-use Rattle.rulebook.specs.WellFormed.{is_zero, day_bound}
+use Rattle.rulebook.specs.WellFormed.{is_zero, day_bound, difference_bound}
 use Rattle.rulebook.specs.File.{Row}
 use Rattle.rulebook.specs.Judging.{open_from, limits_of}
 use Rattle.rulebook.specs.Submit.{entry, entry_or}
@@ -158,13 +158,14 @@ module _ (o : Terms) (k : ℕ) (rows : RowsInForce) (balance : ℕ → ℤ) (q :
       go (inl e) = ap (λ (y : Option Row). entry_of y i j) e
       go (inr e) = absurd (omega (arith, q.dated s a d e.0 e.1))
 
-  pub kept-fit : Fit o (ledger o k rows balance)
-  kept-fit = record {
+  pub kept-fit : (difference : ℤ) → nat_abs difference ≤ o.accounts * (k * difference_bound) → Fit o (ledger o k rows balance difference)
+  kept-fit difference h = record {
     rows = λ s a d i hd ha hi. row_fits_lem s (rows s a d) (λ r e. (q.section s a d r e, q.ranged s a d r e)) (λ j. entry_of (rows s a d) i j) i hi (λ j hj. refl);
     undated = λ s a d i j hd x ha hi hj. undated s a d i j x;
     vestings = λ a d i hd x ha hi. there Vesting a d i (q.vestings a d ha hd.begun x);
     meters = λ a d i hd x ha hi. there Meter a d i (q.meters a d ha hd.begun x);
     bounded = q.bounded;
     mssl = rw abs_neg (abs-sum_ℤ o.accounts (k * day_bound) balance q.bounded);
+    differences = h;
     begun = q.begun;
   }

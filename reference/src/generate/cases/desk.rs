@@ -109,10 +109,11 @@ impl<'a> Desk<'a> {
             answer.position as i64,
             answer.day,
             answer.residual_count,
+            answer.difference,
         ];
-        assert_eq!(figures[..4], told);
+        assert_eq!(figures[..5], told);
         if answer.number == ACCEPTED {
-            assert_eq!(figures[5..][..cents.len()], cents);
+            assert_eq!(figures[6..][..cents.len()], cents);
             self.history.closed(words, &answer);
         }
     }

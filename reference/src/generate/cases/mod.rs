@@ -6,6 +6,7 @@ mod closes;
 mod damages;
 mod dates;
 mod desk;
+mod differences;
 mod examples;
 mod figures;
 mod large;
@@ -42,6 +43,7 @@ pub fn cases() -> Vec<Frame> {
     reports::write(&mut script);
     packs::write(&mut script);
     unpacks::write(&mut script);
+    differences::write(&mut script);
     script.frames
 }
 

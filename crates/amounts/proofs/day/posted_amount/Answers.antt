@@ -1,13 +1,13 @@
 -- `posted_amount` meets its contract: each of the 48 turns has `absorb` take one interval's amount, which has room; the day's sum is below 5 × 10^15, so it
--- can be rounded.
+-- can be posted.
 use Rattle.std.specs.Int.{w64}
-use Rattle.std.proofs.Common.{◌≡◌, ℕ, ℤ, ◌+◌, ◌<◌, nat_abs, length, length-set, sym, ap, ◌∙◌, arith, SFits, to_z, of_z}
-use Rattle.std.proofs.lemmas.Int.{to_z-of_z}
-use Rattle.integer.proofs.laws.IntegerLaws.{int, abs-add, fits-abs}
-use Rattle.integer.proofs.Bits.{got, fits-add, known}
+use Rattle.std.proofs.Common.{◌≡◌, ℤ, ◌+◌, ◌<◌, nat_abs, length, length-set, sym, ap, ◌∙◌, arith, to_z, of_z}
+use Rattle.integer.proofs.laws.IntegerLaws.{abs-add}
+use Rattle.integer.proofs.Bits.{got, fits-add}
 use Rattle.integer.proofs.laws.WordsLaws.{filled_zero, filled-step, filled-whole}
-use Rattle.rulebook.specs.Units.{intervals, nearest, thousandths_per_cent}
-use Rattle.amounts.specs.Total.{absorbed}
+use Rattle.rulebook.specs.Units.{intervals}
+use Rattle.rulebook.proofs.laws.DayAmountLaws.{left-within}
+use Rattle.amounts.specs.Total.{absorbed, posted_of}
 use Rattle.amounts.specs.declared.total.DayTotal.{DayTotal}
 use Rattle.amounts.specs.Day.{sum_before, sums_before, total_to, slot_posted}
 use Rattle.amounts.proofs.laws.DayLaws.{sum_at, filled-rest, total-zero, total-suc}
@@ -56,24 +56,18 @@ loop-h-preserved c =
 ended : (c : After-loop-h) → c.loop-h.h ≡ intervals
 ended c = omega arith
 
-fits : (c : After-loop-h) → c.loop-h.h ≡ intervals → SFits w64 c.loop-h.total.thousandths
-fits c e = fits-abs (omega (int, e, c.loop-h.invariant.2))
+pub posted-requires : goal.posted-requires
+posted-requires c = omega (arith, ended (goal.at.posted-requires c).After-loop-h, c.loop-h.invariant.2)
 
-pub nearest_to-requires : goal.nearest_to-requires
-nearest_to-requires c =
-    let g = (goal.at.nearest_to-requires c).After-loop-h in
-    let k = known (fits g (ended g)) in
-    (omega (int, ended g, c.loop-h.invariant.2), (omega arith, omega arith))
+pub returns-clause-small : goal.returns-clause-small
+returns-clause-small c = rw c.posted.ensures (left-within c.loop-h.total.thousandths)
 
 pub returns-clause-amount : goal.returns-clause-amount
 unfolding slot_posted
 returns-clause-amount c =
     let a = c.args in
     let g = (goal.at.returns-clause-amount c).After-loop-h in
-    got c.nearest_to.result c.nearest_to.type_inv ∙ c.nearest_to.ensures
-    ∙ ap (λ (z : ℤ). nearest z thousandths_per_cent)
-    (to_z-of_z w64 _ (fits g (ended g)) ∙ ap (λ (t : DayTotal). t.thousandths) c.loop-h.invariant.1
-    ∙ ap (λ (k : ℕ). (total_to a.today.accounts a.today.words.now a.then.now a.a k).thousandths) (ended g))
+    c.posted.ensures ∙ ap posted_of (c.loop-h.invariant.1 ∙ ap (total_to a.today.accounts a.today.words.now a.then.now a.a) (ended g))
 
 pub returns-clause-sums : goal.returns-clause-sums
 unfolding sums_before

@@ -22,6 +22,9 @@ slots_end c =
 pub mssl_fits-requires : goal.mssl_fits-requires
 mssl_fits-requires c = omega (arith, header-inside c.args.header.now.terms)
 
+pub differences_fit-requires : goal.differences_fit-requires
+differences_fit-requires c = omega (arith, header-inside c.args.header.now.terms)
+
 pub balances_fit-requires : goal.balances_fit-requires
 balances_fit-requires c = omega (arith, header-inside c.args.header.now.terms)
 
@@ -48,4 +51,4 @@ returns c =
     let n : t.first + k ≡ h.next = omega (arith, h.begun) in
     let e : c.slots_fit.result ≡ days_fit t c.args.book.now (t.first + k)
     = c.slots_fit.ensures ∙ rw (slots_end d, lent c.args.book.now c.balance_word-base.result (ring t * slot_length t.accounts), slots_start d) (slots-are_days t c.args.book.now k a.horizon_from c.requires) in
-    rw (c.mssl_fits.ensures, c.balances_fit.ensures, e, n)
+    rw (c.mssl_fits.ensures, c.differences_fit.ensures, c.balances_fit.ensures, e, n)

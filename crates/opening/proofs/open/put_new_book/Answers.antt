@@ -1,4 +1,4 @@
--- `put_new_book` meets its contract: the header is copied, then the part from word 8 to the size is cleared.
+-- `put_new_book` meets its contract: the header is copied, then the part from word 9 to the size is cleared.
 use Rattle.std.proofs.Common.{◌≡◌, ◌++◌, drop, length-take, arith}
 use Rattle.integer.specs.Words.{word}
 use Rattle.rulebook.specs.Layout.{stored}
@@ -24,7 +24,7 @@ pub slice_bounds-clear-start : goal.slice_bounds-clear-start
 slice_bounds-clear-start c = omega (arith, header-inside c.args.terms)
 
 -- the words once the header is copied
-copied : (c : After-copy_from_slice) → c.copy_from_slice.new.self ++ drop 8 c.args.book.now ≡ stored c.args.book.now 0 8 (word (header c.args.terms))
+copied : (c : After-copy_from_slice) → c.copy_from_slice.new.self ++ drop 9 c.args.book.now ≡ stored c.args.book.now 0 9 (word (header c.args.terms))
 copied c =
     let i = header-inside c.args.terms in
     rw (c.copy_from_slice.ensures.after, c.new_header.ensures) (header-copied c.args.terms c.args.book.now (omega arith))
