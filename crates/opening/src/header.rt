@@ -68,7 +68,7 @@ pub struct Header {
 }
 
 impl Header {
-    // "The book": words 0 to 63, but for the MSSL's balance and the rounding difference.
+    // "The book": words 0 to 63, but for the MSSL's balance and the rounding differences' sum.
     pub fn of(book: &[i64]) -> Option<Header>
         ensures fits { is_some result ≡ (leb header_words (length book.now) && header_fits book.now) }
         ensures told { IfSome result (λ h. (h.terms ≡ terms_of book.now) × (h.next ≡ next_day book.now)) }
@@ -118,7 +118,7 @@ impl Header {
         self.sum_fits(units::DAY_BOUND, book[layout::MSSL])
     }
 
-    // Document 02, P5: the rounding difference is within 500 × N × (C − F).
+    // Document 02, P5: the rounding differences' sum is within 500 × N × (C − F).
     pub fn differences_fit(&self, book: &[i64]) -> bool
         requires { differences_word < length book.now }
         ensures { result ≡ differences_fit self.now.terms.accounts (self.now.next - self.now.terms.first) (word book.now differences_word) }

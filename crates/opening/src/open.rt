@@ -9,8 +9,8 @@ use crate::words::clear;
 use rulebook::accepted::AcceptedTerms;
 use rulebook::{OpenError, Terms, layout};
 
-// 395, N, L, H, F, C = F, the MSSL's balance, X and the rounding difference: the words before the header's zeros. No `From` makes words of numbers; `as` is proved to
-// lose nothing.
+// 395, N, L, H, F, C = F, the MSSL's balance, X and the rounding differences' sum: the words before the header's zeros. No `From` makes words of
+// numbers; `as` is proved to lose nothing.
 fn new_header(terms: AcceptedTerms) -> [i64; layout::HEADER_SPARES]
     ensures { result ≡ header terms }
 {

@@ -98,6 +98,8 @@ pub record Theorems : Type 0 where
   -- well formed is what document 01 says, in its figures, and nothing more
   pub formed_says : (w : List ℤ) → T (well_formed w) → FormedBook (terms_of w) (next_day w) w
   pub says_formed : (o : Terms) (C : ℕ) (w : List ℤ) → FormedBook o C w → T (well_formed w)
+  -- its word 8 is within 500 × N × (C − F) either way (document 02, P5)
+  pub word_8_within : (w : List ℤ) → T (well_formed w) → nat_abs (word w 8) ≤ 500 * (terms_of w).accounts * (next_day w - (terms_of w).first)
   -- stays well formed, and keeps its words beyond the size
   pub submit_keeps : (w : List ℤ) (file : List ℕ) → T (well_formed w) → T (well_formed (submitted w file).words)
   pub close_keeps : (w statement : List ℤ) → T (well_formed w) → T (well_formed (closed w statement).words)
@@ -218,6 +220,7 @@ theorems = record {
   files = file-theorems;
   formed_says = formed-book;
   says_formed = book-formed;
+  word_8_within = λ w t. (formed-book w t).differences;
   submit_keeps = submitted-formed;
   close_keeps = closed-formed;
   submit_stores = submitted-rows;

@@ -191,8 +191,7 @@ module _ (o : Terms) where
     pub exact_settles : o.first + o.lag ≤ D → exact_amount x a D ≡ parts_settled x a D
     pub exact_settles_none : D < o.first + o.lag → exact_amount x a D ≡ parts_unsettled x a D
 
-  -- the difference is what rounding leaves of each account's amount, together: exact less 1,000 times posted, of an account at most 500 either way
+  -- the difference is what rounding leaves of each account's amount, together: exact less 1,000 times posted
   pub record DifferenceParts (x : SettlementData) (D : ℕ) : Type 0 where
     pub accounts : rounding_difference x D ≡ sum_ℤ o.accounts (λ a. exact_amount x a D -ℤ pos 1000 *ℤ posted_amount x a D)
-    pub each : (a : ℕ) → nat_abs (exact_amount x a D -ℤ pos 1000 *ℤ posted_amount x a D) ≤ 500
     pub within : nat_abs (rounding_difference x D) ≤ o.accounts * 500

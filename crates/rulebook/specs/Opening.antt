@@ -7,7 +7,7 @@ use Rattle.rulebook.specs.declared.OpenError.TheVariants.{BadTerms, TooShort}
 use Rattle.rulebook.specs.Terms.{terms_fit}
 use Rattle.rulebook.specs.Layout.{book_mark, size, stored}
 
--- 395, N, L, H, F, C = F, the MSSL's balance, X, the rounding difference
+-- 395, N, L, H, F, C = F, the MSSL's balance, X, the rounding differences' sum
 abbrev pub header : Terms → List ℤ
 header o = pos book_mark ∷ pos o.accounts ∷ pos o.lag ∷ pos o.horizon ∷ pos o.first ∷ pos o.first ∷ pos 0 ∷ pos o.change ∷ pos 0 ∷ []
 

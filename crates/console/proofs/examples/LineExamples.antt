@@ -1,5 +1,5 @@
 -- Lines of document 01 and others, computed from the definitions. Assumes nothing.
-use Rattle.std.specs.Prelude.{◌≡◌, refl, List, [], ◌∷◌, ℕ, pos, negsuc, Ok, Err}
+use Rattle.std.specs.Prelude.{◌≡◌, refl, List, [], ◌∷◌, ℕ, ℤ, pos, negsuc, Ok, Err}
 use Rattle.integer.specs.Integer.{minus}
 use Rattle.rulebook.specs.declared.OpenError.TheVariants.{BadTerms, TooShort}
 use Rattle.rulebook.specs.declared.SubmitError.TheVariants.{IllFormed, FileRefused}
@@ -41,6 +41,9 @@ pub record LinesTold : Type 0 where
   -- `close 0 9497 0 0 -7 7`: two accounts, and the MSSL
   pub closed_first : close_line (of_close (Ok (record { day = 9497; count = 0; difference = minus 500 }))) (pos 0 ∷ minus 7 ∷ pos 7 ∷ [])
       ≡ close' (48 ∷ 32 ∷ 57 ∷ 52 ∷ 57 ∷ 55 ∷ 32 ∷ 48 ∷ 32 ∷ 48 ∷ 32 ∷ 45 ∷ 55 ∷ 32 ∷ 55 ∷ 10 ∷ [])
+  -- whatever the rounding difference, the line is the same
+  pub unprinted : (day count : ℕ) (e e' : ℤ) (amounts : List ℤ)
+      → close_line (of_close (Ok (record { day = day; count = count; difference = e }))) amounts ≡ close_line (of_close (Ok (record { day = day; count = count; difference = e' }))) amounts
   -- `bad 5`, `bad 16389`
   pub bad : bad_line 5 ≡ bad' (53 ∷ 10 ∷ [])
   pub bad_late : bad_line 16389 ≡ bad' (49 ∷ 54 ∷ 51 ∷ 56 ∷ 57 ∷ 10 ∷ [])
@@ -62,6 +65,7 @@ lines_told = record {
   finished = refl;
   closed = refl;
   closed_first = refl;
+  unprinted = λ day count e e' amounts. refl;
   bad = refl;
   bad_late = refl;
   lowest = refl;

@@ -91,7 +91,7 @@ module _ (o : Terms) (x : SettlementData) (D : ℕ) where
   unfolding posted_amount
   posted-within a = omega (arith, (nearest-is (exact_amount o x a D) 1000 (lit< tt)).within)
 
-  -- of an account's amount
+  -- what it leaves of an account's amount
   abbrev left : ℕ → ℤ
   left a = exact_amount o x a D -ℤ pos thousandths_per_cent *ℤ posted_amount o x a D
 
@@ -106,7 +106,6 @@ module _ (o : Terms) (x : SettlementData) (D : ℕ) where
   pub difference-parts : DifferenceParts o x D
   difference-parts = record {
     accounts = accounts-differ;
-    each = each-within;
     within = rw accounts-differ (abs-sum_ℤ o.accounts 500 left (λ a l. each-within a));
   }
 
