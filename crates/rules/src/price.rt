@@ -5,7 +5,7 @@ ghost use Rattle.rulebook.specs.Units.{most_price, most_quantity};
 ghost use Rattle.rulebook.specs.ReferencePrice.{most_facilities, weight, average};
 ghost use Rattle.rulebook.specs.Numbers.{price_returned};
 ghost use Rattle.rulebook.specs.Calls.{price_input, price_call, PricesIn};
-ghost use Rattle.rules.specs.PriceSums.{sums_of, no_facility, added};
+ghost use Rattle.rules.specs.PriceSums.{sums_of, no_facility, added, SumsWithin};
 
 use crate::ranges::all_in_range;
 use integer::{add, natural, nearest_to, signed};
@@ -43,16 +43,52 @@ fn weighted_more(weighted: i64, mep: i64, w: u64) -> i64
 }
 
 impl Sums {
+    // From known sums, each within the bound of its facilities.
+    pub fn of(weighted: i64, weights: u64, simple: i64, facilities: u64) -> Sums
+        requires { SumsWithin (record { weighted = weighted; weights = weights; simple = simple; facilities = facilities }) }
+        ensures { result ≡ record { weighted = weighted; weights = weights; simple = simple; facilities = facilities } }
+    {
+        Sums {
+            weighted,
+            weights,
+            simple,
+            facilities,
+        }
+    }
+
     // Before the first facility.
     pub fn none() -> Sums
         ensures { result ≡ no_facility }
     {
-        Sums {
-            weighted: 0,
-            weights: 0,
-            simple: 0,
-            facilities: 0,
-        }
+        Sums::of(0, 0, 0, 0)
+    }
+
+    // Σ (MEP × weight).
+    pub fn weighted(self) -> i64
+        ensures { result ≡ self.weighted }
+    {
+        self.weighted
+    }
+
+    // Σ weight.
+    pub fn weights(self) -> u64
+        ensures { result ≡ self.weights }
+    {
+        self.weights
+    }
+
+    // Σ MEP.
+    pub fn simple(self) -> i64
+        ensures { result ≡ self.simple }
+    {
+        self.simple
+    }
+
+    // The number of facilities.
+    pub fn facilities(self) -> u64
+        ensures { result ≡ self.facilities }
+    {
+        self.facilities
     }
 
     // With one facility more, whose weight is max(IEQ, 0).

@@ -40,6 +40,20 @@ impl Residual {
         Residual { load, spare }
     }
 
+    // The residual load R.
+    pub fn load(self) -> i64
+        ensures { (result ≡ self.load) × (nat_abs result ≤ least_residual) }
+    {
+        self.load
+    }
+
+    // The spare generation S.
+    pub fn spare(self) -> u64
+        ensures { result ≡ self.spare }
+    {
+        self.spare
+    }
+
     // The share of an account with UEGQ u, or of accounts with UEGQ u together.
     pub fn share(self, u: u64) -> u64
         requires { u ≤ most_spare }
