@@ -2,3 +2,4 @@
 pub mod CellLaws
 pub mod IntervalLaws
 pub mod DayLaws
+pub mod SharesLaws
