@@ -9,6 +9,7 @@ ghost use Rattle.amounts.specs.Shares.{SharesRanged, amount_of, shares_posted};
 
 use crate::cell::Cell;
 use crate::settled::Settled;
+use crate::shares::DayShares;
 use crate::slot::Slot;
 use crate::total::{DayTotal, Posted, absorb};
 use integer::add;
@@ -77,12 +78,7 @@ fn shared_amount(today: Slot, then: &Option<Slot>, share: u64, a: usize, h: usiz
 }
 
 // The posted amount of account a, of any shares: the nearest whole cent to its amounts over the 48 intervals; with what that leaves of them.
-pub fn posted_of_shares(
-    today: Slot,
-    then: &Option<Slot>,
-    shares: &[u64; INTERVALS],
-    a: usize,
-) -> Posted
+pub fn posted_of_shares(today: Slot, then: &Option<Slot>, shares: &DayShares, a: usize) -> Posted
     requires { (a < today.accounts) × ForSome then.now (λ s. a < s.accounts) × SharesRanged shares.now }
     ensures small { nat_abs result.difference ≤ 500 }
     ensures amount { result ≡ shares_posted today.entry.accounts today.entry.words.now then.now shares.now a }

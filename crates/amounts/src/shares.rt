@@ -14,8 +14,14 @@ use std::array;
 // R and S of a day's 48 intervals.
 pub type Residuals = [Residual; INTERVALS];
 
-// The sums of UEGQ at each interval, with the account's; none where no residual is due.
-pub fn sums_due(then: &Option<Slot>, sums: &[u64; INTERVALS], a: usize) -> [u64; INTERVALS]
+// The sums of UEGQ in a day's 48 intervals, over the accounts so far.
+pub type RunningSums = [u64; INTERVALS];
+
+// The shares of one account in a day's 48 intervals, in kWh.
+pub type DayShares = [u64; INTERVALS];
+
+// The sums with the account's UEGQ; none where no residual is due.
+pub fn sums_due(then: &Option<Slot>, sums: &RunningSums, a: usize) -> RunningSums
     requires { ForSome then.now (λ s. a < s.accounts) × SumsRanged a sums.now }
     ensures sums { result ≡ sums_if then.now sums.now a }
     ensures ranged { SumsRanged (a + 1) result }
@@ -26,14 +32,14 @@ pub fn sums_due(then: &Option<Slot>, sums: &[u64; INTERVALS], a: usize) -> [u64;
     }
 }
 
-// The account's share at each interval, where the accounts before it have these sums; none where no residual is due.
+// The account's shares, where the accounts before it have these sums; none where no residual is due.
 pub fn shares_due(
     then: &Option<Slot>,
     edition: Edition,
     residuals: &Residuals,
-    sums: &[u64; INTERVALS],
+    sums: &RunningSums,
     a: usize,
-) -> [u64; INTERVALS]
+) -> DayShares
     requires { ForSome then.now (λ s. a < s.accounts) × SumsRanged a sums.now }
     ensures shares { result ≡ shares_if then.now edition residuals.now sums.now a }
     ensures ranged { SharesRanged result }

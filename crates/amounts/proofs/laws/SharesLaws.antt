@@ -1,10 +1,11 @@
 -- Sums, shares and amounts by any R and S in their ranges; those of the day that a close settles are these, of its slot's own R, S and sums. Assumes nothing.
-use Rattle.std.specs.Prelude.{◌≡◌, refl, List, ℤ, pos, get_or, replicate, ℕ, ◌+◌, ◌<◌, ◌+ℤ◌, Option, Some, None}
+use Rattle.std.specs.Prelude.{◌≡◌, ◌++◌, drop, refl, List, ℤ, pos, get_or, replicate, ℕ, ◌+◌, ◌<◌, ◌+ℤ◌, Option, Some, None}
 use Rattle.std.proofs.Common.{sym, ap, ◌∙◌, arith}
 use Rattle.std.proofs.lemmas.List.{get_or-replicate, length-replicate}
 use Rattle.std.specs.Option.{ForSome}
 use lib.IntN.{+ℤ_idr}
-use Rattle.integer.specs.Below.{fold, tabulate}
+use Rattle.integer.specs.Below.{fold, sum_ℤ, tabulate}
+use Rattle.integer.specs.Words.{filled}
 use Rattle.integer.proofs.laws.BelowLaws.{fold-suc, sum_ℤ-cong, get_d_tabulate, tabulate-of}
 use Rattle.rulebook.specs.declared.Edition.{Edition}
 use Rattle.rulebook.specs.Units.{intervals}
@@ -13,10 +14,11 @@ use Rattle.rulebook.proofs.laws.ListLaws.{tabulate-cong}
 use Rattle.rulebook.specs.DayAmount.{vesting_amount}
 use Rattle.rules.specs.LoadAndSpare.{LoadAndSpare}
 use Rattle.amounts.specs.declared.slot.Slot.{Slot}
+use Rattle.amounts.specs.declared.total.Posted.{Posted}
 use Rattle.amounts.specs.Cell.{cell_data}
 use Rattle.amounts.specs.Total.{absorbed, posted_of}
-use Rattle.amounts.specs.Day.{Then, residuals_of, uegq_in, sum_in, share_in, sum_before, sums_before, cell_at, cell_residual, residual_amount, slot_amount, total_to, slot_posted}
-use Rattle.amounts.specs.Shares.{SumsRanged, SharesRanged, sums_with, sums_if, residual_in, share_after, shares_of, amount_of, shares_total, shares_posted, then_by, shares_in, posted_by}
+use Rattle.amounts.specs.Day.{Then, residuals_of, uegq_in, sum_in, share_in, sum_before, sums_before, cell_at, cell_residual, residual_amount, slot_amount, total_to, slot_posted, slot_cents, slot_difference}
+use Rattle.amounts.specs.Shares.{SumsRanged, SharesRanged, sums_with, sums_if, residual_in, share_after, shares_of, amount_of, shares_total, shares_posted, then_by, shares_in, posted_by, cents_by, difference_by}
 use Rattle.amounts.proofs.laws.DayLaws.{residual-in, sum-suc, sum_at}
 
 -- ---- Ranges
@@ -103,3 +105,12 @@ module _ (e : Edition) where
             → amount_of n today then (get_or (shares_in e then rs a) i 0) a i ≡ slot_amount n today (then_by e then) a i
         amounts (Some s) r i h = rw (r s refl, shares-settled s a i h)
         amounts None r i h = refl
+
+  -- of each account, and together
+  module _ (n : ℕ) (today : List ℤ) (then : Option Slot) (rs : List LoadAndSpare) (r : ForSome then (λ s. rs ≡ residuals_of s.accounts s.words.now)) where
+    pub cents-settled : (k : ℕ) (xs : List ℤ) → filled k (cents_by e n today then rs) xs ≡ filled k (slot_cents n today (then_by e then)) xs
+    cents-settled k xs = ap (λ (l : List ℤ). l ++ drop k xs)
+        (tabulate-cong k (cents_by e n today then rs) (slot_cents n today (then_by e then)) (λ a l. ap (λ (p : Posted). p.cents) (posted-settled n today a then rs r)))
+
+    pub difference-settled : (k : ℕ) → sum_ℤ k (difference_by e n today then rs) ≡ sum_ℤ k (slot_difference n today (then_by e then))
+    difference-settled k = sum_ℤ-cong k (difference_by e n today then rs) (slot_difference n today (then_by e then)) (λ a l. ap (λ (p : Posted). p.difference) (posted-settled n today a then rs r))
