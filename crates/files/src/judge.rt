@@ -18,7 +18,7 @@ use std::mem;
 struct Judge<'a> {
     limits: Limits,
     reader: Reader<'a>,
-    marks: &'a mut [bool],
+    marks: &'a mut [u8],
     ghost judgeable: { Judgeable limits (length marks.now) },
 }
 
@@ -43,7 +43,8 @@ impl Judge<'_> {
             .field(DAY_BYTES, low, self.limits.last, Why::DayNotOpen)?;
         let mark = MOST_ACCOUNTS * (day - low) + account;
         let marks = &mut *self.marks;
-        if mem::replace(&mut marks[mark], true) {
+        let again = mem::replace(&mut marks[mark], 1) == 1;
+        if again {
             return Err(Refusal {
                 why: Why::Repeated,
                 at: day_pos,
@@ -77,7 +78,7 @@ impl Judge<'_> {
             return Ok(());
         }
         let marks = &mut *self.marks;
-        marks.fill(false);
+        marks.fill(0);
         for _ in 0..count {
             self.row(section)?;
         }
@@ -86,7 +87,7 @@ impl Judge<'_> {
 }
 
 // The file: its four sections, and no byte after them. The caller lends a table of marks, whatever it holds, with room for the open days.
-pub fn judge_file(limits: Limits, file: &[u8], marks: &mut [bool]) -> Result<(), Refusal>
+pub fn judge_file(limits: Limits, file: &[u8], marks: &mut [u8]) -> Result<(), Refusal>
     requires { Judgeable limits (length marks.old) }
     ensures { result ≡ judged limits file.now }
 {

@@ -37,7 +37,7 @@ pub fn submit(book: &mut [i64], file: &[u8]) -> Result<(), SubmitError>
 {
     let formed = judge(book).ok_or(SubmitError::IllFormed)?;
     let limits = limits_of(formed.terms, formed.next);
-    let mut marks = [false; MARKS];
+    let mut marks = [0u8; MARKS];
     judge_file(limits, file, &mut marks)?;
     let mut store = Store {
         words: book,

@@ -1,5 +1,5 @@
 -- Laws of the marks: room for the open days is room for them, and they say what the rule book calls given. Assumes nothing.
-use Rattle.std.specs.Prelude.{◌≡◌, refl, Bool, true, ◌&&◌, ◌||◌, List, length, get_or, set, replicate, ◌∷◌, Ok}
+use Rattle.std.specs.Prelude.{◌≡◌, refl, ◌&&◌, ◌||◌, List, length, get_or, set, replicate, ◌∷◌, Ok}
 use Rattle.std.proofs.Math.Path.{sym, ap}
 use Rattle.std.proofs.Common.{◌∙◌, ⊎_elim, arith, get_or-set_other}
 use Rattle.std.proofs.Math.Bool.{false, or-true, or-false, false≢true}
@@ -21,6 +21,10 @@ use Rattle.files.specs.Marks.{mark_place, mark_of, unmarked, Marked}
 
 -- ---- Places
 
+-- a larger table serves too
+pub judgeable_more : {l : Limits} {n m : ℕ} → n ≤ m → Judgeable l n → Judgeable l m
+judgeable_more h b = record { some = b.some; few = b.few; room = λ sec. omega (arith, b.room sec) }
+
 -- every account and open day has its mark
 mark-fits : (l : Limits) (sec : Section) (n a d : ℕ) → Judgeable l n → a < most_accounts → open_from l sec ≤ d → d ≤ l.last → mark_place (open_from l sec) a d < n
 mark-fits l sec n a d b p q r = omega (arith, b.room sec)
@@ -37,7 +41,7 @@ mark-same low a d b e p q h k t = (omega arith, omega arith)
 
 -- ---- The marks of a section
 
-zeros : (n k : ℕ) → get_or (tabulate n (λ _. false)) k false ≡ false
+zeros : (n k : ℕ) → ◌≡◌ {A = ℕ} (get_or (tabulate n (λ _. 0)) k 0) 0
 unfolding tabulate
 zeros zero k = refl
 zeros (suc n) zero = refl
@@ -45,22 +49,22 @@ zeros (suc n) (suc k) = zeros n k
 
 pub length-unmarked : (n : ℕ) → length (unmarked n) ≡ n
 unfolding unmarked
-length-unmarked n = length-tabulate n (λ _. false)
+length-unmarked n = length-tabulate n (λ _. 0)
 
--- what a slice filled with `false` holds
-pub unmarked-filled : (n : ℕ) → replicate n false ≡ unmarked n
+-- what a slice filled with 0 holds
+pub unmarked-filled : (n : ℕ) → replicate n 0 ≡ unmarked n
 unfolding unmarked tabulate
 unmarked-filled zero = refl
-unmarked-filled (suc n) = ap (λ (m : List Bool). false ∷ m) (unmarked-filled n)
+unmarked-filled (suc n) = ap (λ (m : List ℕ). 0 ∷ m) (unmarked-filled n)
 
 module _ (l : Limits) (sec : Section) (s : List ℕ) (first : ℕ) where
   pub marked-none : (n : ℕ) → Marked l sec s first 0 (unmarked n)
   unfolding Marked given fold unmarked
-  marked-none n a d p q r = zeros n (mark_place (open_from l sec) a d)
+  marked-none n a d p q r = rw (zeros n (mark_place (open_from l sec) a d))
 
   -- one row more, its account and day accepted
-  pub marked_more : (i : ℕ) (marks : List Bool) → Judgeable l (length marks) → key l sec s (row_pos sec s first i) ≡ Ok tt → Marked l sec s first i marks
-      → Marked l sec s first (i + 1) (set marks (mark_of l sec s (row_pos sec s first i)) true)
+  pub marked_more : (i : ℕ) (marks : List ℕ) → Judgeable l (length marks) → key l sec s (row_pos sec s first i) ≡ Ok tt → Marked l sec s first i marks
+      → Marked l sec s first (i + 1) (set marks (mark_of l sec s (row_pos sec s first i)) 1)
   unfolding Marked given fold
   marked_more i marks b e m a d p q r =
       let k = keyed l sec s (row_pos sec s first i) e in
@@ -73,10 +77,11 @@ module _ (l : Limits) (sec : Section) (s : List ℕ) (first : ℕ) where
       let u = and-true (eqb a' a) (eqb d' d) t in
       let x = eqb-true a' a u.0 in
       let y = eqb-true d' d u.1 in
-      rw (t, ← x, ← y, get_or-set_same marks (mark_place (open_from l sec) a' d') true false (omega arith)) (sym (or-true (given sec s first i a' d'))))
+      rw (t, ← x, ← y, get_or-set_same marks (mark_place (open_from l sec) a' d') 1 0 (omega arith)) (sym (or-true (given sec s first i a' d'))))
       (λ t.
-      get_or-set_other marks (mark_place (open_from l sec) a' d') (mark_place (open_from l sec) a d) true false
-      (λ w. differ a d t (mark-same (open_from l sec) a d a' d' p (omega (arith, b.some, b.few, k.account.to)) q k.day.from w))
+      ap (λ v. eqb v 1)
+      (get_or-set_other marks (mark_place (open_from l sec) a' d') (mark_place (open_from l sec) a d) 1 0
+      (λ w. differ a d t (mark-same (open_from l sec) a d a' d' p (omega (arith, b.some, b.few, k.account.to)) q k.day.from w)))
       ∙ m a d p q r
       ∙ sym (or-false (given sec s first i a d))
       ∙ ap (λ x. given sec s first i a d || x) (sym t))

@@ -91,7 +91,7 @@ row_same l sec s at x y h = by (key l sec s at) h
     by (Err r) f = refl
 
 -- the marks where account and day are accepted: the row's own is set
-pub marks-set : (k : Verdict) (m n : ℕ) (b : Bool) (marks : List Bool) → k ≡ Ok tt → m ≡ n → b ≡ true → set marks n b ≡ marks_after k m marks
+pub marks-set : (k : Verdict) (m n b : ℕ) (marks : List ℕ) → k ≡ Ok tt → m ≡ n → b ≡ 1 → set marks n b ≡ marks_after k m marks
 marks-set k m n b marks e f t = rw (e, f, t)
 
 -- the values, judged in the part of the file from a to e that they stand in
@@ -131,7 +131,7 @@ module _ (l : Limits) (sec : Section) (s : List ℕ) (first : ℕ) where
     noted = marked-none l sec s first n;
   }
 
-  module _ {i at : ℕ} {marks : List Bool} (h : Before l sec s first i at marks) where
+  module _ {i at : ℕ} {marks : List ℕ} (h : Before l sec s first i at marks) where
     -- row i is judged by the marks
     before_row : row_after l sec s at (marked marks (mark_of l sec s at)) ≡ judged_row l sec s first i
     unfolding Marked judged_row
@@ -141,7 +141,7 @@ module _ (l : Limits) (sec : Section) (s : List ℕ) (first : ℕ) where
         (λ e. let k = keyed l sec s (row_pos sec s first i) e in h.noted _ _ (omega (arith, h.room.some, h.room.few, k.account.to)) k.day.from k.day.to))
 
     -- and accepted
-    before_more : {next : ℕ} {after : List Bool} → judged_row l sec s first i ≡ Ok tt → next ≡ row_end sec s at → after ≡ marks_after (key l sec s at) (mark_of l sec s at) marks
+    before_more : {next : ℕ} {after : List ℕ} → judged_row l sec s first i ≡ Ok tt → next ≡ row_end sec s at → after ≡ marks_after (key l sec s at) (mark_of l sec s at) marks
         → Before l sec s first (i + 1) next after
     before_more e en em =
         let p = judged-parts i e in
@@ -159,7 +159,7 @@ module _ (l : Limits) (sec : Section) (s : List ℕ) (first : ℕ) where
       pub before-judged : (x : Verdict) → x ≡ row_after l' sec s' at (marked marks (mark_of l' sec s' at)) → x ≡ judged_row l sec s first i
       before-judged x e = rw (el, es) at e ∙ before_row
 
-      pub before-next : {next : ℕ} {after : List Bool} → Ok tt ≡ row_after l' sec s' at (marked marks (mark_of l' sec s' at)) → next ≡ row_end sec s' at → after ≡ marks_after (key l' sec s' at) (mark_of l' sec s' at) marks
+      pub before-next : {next : ℕ} {after : List ℕ} → Ok tt ≡ row_after l' sec s' at (marked marks (mark_of l' sec s' at)) → next ≡ row_end sec s' at → after ≡ marks_after (key l' sec s' at) (mark_of l' sec s' at) marks
           → Before l sec s first (i + 1) next after
       before-next e en em = before_more (sym (before-judged (Ok tt) e)) (rw es at en) (rw (el, es) at em)
 

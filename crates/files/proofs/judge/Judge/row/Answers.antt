@@ -1,5 +1,5 @@
 -- `row` meets its contract: account and day are judged, then the mark is asked and set, then count and values are judged.
-use Rattle.std.proofs.Common.{◌≡◌, refl, sym, ap, ◌∙◌, arith, List, ℕ, ◌+◌, ◌-◌, ◌*◌, ◌≤◌, ◌<◌, length, Ok, Err, Bor}
+use Rattle.std.proofs.Common.{◌≡◌, refl, sym, ap, ◌∙◌, arith, List, ℕ, ◌+◌, ◌-◌, ◌*◌, ◌≤◌, ◌<◌, length, Ok, Err, Bor, eqb, eq-eqb, ne_eqb}
 use Rattle.std.proofs.lemmas.Result.{err_from_is_err_and}
 use Rattle.rulebook.specs.declared.Why.TheVariants.{OutOfRange, DayNotOpen}
 use Rattle.rulebook.specs.Sections.{least_count, most_count}
@@ -12,7 +12,7 @@ use Rattle.files.proofs.laws.RowsLaws.{field-accepted, field-refused, key-accoun
 use Rattle.files.proofs.laws.MarksLaws.{row-mark_fits}
 use Rattle.files.proofs.laws.ValuesLaws.{values-end}
 use Rattle.files.proofs.judge.Judge.row.Goals as goal
-use Rattle.files.proofs.judge.Judge.row.Goals.{In_err-account, In_ok-day, In_err-day, After-replace, In_ok-count, In_err-count, After-judge_values}
+use Rattle.files.proofs.judge.Judge.row.Goals.{In_err-account, In_ok-day, In_err-day, After-replace-again, In_ok-count, In_err-count, After-judge_values}
 
 -- ---- The account
 
@@ -66,9 +66,9 @@ module _ (c : In_ok-day) where
 -- ---- The mark
 
 -- what was read there, before it was set
-was : (c : After-replace) → mark_of c.args.self.now.limits c.args.section c.args.self.now.reader.file.now c.args.self.now.reader.at ≡ 32 * (c.in_ok-day.day - c.open_from-low.result) + c.in_ok-account.account
-    → marked c.args.self.now.marks.now (mark_of c.args.self.now.limits c.args.section c.args.self.now.reader.file.now c.args.self.now.reader.at) ≡ c.replace.result
-was c e = rw e (sym c.replace.ensures.value)
+was : (c : After-replace-again) → mark_of c.args.self.now.limits c.args.section c.args.self.now.reader.file.now c.args.self.now.reader.at ≡ 32 * (c.in_ok-day.day - c.open_from-low.result) + c.in_ok-account.account
+    → marked c.args.self.now.marks.now (mark_of c.args.self.now.limits c.args.section c.args.self.now.reader.file.now c.args.self.now.reader.at) ≡ eqb c.replace-again.result 1
+was c e = rw e (ap (λ v. eqb v 1) (sym c.replace-again.ensures.value))
 
 -- ---- The count
 
@@ -141,23 +141,23 @@ overflow_add-mark c = omega (arith, inside (goal.at.overflow_add-mark c).In_ok-d
 pub bounds-marks-mark : goal.bounds-marks-mark
 bounds-marks-mark c = inside (goal.at.bounds-marks-mark c).In_ok-day
 
-pub returns-then-replace-clause-answer : goal.returns-then-replace-clause-answer
-returns-then-replace-clause-answer c =
-    let o = (goal.at.returns-then-replace-clause-answer c).In_ok-day in
-    rw (at-day o) (row-again _ _ _ _ _ (key-on o) (was (goal.at.returns-then-replace-clause-answer c).After-replace (mark-on o) ∙ c.if-replace.true))
+pub returns-then-again-clause-answer : goal.returns-then-again-clause-answer
+returns-then-again-clause-answer c =
+    let o = (goal.at.returns-then-again-clause-answer c).In_ok-day in
+    rw (at-day o) (row-again _ _ _ _ _ (key-on o) (was (goal.at.returns-then-again-clause-answer c).After-replace-again (mark-on o) ∙ eq-eqb _ _ c.if-again.true))
 
 pub returns-in_err-count-clause-answer : goal.returns-in_err-count-clause-answer
 returns-in_err-count-clause-answer c =
     let o = (goal.at.returns-in_err-count-clause-answer c).In_ok-day in
     let p = err_from_is_err_and c.from_residual-in_err-count.result c.from_residual-in_err-count.ensures.1 in
     rw (p.1, p.2)
-    (row-count _ _ _ _ _ (key-on o) (was (goal.at.returns-in_err-count-clause-answer c).After-replace (mark-on o) ∙ c.if-replace.false)
+    (row-count _ _ _ _ _ (key-on o) (was (goal.at.returns-in_err-count-clause-answer c).After-replace-again (mark-on o) ∙ ne_eqb _ _ c.if-again.false)
     (count-off (goal.at.returns-in_err-count-clause-answer c).In_err-count (file-count o) (at-count o)))
 
 pub returns-in_err-count-clause-marks : goal.returns-in_err-count-clause-marks
 returns-in_err-count-clause-marks c =
     let o = (goal.at.returns-in_err-count-clause-marks c).In_ok-day in
-    marks-set _ _ _ _ _ (key-on o) (mark-on o) c.replace.ensures.after
+    marks-set _ _ _ _ _ (key-on o) (mark-on o) c.replace-again.ensures.after
 
 pub values_of-n-requires : goal.values_of-n-requires
 values_of-n-requires c =
@@ -172,12 +172,12 @@ returns-in_err-judge_values-clause-answer c =
     let v = judged-values (goal.at.returns-in_err-judge_values-clause-answer c).After-judge_values (file-values n (file-count o) (at-count o)) (at-values n (file-count o) (at-count o)) (count-on n (file-count o) (at-count o)).1 in
     rw (p.1, p.2)
     (sym c.in_err-judge_values.was ∙ v
-    ∙ row-values _ _ _ _ _ (key-on o) (was (goal.at.returns-in_err-judge_values-clause-answer c).After-replace (mark-on o) ∙ c.if-replace.false) (count-on n (file-count o) (at-count o)).0)
+    ∙ row-values _ _ _ _ _ (key-on o) (was (goal.at.returns-in_err-judge_values-clause-answer c).After-replace-again (mark-on o) ∙ ne_eqb _ _ c.if-again.false) (count-on n (file-count o) (at-count o)).0)
 
 pub returns-in_err-judge_values-clause-marks : goal.returns-in_err-judge_values-clause-marks
 returns-in_err-judge_values-clause-marks c =
     let o = (goal.at.returns-in_err-judge_values-clause-marks c).In_ok-day in
-    marks-set _ _ _ _ _ (key-on o) (mark-on o) c.replace.ensures.after
+    marks-set _ _ _ _ _ (key-on o) (mark-on o) c.replace-again.ensures.after
 
 pub invariant_of-self-3 : goal.invariant_of-self-3
 invariant_of-self-3 c =
@@ -197,7 +197,7 @@ returns-clause-answer c =
     let n = (goal.at.returns-clause-answer c).In_ok-count in
     let v = judged-values (goal.at.returns-clause-answer c).After-judge_values (file-values n (file-count o) (at-count o)) (at-values n (file-count o) (at-count o)) (count-on n (file-count o) (at-count o)).1 in
     sym c.in_ok-judge_values.was ∙ v
-    ∙ row-values _ _ _ _ _ (key-on o) (was (goal.at.returns-clause-answer c).After-replace (mark-on o) ∙ c.if-replace.false) (count-on n (file-count o) (at-count o)).0
+    ∙ row-values _ _ _ _ _ (key-on o) (was (goal.at.returns-clause-answer c).After-replace-again (mark-on o) ∙ ne_eqb _ _ c.if-again.false) (count-on n (file-count o) (at-count o)).0
 
 pub returns-clause-past : goal.returns-clause-past
 unfolding row_end
@@ -210,4 +210,4 @@ returns-clause-past c =
 pub returns-clause-marks : goal.returns-clause-marks
 returns-clause-marks c =
     let o = (goal.at.returns-clause-marks c).In_ok-day in
-    marks-set _ _ _ _ _ (key-on o) (mark-on o) c.replace.ensures.after
+    marks-set _ _ _ _ _ (key-on o) (mark-on o) c.replace-again.ensures.after
