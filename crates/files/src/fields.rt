@@ -1,7 +1,27 @@
-// Document 01, "A submission file": a value, its bytes in little-endian order, in two's complement.
-ghost use Rattle.std.specs.Prelude.{◌≡◌, ◌+◌, ◌≤◌, ◌<◌, length};
+// Document 01, "A submission file": one field, its bytes in little-endian order, values in two's complement.
+ghost use Rattle.std.specs.Prelude.{◌≡◌, ◌+◌, ◌≤◌, ◌<◌, length, OnOk};
 ghost use Rattle.std.specs.Int.Signed.{mag};
-ghost use Rattle.rulebook.specs.File.{value_at};
+ghost use Rattle.rulebook.specs.File.{num, value_at};
+ghost use Rattle.rulebook.specs.Judging.{whole};
+ghost use Rattle.files.specs.Outcome.{outcome};
+
+use rulebook::file::number;
+use rulebook::{Refusal, Why};
+
+// The number of the n bytes at a position, wherever that is, if they are all there; then `at + n` is the position past them.
+pub fn field_at(s: &[u8], at: usize, n: usize) -> Result<usize, Refusal>
+    requires { n ≤ 2 }
+    ensures answer { result ≡ outcome (whole n s.now at) (num n s.now at) }
+    ensures past { OnOk result (at + n ≤ length s.now) }
+{
+    if s.len() < at || s.len() - at < n {
+        return Err(Refusal {
+            why: Why::NotWhole,
+            at,
+        });
+    }
+    Ok(number(s, at, n))
+}
 
 // The value at a position. The four bytes compile to one load.
 // A position, and no four bytes cut out: `Form::word` finds a value by its index.

@@ -4,7 +4,7 @@ ghost use Rattle.rulebook.specs.File.{num};
 ghost use Rattle.rulebook.specs.Judging.{whole, field_in};
 ghost use Rattle.files.specs.Outcome.{outcome};
 
-use rulebook::file::number;
+use crate::fields::field_at;
 use rulebook::{Refusal, Why};
 
 // A file, and the position of what is read next.
@@ -32,15 +32,9 @@ impl<'a> Reader<'a> {
         ensures past { OnOk result (self.new.at ≡ self.old.at + n) }
         ensures stays { OnErr result (self.new.at ≡ self.old.at) }
     {
-        let at = self.at;
-        if self.file.len() - at < n {
-            return Err(Refusal {
-                why: Why::NotWhole,
-                at,
-            });
-        }
-        self.at = at + n;
-        Ok(number(self.file, at, n))
+        let v = field_at(self.file, self.at, n)?;
+        self.at += n;
+        Ok(v)
     }
 
     // The field of n bytes that comes next: whole, and from low to high, else refused for `why`.
