@@ -27,7 +27,7 @@ fn contents_fit(header: &Header, book: &[i64]) -> bool
     header.mssl_fits(book)
         & header.differences_fit(book)
         & header.balances_fit(book)
-        & slots_fit(header, &book[base..end])
+        & slots_fit(&book[base..end], header.terms, header.closes())
 }
 
 // "The book": "It is well formed if ..", of any words whatever. The header comes before the size, so a wild one is refused with no read past

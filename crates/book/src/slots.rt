@@ -1,5 +1,6 @@
 // Document 01, "The book": the slots, as they lie. A slot of a day of the window has 48 intervals that fit, every other is blank.
-ghost use Rattle.std.specs.Prelude.{◌≡◌, ◌-◌, ◌*◌, ◌≤◌, ◌<◌, length};
+ghost use Rattle.std.specs.Prelude.{◌≡◌, ◌*◌, ◌≤◌, ◌<◌, length};
+ghost use Rattle.rulebook.specs.Units.{last_day};
 ghost use Rattle.rulebook.specs.Shares.{most_accounts};
 ghost use Rattle.rulebook.specs.Layout.{slot_length, ring};
 ghost use Rattle.rulebook.specs.WindowWalk.{window_place};
@@ -9,8 +10,8 @@ ghost use Rattle.book.specs.Slots.{day_at, slots_fit};
 
 use crate::day::Day;
 use crate::interval::interval_fits;
-use opening::header::Header;
 use opening::words::are_blank;
+use rulebook::accepted::AcceptedTerms;
 use rulebook::layout::{interval_length, slot_length};
 use rulebook::units;
 
@@ -34,23 +35,23 @@ fn slot_fits(slot: &[i64], n: usize, day: Option<Day>) -> bool
     }
 }
 
-// The place of slot v in the window of L + H days from C − L on.
-fn window_place(header: &Header, v: usize) -> usize
-    requires { v < ring header.now.terms }
-    ensures { (result ≡ window_place header.now.terms (header.now.next - header.now.terms.first) v) × (result < ring header.now.terms) }
+// The place of slot v in the window of L + H days from C − L on, after some closes.
+fn window_place(terms: AcceptedTerms, closes: usize, v: usize) -> usize
+    requires { (closes ≤ last_day) × (v < ring terms) }
+    ensures { (result ≡ window_place terms closes v) × (result < ring terms) }
 {
-    let ring = header.terms.ring();
-    let today = (header.closes() + header.terms.get().horizon) % ring;
+    let ring = terms.ring();
+    let today = (closes + terms.get().horizon) % ring;
     (v + (ring - today)) % ring
 }
 
 // The day of the place, if that is from F to 36,524: those before C are closed.
-fn day_at(header: &Header, place: usize) -> Option<Day>
-    requires { place < ring header.now.terms }
-    ensures { result ≡ day_at header.now.terms (header.now.next - header.now.terms.first) place }
+fn day_at(terms: AcceptedTerms, closes: usize, place: usize) -> Option<Day>
+    requires { (closes ≤ last_day) × (place < ring terms) }
+    ensures { result ≡ day_at terms closes place }
 {
-    let terms = header.terms.get();
-    let at = header.closes() + place;
+    let terms = terms.get();
+    let at = closes + place;
     if at < terms.lag {
         return None;
     }
@@ -65,13 +66,14 @@ fn day_at(header: &Header, place: usize) -> Option<Day>
 }
 
 // "The book": every slot, in the order in which they lie; day d has slot (d − F) mod (L + H).
-pub fn slots_fit(header: &Header, slots: &[i64]) -> bool
-    requires { length slots.now ≡ ring header.now.terms * slot_length header.now.terms.accounts }
-    ensures { result ≡ slots_fit header.now.terms (header.now.next - header.now.terms.first) slots.now }
+pub fn slots_fit(slots: &[i64], terms: AcceptedTerms, closes: usize) -> bool
+    requires { (closes ≤ last_day) × (length slots.now ≡ ring terms * slot_length terms.accounts) }
+    ensures { result ≡ slots_fit terms closes slots.now }
 {
-    let n = header.terms.get().accounts;
+    let n = terms.get().accounts;
     for (v, slot) in slots.chunks_exact(slot_length(n)).enumerate() {
-        if !slot_fits(slot, n, day_at(header, window_place(header, v))) {
+        let place = window_place(terms, closes, v);
+        if !slot_fits(slot, n, day_at(terms, closes, place)) {
             return false;
         }
     }

@@ -38,7 +38,7 @@ pub slots_fit-requires : goal.slots_fit-requires
 slots_fit-requires c =
     let t = c.args.header.now.terms in
     let e = slots_end (goal.at.slots_fit-requires c).After-book_size-end in
-    rw e (length-lent c.args.book.now c.balance_word-base.result (ring t * slot_length t.accounts) (omega (arith, c.book_size-end.ensures, e)))
+    (c.closes.ensures.1, rw e (length-lent c.args.book.now c.balance_word-base.result (ring t * slot_length t.accounts) (omega (arith, c.book_size-end.ensures, e))))
 
 pub returns : goal.returns
 unfolding contents_fit
@@ -50,5 +50,5 @@ returns c =
     let a = c.get.ensures.accepted in
     let n : t.first + k ≡ h.next = omega (arith, h.begun) in
     let e : c.slots_fit.result ≡ days_fit t c.args.book.now (t.first + k)
-    = c.slots_fit.ensures ∙ rw (slots_end d, lent c.args.book.now c.balance_word-base.result (ring t * slot_length t.accounts), slots_start d) (slots-are_days t c.args.book.now k a.horizon_from c.requires) in
+    = c.slots_fit.ensures ∙ rw (c.closes.ensures.0, slots_end d, lent c.args.book.now c.balance_word-base.result (ring t * slot_length t.accounts), slots_start d) (slots-are_days t c.args.book.now k a.horizon_from c.requires) in
     rw (c.mssl_fits.ensures, c.differences_fit.ensures, c.balances_fit.ensures, e, n)

@@ -21,33 +21,33 @@ overflow_add-terms c = let t = c.get-terms.ensures.accepted in let e = ap (λ (o
 pub returns-then-at-terms : goal.returns-then-at-terms
 unfolding day_at
 returns-then-at-terms c =
-    let h = c.args.header.now in
+    let t = c.args.terms in
     let e = ap (λ (o : Terms). o.lag) c.get-terms.ensures.same in
-    rw (place-early h.terms (h.next - h.terms.first) c.args.place (omega arith))
+    rw (place-early t c.args.closes c.args.place (omega arith))
 
 pub returns-then-terms-at-gt-LAST_DAY : goal.returns-then-terms-at-gt-LAST_DAY
 unfolding day_at place_dated
 returns-then-terms-at-gt-LAST_DAY c =
-    let h = c.args.header.now in
-    let k = h.next - h.terms.first in
+    let t = c.args.terms in
+    let k = c.args.closes in
     let e = ap (λ (o : Terms). o.first) c.get-terms.ensures.same in
     let f = ap (λ (o : Terms). o.lag) c.get-terms.ensures.same in
-    rw (lt-leb (h.terms.first + (k + c.args.place - h.terms.lag)) last_day (omega arith), and-false)
+    rw (lt-leb (t.first + (k + c.args.place - t.lag)) last_day (omega arith), and-false)
 
 pub returns-then-place-terms : goal.returns-then-place-terms
 unfolding day_at place_dated
 returns-then-place-terms c =
-    let h = c.args.header.now in
-    let k = h.next - h.terms.first in
+    let t = c.args.terms in
+    let k = c.args.closes in
     let e = ap (λ (o : Terms). o.first) c.get-terms.ensures.same in
     let f = ap (λ (o : Terms). o.lag) c.get-terms.ensures.same in
-    rw (le-leb h.terms.lag (k + c.args.place) (omega arith), le-leb (h.terms.first + (k + c.args.place - h.terms.lag)) last_day (omega arith), lt-ltb c.args.place h.terms.lag (omega arith))
+    rw (le-leb t.lag (k + c.args.place) (omega arith), le-leb (t.first + (k + c.args.place - t.lag)) last_day (omega arith), lt-ltb c.args.place t.lag (omega arith))
 
 pub returns-else-place-terms : goal.returns-else-place-terms
 unfolding day_at place_dated
 returns-else-place-terms c =
-    let h = c.args.header.now in
-    let k = h.next - h.terms.first in
+    let t = c.args.terms in
+    let k = c.args.closes in
     let e = ap (λ (o : Terms). o.first) c.get-terms.ensures.same in
     let f = ap (λ (o : Terms). o.lag) c.get-terms.ensures.same in
-    rw (le-leb h.terms.lag (k + c.args.place) (omega arith), le-leb (h.terms.first + (k + c.args.place - h.terms.lag)) last_day (omega arith), le-ltb c.args.place h.terms.lag (omega arith))
+    rw (le-leb t.lag (k + c.args.place) (omega arith), le-leb (t.first + (k + c.args.place - t.lag)) last_day (omega arith), le-ltb c.args.place t.lag (omega arith))

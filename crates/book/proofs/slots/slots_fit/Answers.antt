@@ -1,5 +1,5 @@
 -- `slots_fit` meets its contract: each turn is one slot more.
-use Rattle.std.proofs.Common.{◌≡◌, ℕ, true, false, ◌&&◌, ◌-◌, ◌*◌, ◌/◌, ◌<◌, List, ℤ, length, refl, ap, sym, ◌∙◌, arith}
+use Rattle.std.proofs.Common.{◌≡◌, ℕ, true, false, ◌&&◌, ◌*◌, ◌/◌, ◌<◌, List, ℤ, length, refl, ap, sym, ◌∙◌, arith}
 use Rattle.std.specs.Simd.{first_chunks}
 use Rattle.std.proofs.lemmas.List.{length_push}
 use Rattle.std.proofs.lemmas.List.FromFn.{length-enumerate_from}
@@ -18,18 +18,18 @@ use Rattle.book.proofs.slots.slots_fit.Goals as goal
 use Rattle.book.proofs.slots.slots_fit.Goals.{After-slot-1, After-slot_fits}
 
 -- this turn's slot, and its number
-turn : (c : After-slot-1) → let xs = c.args.slots.now in let n = c.slot_length.result in let k = length c.loop-v.yielded in (k < ring c.args.header.now.terms) × (c.in-Some.v ≡ k) × (c.in-Some.slot.now ≡ part xs (k * n) n)
+turn : (c : After-slot-1) → let xs = c.args.slots.now in let n = c.slot_length.result in let k = length c.loop-v.yielded in (k < ring c.args.terms) × (c.in-Some.v ≡ k) × (c.in-Some.slot.now ≡ part xs (k * n) n)
 turn c =
     let xs = c.args.slots.now in
     let n = c.slot_length.result in
     let some : 0 < n = omega (arith, c.slot_length.ensures) in
-    let e : length xs ≡ ring c.args.header.now.terms * n = rw (c.slot_length.ensures, c.get-n.ensures.same) c.requires in
+    let e : length xs ≡ ring c.args.terms * n = rw (c.slot_length.ensures, c.get-n.ensures.same) c.requires.1 in
     let road = YieldsList-at c.into_iter-v-iterator.ensures.into_iter_gives (YieldsList-from_enumerate (YieldsList-at c.enumerate-v-items.ensures.source (chunks-given n xs some c.chunks_exact.ensures.rest c.chunks_exact.ensures.size)) c.enumerate-v-items.ensures.count) in
-    chunk-turn n (ring c.args.header.now.terms) (length c.loop-v.yielded) xs c.in-Some.v c.in-Some.slot.now some e
+    chunk-turn n (ring c.args.terms) (length c.loop-v.yielded) xs c.in-Some.v c.in-Some.slot.now some e
     (YieldsList-turn road c.loop-v.yielded _ c.loop-v.yielded_by _ _ (c.in-Some.v, c.in-Some.slot) c.in-Some.is c.next.ensures.steps)
 
-pub window_place-requires : goal.window_place-requires
-window_place-requires c = let t = turn c in omega arith
+pub window_place-place-requires : goal.window_place-place-requires
+window_place-place-requires c = let t = turn c in omega arith
 
 -- a slot's length is that of its part
 long : (xs : List ℤ) (k n r : ℕ) {x : List ℤ} → x ≡ part xs (k * n) n → length xs ≡ r * n → k < r → length x ≡ n
@@ -39,15 +39,15 @@ pub slot_fits-requires : goal.slot_fits-requires
 slot_fits-requires c =
     let t = turn (goal.at.slot_fits-requires c).After-slot-1 in
     let a = c.get-n.ensures.accepted in
-    let e : length c.args.slots.now ≡ ring c.args.header.now.terms * c.slot_length.result = rw (c.slot_length.ensures, c.get-n.ensures.same) c.requires in
-    (long c.args.slots.now (length c.loop-v.yielded) c.slot_length.result (ring c.args.header.now.terms) t.2 e t.0 ∙ c.slot_length.ensures, rw c.get-n.ensures.same (omega arith))
+    let e : length c.args.slots.now ≡ ring c.args.terms * c.slot_length.result = rw (c.slot_length.ensures, c.get-n.ensures.same) c.requires.1 in
+    (long c.args.slots.now (length c.loop-v.yielded) c.slot_length.result (ring c.args.terms) t.2 e t.0 ∙ c.slot_length.ensures, rw c.get-n.ensures.same (omega arith))
 
 -- what `slot_fits` answered
 told : (c : After-slot_fits) → c.in-Some.v ≡ length c.loop-v.yielded → c.in-Some.slot.now ≡ part c.args.slots.now (length c.loop-v.yielded * c.slot_length.result) c.slot_length.result
-    → c.slot_fits.result ≡ slot_told c.args.header.now.terms (c.args.header.now.next - c.args.header.now.terms.first) c.args.slots.now (length c.loop-v.yielded)
+    → c.slot_fits.result ≡ slot_told c.args.terms c.args.closes c.args.slots.now (length c.loop-v.yielded)
 unfolding slot_told
 told c e f =
-    rw (c.slot_fits.ensures, c.day_at.ensures, c.window_place.ensures.0, e, f, c.slot_length.ensures, c.get-n.ensures.same)
+    rw (c.slot_fits.ensures, c.day_at.ensures, c.window_place-place.ensures.0, e, f, c.slot_length.ensures, c.get-n.ensures.same)
 
 pub loop-v-init : goal.loop-v-init
 unfolding fold
@@ -67,17 +67,17 @@ returns-then-not-slot_fits c =
     let k = length c.loop-v.yielded in
     let t = turn d.After-slot-1 in
     let e = sym (told d.After-slot_fits t.1 t.2) ∙ c.if-not-slot_fits.true in
-    let o = c.args.header.now.terms in
+    let o = c.args.terms in
     sym (sym (slots-told o _ _) ∙ fold-stop ◌&&◌ true false (λ y. refl) (ring o) _ k t.0 (rw (c.loop-v.invariant.1, e)))
 
 pub returns : goal.returns
 returns c =
     let xs = c.args.slots.now in
     let n = c.slot_length.result in
-    let o = c.args.header.now.terms in
+    let o = c.args.terms in
     let some : 0 < n = omega (arith, c.slot_length.ensures) in
-    let e : length xs ≡ ring o * n = rw (c.slot_length.ensures, c.get-n.ensures.same) c.requires in
+    let e : length xs ≡ ring o * n = rw (c.slot_length.ensures, c.get-n.ensures.same) c.requires.1 in
     let road = YieldsList-at c.into_iter-v-iterator.ensures.into_iter_gives (YieldsList-from_enumerate (YieldsList-at c.enumerate-v-items.ensures.source (chunks-given n xs some c.chunks_exact.ensures.rest c.chunks_exact.ensures.size)) c.enumerate-v-items.ensures.count) in
     let k = (YieldsList-end road c.loop-v.yielded _ c.loop-v.yielded_by _ _ c.in-None.is c.next.ensures.steps).1
     ∙ length-enumerate_from 0 (first_chunks n (length xs / n) xs) ∙ length-chunks n (length xs / n) xs ∙ chunks-of (ring o) n some e in
-    sym c.loop-v.invariant.1 ∙ ap (λ (i : ℕ). all i (slot_told o (c.args.header.now.next - o.first) xs)) k ∙ slots-told o (c.args.header.now.next - o.first) xs
+    sym c.loop-v.invariant.1 ∙ ap (λ (i : ℕ). all i (slot_told o c.args.closes xs)) k ∙ slots-told o c.args.closes xs

@@ -13,4 +13,4 @@ pub returns : goal.returns
 unfolding ring window_place
 returns c =
     let t = c.get.ensures.accepted in
-    rw (c.ring-ring.ensures, c.closes.ensures.0, c.get.ensures.same) (refl, mod-lt _ (omega arith))
+    rw (c.ring-ring.ensures, c.get.ensures.same) (refl, mod-lt _ (omega arith))
