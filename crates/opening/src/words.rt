@@ -5,7 +5,7 @@ ghost use Rattle.rulebook.specs.WellFormed.{is_zero};
 ghost use Rattle.opening.specs.Blank.{blank};
 
 // Words of a row of `are_blank`.
-const ROW: usize = 64;
+pub const ROW: usize = 64;
 
 // The word is zero, as absent data and unused pairs are.
 pub fn is_zero(word: i64) -> bool

@@ -21,7 +21,7 @@ use Rattle.rulebook.specs.Units.{intervals}
 use Rattle.rulebook.specs.Shares.{most_accounts}
 use Rattle.rulebook.specs.Terms.{InTerms}
 use Rattle.rulebook.specs.Sections.{accounts_of, most_count, per_interval, same_section, figure_section, figure_place}
-use Rattle.rulebook.specs.Layout.{Word, flag, figure, padding, row_table, word_name, width, flag_index, place, size, interval_size, slot, interval_word, slot_start, row_word}
+use Rattle.rulebook.specs.Layout.{Word, flag, figure, padding, present, row_table, word_name, width, flag_index, place, size, interval_size, slot, interval_word, slot_start, row_word}
 use Rattle.rulebook.specs.File.{value_at, Row, row_at, account_at, day_at, count_at, values_pos, number_of, figure_of, row_pos, rows_in, section_rows, file_rows, meter_pos, residual_pos, ncc_pos}
 use Rattle.rulebook.specs.Submit.{word_of, entry, row_stored, rows_stored}
 use Rattle.rulebook.proofs.laws.TestLaws.{T-path, and_left, and_right, all_at}
@@ -59,7 +59,13 @@ numbers-few Meter count h = omega arith
 numbers-few Residual count h = omega arith
 numbers-few Ncc count h = omega arith
 
--- accounts are few
+-- flags are small, and so are accounts
+pub flag_small : (sec : Section) (count : ℕ) → count ≤ most_count sec → present sec count ≤ 4
+flag_small Vesting count h = omega arith
+flag_small Meter count h = h
+flag_small Residual count h = omega arith
+flag_small Ncc count h = omega arith
+
 pub accounts-few : (sec : Section) (n : ℕ) → n ≤ most_accounts → accounts_of sec n ≤ most_accounts
 accounts-few Vesting n h = h
 accounts-few Meter n h = h
