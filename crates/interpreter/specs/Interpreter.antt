@@ -1,5 +1,5 @@
 -- Document 01, "Program `settle`": what it does with its input, item by item. Assumes nothing.
-use Rattle.std.specs.Prelude.{◌≡◌, Bool, true, false, cond, List, [], ◌++◌, ℕ, zero, suc, ◌+◌, ◌≤◌, ◌<◌, eqb, leb, ℤ, pos, length, take, drop, replicate, Option, Some, None}
+use Rattle.std.specs.Prelude.{◌≡◌, Bool, true, false, cond, List, [], ◌++◌, ℕ, zero, suc, ◌+◌, ◌≤◌, ◌<◌, eqb, leb, ℤ, pos, length, take, drop, replicate, Result, Ok, Err}
 use Rattle.integer.specs.Words.{part}
 use Rattle.rulebook.specs.declared.Terms.{Terms}
 pub use Rattle.rulebook.specs.Shares.{most_accounts}
@@ -83,13 +83,17 @@ printed s =
 
 -- ---- What the calls promise
 
--- what a turn hands to the next: nothing, where the input is not read on
-abbrev pub handed : Turn → Option Next
-handed t = cond t.more (Some (record { accounts = t.accounts; position = t.position })) None
+-- what a turn hands to the next
+abbrev pub next_of : Turn → Next
+next_of t = record { accounts = t.accounts; position = t.position }
+
+-- `Ok` where the input is read on, `Err` where the run ended
+abbrev pub handed : Turn → Result Next Next
+handed t = cond t.more (Ok (next_of t)) (Err (next_of t))
 
 -- a turn that began at `from` and had the bytes s leaves its line and its book, and hands on; and for the next one: a book has at most 32 accounts,
 -- each item at least a byte, and the input goes at least as far as the item that was done
-pub record Hands (from : ℕ) (s : List ℕ) (t : Turn) (r : Option Next) (book_after : List ℤ) (line_after : List ℕ) : Type 0 where
+pub record Hands (from : ℕ) (s : List ℕ) (t : Turn) (r : Result Next Next) (book_after : List ℤ) (line_after : List ℕ) : Type 0 where
   pub printed : line_after ≡ t.line
   pub book_left : book_after ≡ t.book
   pub goes_on : r ≡ handed t
@@ -97,8 +101,8 @@ pub record Hands (from : ℕ) (s : List ℕ) (t : Turn) (r : Option Next) (book_
   pub further : from < t.position
   pub within : t.more ≡ true → t.position ≤ from + length s
 
-abbrev pub Begins : List ℤ → List ℕ → Option Next → List ℤ → List ℕ → Type 0
+abbrev pub Begins : List ℤ → List ℕ → Result Next Next → List ℤ → List ℕ → Type 0
 Begins book s = Hands 0 s (beginning book s)
 
-abbrev pub Performs : ℕ → ℕ → List ℤ → List ℕ → Option Next → List ℤ → List ℕ → Type 0
+abbrev pub Performs : ℕ → ℕ → List ℤ → List ℕ → Result Next Next → List ℤ → List ℕ → Type 0
 Performs accounts position book s = Hands position s (turn accounts position book s)

@@ -1,5 +1,5 @@
 -- A run on what was read, turn by turn: what the program promises of it, since no contract speaks of standard input. Assumes nothing.
-use Rattle.std.specs.Prelude.{◌≡◌, Bool, true, false, ◌⊎◌, List, ℕ, ◌≤◌, ℤ, drop, Option}
+use Rattle.std.specs.Prelude.{◌≡◌, Bool, true, false, ◌⊎◌, List, ℕ, ◌≤◌, ℤ, drop, Result}
 use Rattle.console.specs.Input.{item_bytes}
 use Rattle.interpreter.specs.declared.Next.{Next}
 use Rattle.interpreter.specs.Interpreter.{Turn, beginning, turn, handed, Performs}
@@ -34,12 +34,12 @@ module _ (Read : ℕ → List ℕ → Type 0) where
     pub whole : written ≡ true → (left.last.more ≡ false) ⊎ (farthest ≤ left.last.position)
 
   -- and between two turns, with what the last one handed on
-  pub record Stands (book : List ℤ) (opening : List ℕ) (r : Option Next) (book_now : List ℤ) (line_now : List ℕ) : Type 0 where
+  pub record Stands (book : List ℤ) (opening : List ℕ) (r : Result Next Next) (book_now : List ℤ) (line_now : List ℕ) : Type 0 where
     pub left : RunLeaves book opening book_now line_now
     pub goes_on : r ≡ handed left.last
 
   -- what a step promises: bytes were read, and performed
-  pub record Steps (accounts position : ℕ) (book : List ℤ) (r : Option Next) (book_after : List ℤ) (line_after : List ℕ) : Type 0 where
+  pub record Steps (accounts position : ℕ) (book : List ℤ) (r : Result Next Next) (book_after : List ℤ) (line_after : List ℕ) : Type 0 where
     pub read : List ℕ
     pub item : Read position read
     pub done : Performs accounts position book read r book_after line_after

@@ -23,8 +23,8 @@ pub const BOOK_WORDS: usize = 5072;
 // The words of a statement with room for every book's: an amount an account, and the MSSL's.
 const STATEMENT_WORDS: usize = MOST_ACCOUNTS + 1;
 
-// What an opening or an item hands to the next, if the input is read on: how many accounts the book has, and where the next item stands in the
-// input. No ghost field bounds the accounts, since contracts equate what is handed on.
+// What an opening or an item hands to the next: how many accounts the book has, and where the next item stands in the input. `Ok` where the
+// input is read on from there, `Err` where the run ended. No ghost field bounds the accounts, since contracts equate what is handed on.
 #[derive(Clone, Copy)]
 pub struct Next {
     pub accounts: usize,
@@ -33,23 +33,31 @@ pub struct Next {
 
 // The opening; s has its five bytes, or what there is of them. Book and line are lent apart, here and below: a call of the library takes the
 // one, a line is put into the other. `as`, since every usize fits u64 and there is no From between them.
-pub fn begin<const ROOM: usize>(book: &mut [i64], s: &[u8], line: &mut Line<ROOM>) -> Option<Next>
+pub fn begin<const ROOM: usize>(
+    book: &mut [i64],
+    s: &[u8],
+    line: &mut Line<ROOM>,
+) -> Result<Next, Next>
     requires { line_room ≤ ROOM }
     ensures { Begins book.old s.now result book.new line.new }
 {
+    let unopened = Next {
+        accounts: 0,
+        position: OPENING as u64,
+    };
     if s.len() < OPENING {
         bad_line(line, 0);
-        return None;
+        return Err(unopened);
     }
     let terms = opening_terms(s);
     let answer = open_book(book, terms);
     open_line(line, answer);
     match answer {
-        Ok(()) => Some(Next {
+        Ok(()) => Ok(Next {
             accounts: terms.accounts,
-            position: OPENING as u64,
+            ..unopened
         }),
-        Err(_) => None,
+        Err(_) => Err(unopened),
     }
 }
 
@@ -79,29 +87,30 @@ pub fn perform<const ROOM: usize>(
     turn: Next,
     s: &[u8],
     line: &mut Line<ROOM>,
-) -> Option<Next>
+) -> Result<Next, Next>
     requires { (turn.accounts ≤ most_accounts) × (turn.position < 2 ^ 63) × (line_room ≤ ROOM) }
     ensures { Performs turn.accounts turn.position book.old s.now result book.new line.new }
 {
     let accounts = turn.accounts;
     let position = turn.position + wanted(s) as u64;
+    let next = Next { accounts, position };
     match item_of(s) {
         Item::Close => {
             close_next(book, accounts, line);
-            Some(Next { accounts, position })
+            Ok(next)
         }
         Item::Submit(n) => {
             let stop = 3 + n;
             submit_file(book, &s[3..stop], line);
-            Some(Next { accounts, position })
+            Ok(next)
         }
         Item::Bad(k) => {
             bad_line(line, turn.position + k as u64);
-            None
+            Err(next)
         }
         Item::End => {
             line.clear();
-            None
+            Err(next)
         }
     }
 }

@@ -28,7 +28,7 @@ fn length_of(field: [u8; 2], most: usize) -> usize
 
 // The item that the last turn named, of an input in memory (its bound is asked here and of the two calls below: a type around the slice is no
 // plainer): what `printed_from` says of it.
-fn item(book: &mut [i64], turn: Next, s: &[u8], line: &mut Line<LINE_ROOM>) -> Option<Next>
+fn item(book: &mut [i64], turn: Next, s: &[u8], line: &mut Line<LINE_ROOM>) -> Result<Next, Next>
     requires { (turn.accounts ≤ most_accounts) × (turn.position ≤ length s.now) × (length s.now ≤ 40000) }
     ensures { Performs turn.accounts turn.position book.old (drop turn.position s.now) result book.new line.new }
 {
@@ -44,7 +44,7 @@ fn run(book: &mut [i64], s: &[u8], line: &mut Line<LINE_ROOM>)
 {
     let mut next = begin(book, s, line);
     while print(line) {
-        let Some(turn) = next else {
+        let Ok(turn) = next else {
             return;
         };
         next = item(book, turn, s, line);

@@ -39,7 +39,12 @@ fn read_item(bytes: &mut [u8]) -> usize
 }
 
 // The next item.
-fn step(book: &mut [i64], turn: Next, bytes: &mut [u8], line: &mut Line<LINE_ROOM>) -> Option<Next>
+fn step(
+    book: &mut [i64],
+    turn: Next,
+    bytes: &mut [u8],
+    line: &mut Line<LINE_ROOM>,
+) -> Result<Next, Next>
     requires { (turn.accounts ≤ most_accounts) × (turn.position < 2 ^ 63) × (longest_item ≤ length bytes.old) }
     ensures { Steps SomeItem turn.accounts turn.position book.old result book.new line.new }
 {
@@ -54,7 +59,7 @@ fn run(book: &mut [i64], opening: &[u8], bytes: &mut [u8], line: &mut Line<LINE_
 {
     let mut next = begin(book, opening, line);
     while print(line) {
-        let Some(turn) = next else {
+        let Ok(turn) = next else {
             return true;
         };
         if LIMIT <= turn.position {

@@ -30,9 +30,9 @@ returns-in-Submit o c =
 pub returns-in-Bad : goal.returns-in-Bad
 returns-in-Bad o c =
     let g = c.args in
-    performs_bad g.book.now g.s.now g.turn.accounts g.turn.position c.requires.0 c.in-Bad.k (sym c.in-Bad.ensures) c.bad_line.ensures
+    rw (← c.wanted.ensures.0) at (performs_bad g.book.now g.s.now g.turn.accounts g.turn.position c.requires.0 c.in-Bad.k (sym c.in-Bad.ensures) c.bad_line.ensures)
 
 pub returns-in-End : goal.returns-in-End
 returns-in-End o c =
     let g = c.args in
-    rw c.clear.ensures (performs_end g.book.now g.s.now g.turn.accounts g.turn.position c.requires.0 (sym c.item_of.ensures ∙ c.in-End.is))
+    rw c.clear.ensures (rw (← c.wanted.ensures.0) at (performs_end g.book.now g.s.now g.turn.accounts g.turn.position c.requires.0 (sym c.item_of.ensures ∙ c.in-End.is)))

@@ -18,12 +18,12 @@ loop-next-init c =
 pub loop-next-preserved : goal.loop-next-preserved
 loop-next-preserved c =
     let d = c.item-next.ensures in
-    let q = c.in-Some.turn in
+    let q = c.in-Ok.turn in
     let s = c.args.s.now in
-    let h = rw c.in-Some.is at c.loop-next.invariant.within in
+    let h = rw c.in-Ok.is at c.loop-next.invariant.within in
     let t = turn q.accounts q.position c.loop-next.book (drop q.position s) in
     record {
       few = handed-few t _ d.goes_on d.few;
       within = handed-within t _ d.goes_on (λ m. omega (arith, d.within m, length-drop q.position s, h));
-      stands = stands-next (RestOf s) (rw c.in-Some.is at c.loop-next.invariant.stands) (record { read = drop q.position s; item = refl; done = d });
+      stands = stands-next (RestOf s) (rw c.in-Ok.is at c.loop-next.invariant.stands) (record { read = drop q.position s; item = refl; done = d });
     }

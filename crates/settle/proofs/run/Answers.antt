@@ -2,7 +2,7 @@
 use Rattle.std.proofs.Common.{refl, sym, ◌∙◌, inl, inr, arith, rules}
 use Rattle.interpreter.specs.Interpreter.{beginning, turn}
 use Rattle.interpreter.specs.Running.{SomeItem}
-use Rattle.interpreter.proofs.laws.RunningLaws.{handed-few, handed-none, handed-at, stands-begun, stands-next}
+use Rattle.interpreter.proofs.laws.RunningLaws.{handed-few, handed-err, handed-at, stands-begun, stands-next}
 use Rattle.settle.proofs.run.Goals as goal
 
 pub loop-next-init : goal.loop-next-init
@@ -13,12 +13,12 @@ loop-next-init c =
 pub returns-in_default : goal.returns-in_default
 returns-in_default c =
     let h = c.loop-next.invariant.stands in
-    record { left = h.left; whole = λ w. inl (handed-none h.left.last (sym c.in_default.is ∙ h.goes_on)) }
+    record { left = h.left; whole = λ w. inl (handed-err h.left.last _ (sym c.in_default.is ∙ h.goes_on)).0 }
 
 pub returns-then-turn-ge-LIMIT : goal.returns-then-turn-ge-LIMIT
 returns-then-turn-ge-LIMIT c =
     let h = c.loop-next.invariant.stands in
-    let p = handed-at h.left.last c.in-Some.turn (sym c.in-Some.is ∙ h.goes_on) in
+    let p = handed-at h.left.last c.in-Ok.turn (sym c.in-Ok.is ∙ h.goes_on) in
     record { left = h.left; whole = λ w. inr (omega (arith, c.if-turn-ge-LIMIT.true, p)) }
 
 pub loop-next-preserved : goal.loop-next-preserved
@@ -26,6 +26,6 @@ loop-next-preserved c =
     let d = c.step-next.ensures.done in
     record {
       bytes = search rules;
-      few = handed-few (turn c.in-Some.turn.accounts c.in-Some.turn.position c.loop-next.book c.step-next.ensures.read) _ d.goes_on d.few;
-      stands = stands-next SomeItem (rw c.in-Some.is at c.loop-next.invariant.stands) c.step-next.ensures;
+      few = handed-few (turn c.in-Ok.turn.accounts c.in-Ok.turn.position c.loop-next.book c.step-next.ensures.read) _ d.goes_on d.few;
+      stands = stands-next SomeItem (rw c.in-Ok.is at c.loop-next.invariant.stands) c.step-next.ensures;
     }
