@@ -1,12 +1,23 @@
 // A line of the program, put together in place: it holds its bytes, so nothing is allocated.
 ghost use Rattle.std.specs.Prelude.{◌≡◌, [], ◌∷◌, ◌++◌, ◌+◌, ◌≤◌, ◌<◌, length};
-ghost use Rattle.console.specs.Lines.{space, line_room};
+ghost use Rattle.console.specs.Lines.{space};
+ghost use Rattle.console.specs.Written.{Put};
 
 use itoa::{Buffer, Integer};
 use std::marker::Model;
 
 // Bytes enough for every line.
 pub const LINE_ROOM: usize = 1024;
+
+// Puts a text into lent bytes, from an index on, and answers the index past it.
+pub fn put_text(bytes: &mut [u8], at: usize, text: &[u8]) -> usize
+    requires { at + length text.now ≤ length bytes.old }
+    ensures { Put bytes.old at text.now bytes.new result }
+{
+    let end = at + text.len();
+    bytes[at..end].copy_from_slice(text);
+    end
+}
 
 // The first `end` of the bytes.
 #[derive(Drop)]
@@ -27,7 +38,6 @@ impl<const ROOM: usize> Model for Line<ROOM> {
 
 impl<const ROOM: usize> Line<ROOM> {
     pub fn new() -> Line<ROOM>
-        requires { ROOM ≤ line_room }
         ensures { result ≡ [] }
     {
         Line {
@@ -54,10 +64,19 @@ impl<const ROOM: usize> Line<ROOM> {
         ensures after { self.new ≡ self.old ++ text.now }
         ensures grown { length self.new ≡ length self.old + length text.now }
     {
-        let end = self.end + text.len();
-        let bytes = &mut self.bytes[..];
-        bytes[self.end..end].copy_from_slice(text);
+        let end = put_text(&mut self.bytes, self.end, text);
         self.end = end;
+    }
+
+    // A number.
+    pub fn put_digits<I: Integer>(&mut self, n: I)
+        requires { length self.old + length (I.text n) ≤ ROOM }
+        ensures after { self.new ≡ self.old ++ I.text n }
+        ensures grown { length self.new ≡ length self.old + length (I.text n) }
+    {
+        let mut buffer = Buffer::new();
+        let digits = buffer.format(n).as_bytes();
+        self.put(digits);
     }
 
     // One space and a number.

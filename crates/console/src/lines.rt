@@ -4,6 +4,7 @@ ghost use Rattle.rulebook.specs.Numbers.{of_open, of_submit, of_close};
 ghost use Rattle.console.specs.Decimal.{decimal};
 ghost use Rattle.console.specs.Lines.{line_of, answer_line, open_line, submit_line, closed_line, close_line, bad_line};
 
+pub use crate::line::LINE_ROOM;
 use crate::line::Line;
 use rulebook::numbers::ACCEPTED;
 use rulebook::{Answer, CloseError, CloseFigures, OpenError, SubmitError};
