@@ -136,8 +136,13 @@ fn price_input(mep: &[i64], ieq: &[i64]) -> bool
     ensures { result ≡ price_input mep.now ieq.now }
 {
     let n = mep.len();
-    (1..=MOST_FACILITIES).contains(&n)
-        & ((ieq.len() == n) & (all_in_range(Kind::Price, mep) & all_in_range(Kind::Injection, ieq)))
+    if !(1..=MOST_FACILITIES).contains(&n) {
+        return false;
+    }
+    if ieq.len() != n {
+        return false;
+    }
+    all_in_range(Kind::Price, mep) && all_in_range(Kind::Injection, ieq)
 }
 
 // The reference price call: two lists, of MEP and of IEQ, as the C interface lends them.
