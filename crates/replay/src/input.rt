@@ -1,8 +1,9 @@
 // Standard input, field by field, little-endian. What is cut off reads as zeros.
 ghost use Rattle.std.specs.Prelude.{◌≡◌, ◌*◌, ◌≤◌, length, drop};
 ghost use Rattle.io.specs.Counts.{IsPrefixLen as Counts·bytes};
+ghost use Rattle.rulebook.specs.File.{num};
 ghost use Rattle.replay.specs.Counts.{Counts};
-ghost use Rattle.replay.specs.Fields.{words_in, ListRead};
+ghost use Rattle.replay.specs.Fields.{word_in, words_in, ListRead};
 
 // 1,200 words.
 const LISTED_BYTES: usize = 9600;
@@ -23,19 +24,40 @@ fn field<const N: usize>() -> [u8; N] {
     field
 }
 
+// The number that 4 bytes spell. Here and below the bytes are lent: of an array by value the proof doesn't know that each is below 256.
+fn number_of(bytes: &[u8; 4]) -> u32
+    ensures { result ≡ num 4 bytes.now 0 }
+{
+    u32::from_le_bytes(*bytes)
+}
+
+// The number that 8 bytes spell.
+fn long_of(bytes: &[u8; 8]) -> usize
+    ensures { result ≡ num 8 bytes.now 0 }
+{
+    usize::from_le_bytes(*bytes)
+}
+
+// The word that 8 bytes spell, in two's complement.
+fn word_of(bytes: &[u8; 8]) -> i64
+    ensures { result ≡ word_in bytes.now 0 }
+{
+    i64::from_le_bytes(*bytes)
+}
+
 // A number of 4 bytes.
 pub fn number() -> u32 {
-    u32::from_le_bytes(field::<4>())
+    number_of(&field())
 }
 
 // A number of 8 bytes.
 pub fn long() -> usize {
-    usize::from_le_bytes(field::<8>())
+    long_of(&field())
 }
 
 // A word: 8 bytes, two's complement.
 pub fn word() -> i64 {
-    i64::from_le_bytes(field::<8>())
+    word_of(&field())
 }
 
 // A number of 4 bytes, or `most` where it is more. `as`, since there is no From of a u32 for usize.
@@ -59,7 +81,7 @@ fn words_in(list: &mut [i64], bytes: &[u8])
 {
     let words = bytes.as_chunks::<8>().0;
     for (i, word) in list.iter_mut().enumerate() {
-        *word = i64::from_le_bytes(words[i]);
+        *word = word_of(&words[i]);
     }
 }
 

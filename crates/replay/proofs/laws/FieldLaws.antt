@@ -1,11 +1,11 @@
 -- Laws of fields: the library's reading of eight bytes is this one. Assumes nothing.
 use Rattle.std.specs.Prelude.{◌≡◌, List, ℕ, ◌+◌, ◌*◌, ◌<◌, get_or, take, drop}
 use Rattle.std.specs.Int.{w64, from_le_bytes}
-use Rattle.std.proofs.Common.{refl, ◌∙◌, ⊎_elim, arith, add_assoc, lt-ltb, le-ltb, to_z, get_or-take, get_or-drop}
+use Rattle.std.proofs.Common.{refl, sym, ap, ◌∙◌, ⊎_elim, arith, add_assoc, lt-ltb, le-ltb, to_z, get_or-take, get_or-drop}
 use Rattle.integer.specs.Integer.{twos_complement}
 use Rattle.integer.proofs.laws.BelowLaws.{lt_or_le}
 use Rattle.rulebook.specs.File.{num}
-use Rattle.replay.specs.Fields.{signed64}
+use Rattle.replay.specs.Fields.{signed64, word_in}
 
 pub num-eight : (s : List ℕ) (at : ℕ)
     → num 8 s at
@@ -36,6 +36,14 @@ pub eight-bytes : (s : List ℕ) (at : ℕ) → from_le_bytes w64 (take 8 (drop 
 eight-bytes s at =
     low-first (take 8 (drop at s))
     ∙ omega (arith, num-eight s at, byte-at s at 0 at (omega arith) (omega arith), byte-at s at 1 (at + 1) (omega arith) (omega arith), byte-at s at 2 (at + 2) (omega arith) (omega arith), byte-at s at 3 (at + 3) (omega arith) (omega arith), byte-at s at 4 (at + 4) (omega arith) (omega arith), byte-at s at 5 (at + 5) (omega arith) (omega arith), byte-at s at 6 (at + 6) (omega arith) (omega arith), byte-at s at 7 (at + 7) (omega arith) (omega arith))
+
+-- a word cut out says what it said where it stood
+pub word-cut : (s : List ℕ) (at : ℕ) → word_in (take 8 (drop at s)) 0 ≡ word_in s at
+unfolding word_in
+word-cut s at =
+    let x = take 8 (drop at s) in
+    let alone : from_le_bytes w64 x ≡ num 8 x 0 = low-first x ∙ omega (arith, num-eight x 0) in
+    ap signed64 (sym alone ∙ eight-bytes s at)
 
 -- so many bytes spell a number below 2 ^ 64
 pub eight-below : (s : List ℕ) (at : ℕ) → ((k : ℕ) → get_or s k 0 < 256) → num 8 s at < 18446744073709551616
