@@ -3,7 +3,7 @@ ghost use Rattle.std.specs.Prelude.{◌≡◌, ◌+◌, ◌≤◌, ◌<◌, leng
 ghost use Rattle.std.specs.Int.Signed.{mag};
 ghost use Rattle.rulebook.specs.File.{num, value_at};
 ghost use Rattle.rulebook.specs.Judging.{whole};
-ghost use Rattle.files.specs.Outcome.{outcome};
+ghost use Rattle.files.specs.Outcome.{outcome, field_outcome};
 
 use rulebook::file::number;
 use rulebook::{Refusal, Why};
@@ -21,6 +21,24 @@ pub fn field_at(s: &[u8], at: usize, n: usize) -> Result<usize, Refusal>
         });
     }
     Ok(number(s, at, n))
+}
+
+// A field that was read at a position: whole, and from low to high, else refused for `why`.
+pub fn judge_field(
+    field: Result<usize, Refusal>,
+    at: usize,
+    low: usize,
+    high: usize,
+    why: Why,
+) -> Result<usize, Refusal>
+    ensures { result ≡ field_outcome field at low high why }
+{
+    let v = field?;
+    if low <= v && v <= high {
+        Ok(v)
+    } else {
+        Err(Refusal { why, at })
+    }
 }
 
 // The value at a position. The four bytes compile to one load.

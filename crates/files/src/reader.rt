@@ -4,7 +4,7 @@ ghost use Rattle.rulebook.specs.File.{num};
 ghost use Rattle.rulebook.specs.Judging.{whole, field_in};
 ghost use Rattle.files.specs.Outcome.{outcome};
 
-use crate::fields::field_at;
+use crate::fields::{field_at, judge_field};
 use rulebook::{Refusal, Why};
 
 // A file, and the position of what is read next.
@@ -45,11 +45,6 @@ impl<'a> Reader<'a> {
         ensures past { OnOk result (self.new.at ≡ self.old.at + n) }
     {
         let at = self.at;
-        let v = self.take(n)?;
-        if low <= v && v <= high {
-            Ok(v)
-        } else {
-            Err(Refusal { why, at })
-        }
+        judge_field(self.take(n), at, low, high, why)
     }
 }

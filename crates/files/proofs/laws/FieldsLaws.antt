@@ -5,8 +5,8 @@ use Rattle.integer.proofs.laws.BelowLaws.{fold-zero, fold-suc, fold-stop}
 use Rattle.rulebook.specs.declared.Refusal.{Refusal}
 use Rattle.rulebook.specs.declared.Why.{Why}
 use Rattle.rulebook.specs.File.{num}
-use Rattle.rulebook.specs.Judging.{Verdict, ◌and_then◌, whole, up_to, field_in}
-use Rattle.files.specs.Outcome.{outcome}
+use Rattle.rulebook.specs.Judging.{Verdict, ◌and_then◌, whole, up_to, number_in, field_in}
+use Rattle.files.specs.Outcome.{outcome, field_outcome}
 
 -- ---- outcome
 
@@ -34,6 +34,15 @@ up_stops n f i r l h t = fold-stop ◌and_then◌ (Ok tt) (Err r) (λ y. refl) n
 -- ---- A field
 
 module _ (n low high : ℕ) (why : Why) (s : List ℕ) (at : ℕ) where
+  -- a field that was read whole or not, judged
+  pub field-judged : field_outcome (outcome (whole n s at) (num n s at)) at low high why ≡ outcome (field_in n low high why s at) (num n s at)
+  unfolding field_in
+  field-judged = by (whole n s at)
+    where
+      by : (x : Verdict) → field_outcome (outcome x (num n s at)) at low high why ≡ outcome (x and_then number_in low high why (num n s at) at) (num n s at)
+      by (Ok u) = refl
+      by (Err r) = refl
+
   pub field-cut : (r : Refusal) → outcome (whole n s at) (num n s at) ≡ Err r → Err r ≡ outcome (field_in n low high why s at) (num n s at)
   unfolding field_in
   field-cut r e = rw (outcome-err (whole n s at) (num n s at) r e)
