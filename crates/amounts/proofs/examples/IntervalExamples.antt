@@ -12,7 +12,7 @@ account bvq first second third uegq =
     ∷ pos 1 ∷ pos uegq ∷ pos 6 ∷ pos 9 ∷ pos 9 ∷ pos 0 ∷ []
 
 -- load 12,000; the second account has no base contract
-abbrev words : List ℤ
+abbrev pub words : List ℤ
 words = pos 12000 ∷ pos 1 ∷ pos 0 ∷ pos 0 ∷ account 100 1 20 300 7 ++ (account 0 4 0 0 80 ++ account 3000 50 0 7000 900)
 
 pub record IntervalRead : Type 0 where
