@@ -76,6 +76,7 @@ impl<'a> Holidays<'a> {
         // Not `for _ in d..LAST_DAY`: the test on the day itself bounds it, so that it is divided by 7 in 16 bits, a third faster.
         while place.day < LAST_DAY {
             place.go_on();
+            // A branch, and no test added as a number: the end of the walk need not wait for the list.
             if !place.is_business_day() {
                 continue;
             }

@@ -131,7 +131,8 @@ fn sums_of(mep: &[i64], ieq: &[i64]) -> Sums
     sums
 }
 
-// 1 to 4 facilities, as many IEQ as MEP, each in its range.
+// 1 to 4 facilities, as many IEQ as MEP, each in its range. Left at the first test that fails: so the compiler knows that the lists are short, and
+// unrolls the loops over them.
 fn price_input(mep: &[i64], ieq: &[i64]) -> bool
     ensures { result ≡ price_input mep.now ieq.now }
 {
