@@ -4,11 +4,9 @@ use Rattle.std.proofs.Common.{sym, ap, ◌∙◌, arith, length-drop, drop-drop}
 use Rattle.std.specs.Prelude.{Bool, false, cond, List, [], ◌++◌, ℕ, zero, suc, ◌+◌, ◌≤◌, leb, ℤ, take, drop}
 use Rattle.std.proofs.Math.Bool.{true}
 use Rattle.std.proofs.Math.ListN.{length}
-use Rattle.rulebook.specs.Opening.{opened}
 use Rattle.console.specs.declared.input.Item.{Item}
 use Rattle.console.specs.declared.input.Item.TheVariants.{Close, Submit, Bad, End}
 use Rattle.console.specs.Input.{opening_bytes, opening_terms, item_of, wanted, item_bytes}
-use Rattle.console.specs.Lines.{bad_line}
 use Rattle.console.proofs.laws.InputLaws.{item-end}
 use Rattle.console.proofs.laws.ReadingLaws.{wanted-least, opening-length, opening-read, item-read, wanted_read, close-whole, submit-whole, submit-read}
 use Rattle.interpreter.specs.Interpreter.{opened_by, beginning, turn_of, turn, printed_from, new_words, printed}
@@ -54,16 +52,22 @@ module _ (accounts position : ℕ) (book : List ℤ) (s : List ℕ) where
       by (Bad k) e m = let z : ◌≡◌ {A = ℕ} 0 1 = cc in absurd (omega arith)
       by End e m = let z : ◌≡◌ {A = ℕ} 0 1 = cc in absurd (omega arith)
 
-  -- and the next one stands after them
-  pub turn-position : (turn accounts position book s).position ≡ position + wanted s
+  -- the book has as many accounts, and the next one stands after them, where the run ends too
+  turn-stands : ((turn accounts position book s).accounts ≡ accounts) × ((turn accounts position book s).position ≡ position + wanted s)
   unfolding turn turn_of
-  turn-position = by (item_of s)
+  turn-stands = by (item_of s)
     where
-      by : (i : Item) → (turn_of accounts position book s i).position ≡ position + wanted s
-      by Close = refl
-      by (Submit n) = refl
-      by (Bad k) = refl
-      by End = refl
+      by : (i : Item) → ((turn_of accounts position book s i).accounts ≡ accounts) × ((turn_of accounts position book s i).position ≡ position + wanted s)
+      by Close = (refl, refl)
+      by (Submit n) = (refl, refl)
+      by (Bad k) = (refl, refl)
+      by End = (refl, refl)
+
+  pub turn-accounts : (turn accounts position book s).accounts ≡ accounts
+  turn-accounts = turn-stands.0
+
+  pub turn-position : (turn accounts position book s).position ≡ position + wanted s
+  turn-position = turn-stands.1
 
 -- ---- What is printed
 
@@ -85,13 +89,21 @@ begin-read : (book : List ℤ) (s : List ℕ) → beginning book (take opening_b
 unfolding beginning
 begin-read book s = rw (opening-length s, opening-read s)
 
-begin-position : (book : List ℤ) (s : List ℕ) → (beginning book s).position ≡ opening_bytes
-unfolding beginning opened_by
-begin-position book s = by (leb opening_bytes (length s))
-  where
-    by : (b : Bool) → (cond b (opened_by (opening_terms s) (opened (opening_terms s) book)) (record { line = bad_line 0; book = book; accounts = 0; position = opening_bytes; more = false })).position ≡ opening_bytes
-    by true = refl
-    by false = refl
+-- an opening has as many accounts as its first byte says, and none where it was cut short or refused; the first item stands after five bytes
+module _ (book : List ℤ) (s : List ℕ) where
+  begin-stands : ((beginning book s).accounts ≡ cond (beginning book s).more (opening_terms s).accounts 0) × ((beginning book s).position ≡ opening_bytes)
+  unfolding beginning opened_by
+  begin-stands = by (leb opening_bytes (length s)) refl
+    where
+      by : (b : Bool) → leb opening_bytes (length s) ≡ b → ((beginning book s).accounts ≡ cond (beginning book s).more (opening_terms s).accounts 0) × ((beginning book s).position ≡ opening_bytes)
+      by true e = rw e (refl, refl)
+      by false e = rw e (refl, refl)
+
+  pub begin-accounts : (beginning book s).accounts ≡ cond (beginning book s).more (opening_terms s).accounts 0
+  begin-accounts = begin-stands.0
+
+  pub begin-position : (beginning book s).position ≡ opening_bytes
+  begin-position = begin-stands.1
 
 pub ran-printed : (s : List ℕ) → ran s ≡ printed s
 unfolding ran printed
